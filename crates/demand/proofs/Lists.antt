@@ -1,0 +1,105 @@
+-- Demand 3 over a list of calls, from what each call comes to: by induction over the list, with the cursor at the finger's path
+-- before each call. Assumes nothing.
+use Prim.Native.Nat.{ℕ, _*_, _≤_}
+use mathlib.Core.Path.{_≡_, refl, sym, ap, ap₂, _∙_, subst}
+use mathlib.Core.Bool.{Bool, true, false, cond, not, _||_, false≢true}
+use mathlib.Core.List.{List, [], _∷_, _++_, map, map-append}
+use mathlib.Core.Option.{Option}
+use lib.ListN.{length}
+use Rattle.plan.specs.declared.Checked.{Checked}
+use Rattle.plan.specs.Check.{checked, rulesOf}
+use Rattle.forest.specs.Forest.{Forest, forest}
+use Rattle.forest.specs.Place.{Placed, placedForest}
+use Rattle.forest.specs.Letter.{Letter, isRoot}
+use Rattle.forest.specs.Reference.{Path, labelAt, moved, answers, pathAfter}
+use Rattle.forest.specs.Walk.{lettersOf, cellAt, cellsIn, usedCells, placeAt, cellsOf, answerWord}
+use Rattle.forest.proofs.Forget.{label}
+use Rattle.forest.proofs.Relabel.{moved-relabel}
+use Rattle.forest.proofs.Steps.{Named}
+use Rattle.demand.specs.Calls.{Call, Left, lent, walkOf, lefts, cursorAfterCalls}
+use Rattle.demand.specs.Demand.{turnedDown, isRefused, refusals, fingerPath, fingerAnswers, wordsFrom, walkAnswers, someAccepted, ClearPast, Above, SameButSixteen, Meets, Demand3}
+use Rattle.demand.proofs.Walkable.{Walkable, Stands}
+use Rattle.demand.proofs.OneCall.{Came, one-call, named-after, same-move, place-short, stands-used}
+
+module _ (s : List ℕ) (n start : ℕ) (first : List ℕ) (accepted : checked s ≡ Checked.Accepted n start) (W : Walkable n (forest (rulesOf s) start) (placedForest (rulesOf s) start)) where
+  -- what the calls left, from a cursor at the node at p; was says whether an earlier call was accepted
+  record Went (cursor : List ℕ) (p : Path) (was : Bool) (calls : List Call) : Type 0 where
+    refused : refusals (lefts walkOf s cursor calls) ≡ map (turnedDown n first) calls
+    answered : walkAnswers calls (lefts walkOf s cursor calls) ≡ map answerWord (fingerAnswers (forest (rulesOf s) start) (turnedDown n first) calls p)
+    stands : Stands (placedForest (rulesOf s) start) first (cursorAfterCalls walkOf s cursor calls) (fingerPath (forest (rulesOf s) start) (turnedDown n first) calls p)
+    clear : (was || someAccepted (lefts walkOf s cursor calls)) ≡ true → ClearPast n (usedCells (cursorAfterCalls walkOf s cursor calls)) (cursorAfterCalls walkOf s cursor calls)
+
+  none-went : (cursor : List ℕ) (p : Path) (was : Bool) → Stands (placedForest (rulesOf s) start) first cursor p → (was ≡ true → ClearPast n (usedCells cursor) cursor) → Went cursor p was []
+  unfolding lefts refusals walkAnswers fingerAnswers fingerPath cursorAfterCalls someAccepted
+  none-went cursor p was S k = record { refused = refl; answered = refl; stands = S; clear = λ e. k (or-none was e) }
+    where
+      or-none : (b : Bool) → (b || false) ≡ true → b ≡ true
+      or-none true e = refl
+      or-none false e = e
+
+  more-went : (cursor : List ℕ) (p : Path) (was : Bool) (c : Call) (cs : List Call) → Came s n (forest (rulesOf s) start) (placedForest (rulesOf s) start) first cursor p c (walkOf (lent s cursor c))
+      → Stands (placedForest (rulesOf s) start) first cursor p → (was ≡ true → ClearPast n (usedCells cursor) cursor)
+      → ((x : List ℕ) (q : Path) (b : Bool) → Stands (placedForest (rulesOf s) start) first x q → (b ≡ true → ClearPast n (usedCells x) x) → Went x q b cs)
+      → Went cursor p was (c ∷ cs)
+  unfolding lefts refusals walkAnswers fingerAnswers fingerPath cursorAfterCalls someAccepted
+  more-went cursor p was c cs (Came.turned d r k) S clear rest =
+      record {
+        refused = ap₂ (λ (x : Bool) (xs : List Bool). x ∷ xs) (r ∙ sym d) (R .refused);
+        answered = rw (r, d) (R .answered);
+        stands = rw d (R .stands);
+        clear = λ e. R .clear (rw r at e);
+      }
+    where
+      R : Went ((walkOf (lent s cursor c)) .cursor) p was cs
+      R = rest ((walkOf (lent s cursor c)) .cursor) p was (rw k S) (λ e. rw k (clear e))
+  more-went cursor p was c cs (Came.went d r T k w) S clear rest =
+      record {
+        refused = ap₂ (λ (x : Bool) (xs : List Bool). x ∷ xs) (r ∙ sym d) (R .refused);
+        answered = rw (r, d) (ap₂ (λ (x y : List ℕ). x ++ y) w (R .answered) ∙ sym (map-append answerWord (answers (forest (rulesOf s) start) (lettersOf (c .letters)) p) _));
+        stands = rw d (R .stands);
+        clear = λ e. R .clear refl;
+      }
+    where
+      q : Path
+      q = pathAfter (forest (rulesOf s) start) (lettersOf (c .letters)) p
+
+      R : Went ((walkOf (lent s cursor c)) .cursor) q true cs
+      R = rest ((walkOf (lent s cursor c)) .cursor) q true T (λ e. subst (λ (m : ℕ). ClearPast n m ((walkOf (lent s cursor c)) .cursor)) (sym (stands-used W T)) k)
+
+  all-went : (calls : List Call) (cursor : List ℕ) (p : Path) (was : Bool) → Stands (placedForest (rulesOf s) start) first cursor p → (was ≡ true → ClearPast n (usedCells cursor) cursor) → Went cursor p was calls
+  all-went [] cursor p was S k = none-went cursor p was S k
+  all-went (c ∷ cs) cursor p was S k = more-went cursor p was c cs (one-call s n start first accepted W cursor p S c) S k (λ x q b. all-went cs x q b)
+
+  -- the first cursor is above the forest
+  above-stands : Above first → Stands (placedForest (rulesOf s) start) first first []
+  unfolding Above placeAt cellsOf labelAt cellsIn
+  above-stands a = record { named = Named.above; same-length = refl; head = a; cells = refl }
+
+  pub meets : (calls : List Call) → Above first → Meets n (forest (rulesOf s) start) (placedForest (rulesOf s) start) (turnedDown n first) calls (lefts walkOf s first calls) (cursorAfterCalls walkOf s first calls) (fingerPath (forest (rulesOf s) start) (turnedDown n first) calls [])
+  meets calls a =
+      record {
+        refused = R .refused;
+        answered = R .answered;
+        used = stands-used W (R .stands);
+        stored = ap (cellsIn (cursorAfterCalls walkOf s first calls)) (stands-used W (R .stands)) ∙ R .stands .cells;
+        clear = R .clear;
+        small = λ cs. place-short W (pathAfter g cs q) (named-after W cs q (R .stands .named));
+        local = λ cs c e. subst (λ (x : Path). SameButSixteen (placeAt G (pathAfter g cs q)) (placeAt G x)) (sym (same-move W c (pathAfter g cs q))) (W .near (pathAfter g cs q) c (named-after W cs q (R .stands .named)) e);
+      }
+    where
+      g : Forest ℕ
+      g = forest (rulesOf s) start
+
+      G : Forest Placed
+      G = placedForest (rulesOf s) start
+
+      q : Path
+      q = fingerPath (forest (rulesOf s) start) (turnedDown n first) calls []
+
+      R : Went first [] false calls
+      R = all-went calls first [] false (above-stands a) (λ e. absurd (false≢true e))
+
+-- demand 3, where every accepted plan's forest is walkable
+pub demanded : ((s : List ℕ) (n start : ℕ) → checked s ≡ Checked.Accepted n start → Walkable n (forest (rulesOf s) start) (placedForest (rulesOf s) start)) → Demand3 walkOf
+unfolding Demand3
+demanded all s n start cursor calls e a = meets s n start cursor e (all s n start e) calls a

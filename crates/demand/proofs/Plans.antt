@@ -1,0 +1,69 @@
+-- The forest of an accepted plan is walkable: its rules are sound, so its nodes are the positions in an expression, each position
+-- has cells of its own, and a letter on positions is a letter on cells. Assumes nothing.
+use Prim.Native.Nat.{ℕ, zero, suc, _+_, _-_, _*_, _≤_, _<_, min}
+use native.Mathlib.Omega.{arith}
+use mathlib.Core.Path.{_≡_, refl, sym, ap, _∙_, subst}
+use mathlib.Core.Bool.{Bool, true, false, cond, not, _&&_}
+use mathlib.Core.List.{List, [], _∷_}
+use mathlib.Core.Option.{Option, none, some, Option·map, Option·none-ne-some, Option·some-injective}
+use lib.ListN.{length, drop}
+use lib.Dec.{eqb}
+use Rattle.plan.specs.declared.Rule.{Rule}
+use Rattle.plan.specs.declared.Checked.{Checked}
+use Rattle.plan.specs.Rule.{largestLabel}
+use Rattle.plan.specs.Sound.{Sound, Closed}
+use Rattle.plan.specs.Check.{checked, checkedUpTo, mostRules, rulesOf}
+use Rattle.plan.proofs.Sound.{Plan, accepted-plan}
+use Rattle.forest.specs.Expression.{Expression, expression, ruleNumber}
+use Rattle.forest.specs.Forest.{Forest, forest, relabel}
+use Rattle.forest.specs.Place.{Cell, Cells, Placed, Side, cellRun, representative, step, placedOf, placedForest}
+use Rattle.forest.specs.Letter.{Letter, isRoot}
+use Rattle.forest.specs.Reference.{Path, labelAt, tried, isAbove, answer, moved}
+use Rattle.forest.specs.Walk.{placeAt, cellsOf}
+use Rattle.forest.proofs.Good.{Sort, Good}
+use Rattle.forest.proofs.Unfold.{unfolding-equation, ruleNumber-expression, expression-known, closed-row}
+use Rattle.forest.proofs.Each.{each-labelAt}
+use Rattle.forest.proofs.Forget.{label, placedForest-forgets}
+use Rattle.forest.proofs.Bound.{place-bound}
+use Rattle.forest.proofs.Fit.{places-fit}
+use Rattle.forest.proofs.Labels.{forest-labels}
+use Rattle.forest.proofs.Position.{Position, Located, At, Where, pick, orElse, cells, labelOf, locatedOf}
+use Rattle.forest.proofs.Cases.{by-option}
+use Rattle.forest.proofs.Steps.{Named, moved-nowhere, answer-label}
+use Rattle.forest.proofs.Finger.{answer-root, answer-child, answer-sibling, answer-parent, answer-stay, placed-labelAt, placed-moved}
+use Rattle.forest.proofs.Placed.{placedAs}
+use Rattle.forest.proofs.Nodes.{node-at}
+use Rattle.forest.proofs.Search.{Distinct}
+use Rattle.forest.proofs.Stored.{AllFitting}
+use Rattle.forest.proofs.Unique as paths
+use Rattle.model.specs.Facts.{Facts, factsOf}
+use Rattle.model.specs.Model.{Node}
+use Rattle.model.specs.Walk as model
+use Rattle.model.proofs.Fit.{Fit}
+use Rattle.model.proofs.Rules.{facts-agree, rules-fit}
+use Rattle.model.proofs.Paths.{near-by, all-distinct}
+use Rattle.demand.specs.Demand.{SameButSixteen}
+use Rattle.demand.proofs.Walkable.{Walkable}
+
+-- ---- plans
+
+pub walkable : (s : List ℕ) (n start : ℕ) → checked s ≡ Checked.Accepted n start → Walkable n (forest (rulesOf s) start) (placedForest (rulesOf s) start)
+unfolding checked placedForest SameButSixteen
+walkable s n start e =
+    let P : Plan mostRules s n start = accepted-plan mostRules s n start e in
+    let S = P .sound in
+    let w = expression (rulesOf s) start in
+    let count = P .rules in
+    let below = P .ends .below in
+    let good : Good Sort.row w = closed-row S (P .ends) in
+    let fit : Fit (factsOf (rulesOf s)) Sort.row w =
+    rules-fit (rulesOf s) (λ r. r) S (ruleNumber-expression (rulesOf s)) (unfolding-equation S) (factsOf (rulesOf s)) (λ r h. facts-agree (rulesOf s) r) Sort.row start below good (expression-known S start below) in
+    record {
+      few = let h = P .greatest in omega arith;
+      forgets = placedForest-forgets (rulesOf s) start;
+      distinct = all-distinct w good (factsOf (rulesOf s)) fit;
+      bounded = λ p a h. let b = place-bound S (P .ends) p (a .0) (a .1) h in omega arith;
+      fitting = λ p a h. each-labelAt (λ (x : Placed). AllFitting (x .1)) (placedOf w) p a (places-fit S (let g = P .greatest in omega arith) start below) h;
+      labels = λ p a h. let l = each-labelAt (λ (x : ℕ). x ≤ largestLabel) (forest (rulesOf s) start) p a (forest-labels S start below) h in omega arith;
+      near = λ p c N r. near-by w good (factsOf (rulesOf s)) fit p c N r;
+    }

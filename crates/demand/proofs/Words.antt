@@ -1,0 +1,77 @@
+-- Answers read back: the words written at the front of a slice are read as the same words, and each answer to letters fits a word.
+-- Assumes nothing.
+use Prim.Native.Nat.{ℕ, zero, suc, _+_, _*_, _<_, _≤_}
+use native.Mathlib.Omega.{arith}
+use mathlib.Core.Path.{_≡_, refl, sym, ap, ap₂, _∙_}
+use mathlib.Core.List.{List, [], _∷_, _++_, map, append-assoc}
+use mathlib.Core.Option.{Option, none, some, Option·none-ne-some}
+use lib.ListN.{length, drop, length-append, length-map}
+use Rattle.words.specs.Number.{number, bytes}
+use Rattle.words.proofs.Laws.{number-bytes, length-bytes}
+use Rattle.plan.specs.Rule.{wordLength}
+use Rattle.plan.specs.Seal.{inFront}
+use Rattle.forest.specs.Forest.{Forest}
+use Rattle.forest.specs.Letter.{Letter, letterOf}
+use Rattle.forest.specs.Reference.{Path, labelAt, answer, moved, answers}
+use Rattle.forest.specs.Walk.{lettersOf, firstOther, andLetters, otherAt, wordsBytes, answerWord}
+use Rattle.forest.proofs.Steps.{answer-label}
+use Rattle.demand.specs.Demand.{wordsFrom}
+
+-- every word fits two bytes
+abbrev pub AllWords : List ℕ → Type 0
+AllWords [] = Unit {0}
+AllWords (v ∷ vs) = (v < 65536) × AllWords vs
+
+-- words read behind p
+words-behind : (vs p rest : List ℕ) (at : ℕ) → length p ≡ at → AllWords vs → wordsFrom (length vs) (p ++ (wordsBytes vs ++ rest)) at ≡ vs
+unfolding wordsFrom wordsBytes
+words-behind [] p rest at e f = refl
+words-behind (v ∷ vs) p rest at e f =
+    ap₂ (λ (x : ℕ) (xs : List ℕ). x ∷ xs)
+    (ap (λ (l : List ℕ). number 2 l at) first ∙ number-bytes 2 v p (wordsBytes vs ++ rest) at e (f .0))
+    (ap (λ (l : List ℕ). wordsFrom (length vs) l (at + 2)) later
+    ∙ words-behind vs (p ++ bytes 2 v) rest (at + 2) (length-append p (bytes 2 v) ∙ omega (arith, length-bytes 2 v)) (f .1))
+  where
+    first : p ++ ((bytes 2 v ++ wordsBytes vs) ++ rest) ≡ p ++ (bytes 2 v ++ (wordsBytes vs ++ rest))
+    first = simp append-assoc
+
+    later : p ++ ((bytes 2 v ++ wordsBytes vs) ++ rest) ≡ (p ++ bytes 2 v) ++ (wordsBytes vs ++ rest)
+    later = simp append-assoc
+
+pub words-in-front : (vs given : List ℕ) → AllWords vs → wordsFrom (length vs) (inFront (wordsBytes vs) given) 0 ≡ vs
+unfolding inFront
+words-in-front vs given f = words-behind vs [] (drop (length (wordsBytes vs)) given) 0 refl f
+
+-- one answer a letter
+pub length-answers : {A : Type 0} (g : Forest A) (cs : List Letter) (p : Path) → length (answers g cs p) ≡ length cs
+unfolding answers
+length-answers g [] p = refl
+length-answers g (c ∷ cs) p = ap suc (length-answers g cs (moved g c p))
+
+-- a letter for each byte where every byte is a letter
+no-other : (x : Option Letter) (i : ℕ) (later : Option ℕ) → otherAt x i later ≡ none → (c : Letter) × (x ≡ some c) × (later ≡ none)
+unfolding otherAt
+no-other none i later e = absurd (Option·none-ne-some _ (sym e))
+no-other (some c) i later e = (c, refl, e)
+
+pub length-letters : (bs : List ℕ) (i : ℕ) → firstOther bs i ≡ none → length (lettersOf bs) ≡ length bs
+unfolding lettersOf firstOther andLetters
+length-letters [] i e = refl
+length-letters (b ∷ bs) i e =
+    let h = no-other (letterOf b) i (firstOther bs (suc i)) e in
+    rw (h .1) (ap suc (length-letters bs (suc i) (h .2)))
+
+-- the words of answers, where every label fits one
+word-fits : (x : Option ℕ) → ((a : ℕ) → x ≡ some a → a < 65536) → answerWord x < 65536
+unfolding answerWord
+word-fits none h = omega arith
+word-fits (some a) h = h a refl
+
+pub answers-fit : (g : Forest ℕ) → ((p : Path) (a : ℕ) → labelAt g p ≡ some a → a < 65536) → (cs : List Letter) (p : Path) → AllWords (map answerWord (answers g cs p))
+unfolding answers
+answers-fit g h [] p = tt
+answers-fit g h (c ∷ cs) p =
+    (word-fits (answer g c p) (λ a e. h (moved g c p) a (answer-label g c p e)), answers-fit g h cs (moved g c p))
+
+pub length-words : {A : Type 0} (h : A → ℕ) (xs : List A) → length (map h xs) ≡ length xs
+length-words h xs = length-map xs h

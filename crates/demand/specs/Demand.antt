@@ -1,0 +1,114 @@
+-- Demand 3 (document 01, "The finger of demand 3"), as a predicate on a walk. The reference walker (document 01's finger) is fed
+-- the plan, the first cursor, and each call's letters and slice lengths, and nothing that the walk wrote.
+use Prim.Native.Nat.{ℕ, zero, suc, _+_, _-_, _*_, _≤_, min}
+use mathlib.Core.Path.{_≡_}
+use mathlib.Core.Bool.{Bool, true, false, cond, not, _&&_, _||_}
+use mathlib.Core.List.{List, [], _∷_, _++_, map, reverse}
+use mathlib.Core.Option.{Option, none, some}
+use lib.ListN.{length, take, drop, replicate}
+use Rattle.words.specs.Number.{number}
+use Rattle.plan.specs.declared.Checked.{Checked}
+use Rattle.plan.specs.Rule.{wordLength}
+use Rattle.plan.specs.Check.{checked, rulesOf}
+use Rattle.forest.specs.declared.Walked.{Walked}
+use Rattle.forest.specs.Forest.{Forest, forest}
+use Rattle.forest.specs.Place.{Cells, Placed, placedForest, firstCells}
+use Rattle.forest.specs.Letter.{Letter, isRoot}
+use Rattle.forest.specs.Reference.{Path, moved, answers, pathAfter}
+use Rattle.forest.specs.Walk.{cellLength, cursorWords, enoughLent, firstOther, lettersOf, cellAt, cellsIn, usedCells, placeAt, answerWord}
+use Rattle.demand.specs.Calls.{Walk, Call, Left, lefts, cursorAfterCalls}
+
+unfoldable pub isNone : Option ℕ → Bool
+isNone none = true
+isNone (some i) = false
+
+-- "In the list a call is refused exactly when 8 or 9 says so": from n, the slices' lengths and the letters
+unfoldable pub turnedDown : ℕ → List ℕ → Call → Bool
+unfolding enoughLent firstOther isNone
+turnedDown n cursor c = not (enoughLent (c .work) cursor (c .letters) (c .answers) n && isNone (firstOther (c .letters) 0))
+
+unfoldable pub isRefused : Walked → Bool
+isRefused Walked.Accepted = false
+isRefused (Walked.Refused r) = true
+
+unfoldable pub refusals : List Left → List Bool
+unfolding isRefused
+refusals [] = []
+refusals (l ∷ ls) = isRefused (l .answer) ∷ refusals ls
+
+-- "A call that 8 or 9 turns down gives no answers and leaves the path. Any other takes its letters in turn."
+unfoldable pub fingerPath : Forest ℕ → (Call → Bool) → List Call → Path → Path
+unfolding pathAfter lettersOf
+fingerPath g down [] p = p
+fingerPath g down (c ∷ cs) p = fingerPath g down cs (cond (down c) p (pathAfter g (lettersOf (c .letters)) p))
+
+unfoldable pub fingerAnswers : Forest ℕ → (Call → Bool) → List Call → Path → List (Option ℕ)
+unfolding answers pathAfter lettersOf
+fingerAnswers g down [] p = []
+fingerAnswers g down (c ∷ cs) p =
+    cond (down c) (fingerAnswers g down cs p)
+    (answers g (lettersOf (c .letters)) p ++ fingerAnswers g down cs (pathAfter g (lettersOf (c .letters)) p))
+
+-- m words from an offset on
+unfoldable pub wordsFrom : ℕ → List ℕ → ℕ → List ℕ
+unfolding number
+wordsFrom zero s at = []
+wordsFrom (suc m) s at = number wordLength s at ∷ wordsFrom m s (at + wordLength)
+
+-- "The first words of answers, one for each letter, as each accepted call returned them"
+unfoldable pub walkAnswers : List Call → List Left → List ℕ
+unfolding wordsFrom isRefused
+walkAnswers [] ls = []
+walkAnswers (c ∷ cs) [] = []
+walkAnswers (c ∷ cs) (l ∷ ls) = cond (isRefused (l .answer)) (walkAnswers cs ls) (wordsFrom (length (c .letters)) (l .answers) 0 ++ walkAnswers cs ls)
+
+-- "Above the forest means k = 0 in a cell 0 that 10 doesn't refuse."
+unfoldable pub Above : List ℕ → Type 0
+unfolding cellAt
+Above cursor = cellAt cursor 0 ≡ (0, 0, 0, 0)
+
+-- "if any call was accepted"
+unfoldable pub someAccepted : List Left → Bool
+unfolding isRefused
+someAccepted [] = false
+someAccepted (l ∷ ls) = not (isRefused (l .answer)) || someAccepted ls
+
+-- "cells past k, up to 16 × (n + 1) words, are zero"
+unfoldable pub ClearPast : ℕ → ℕ → List ℕ → Type 0
+unfolding cursorWords
+ClearPast n k cursor =
+    take (wordLength * cursorWords n - cellLength * (k + 1)) (drop (cellLength * (k + 1)) cursor)
+    ≡ replicate (wordLength * cursorWords n - cellLength * (k + 1)) 0
+
+-- "let m be the smaller of k before and k after: cells 1 to m − 16 are then the same before and after"; a place has the last cell first
+unfoldable pub SameButSixteen : Cells → Cells → Type 0
+SameButSixteen cs ds = firstCells (min (length cs) (length ds) - 16) cs ≡ firstCells (min (length cs) (length ds) - 16) ds
+
+-- What must hold of a list of calls: g is the walked rule's forest and G the same with places, down says which calls 8 or 9
+-- turns down, ls is what the calls left and end the cursor after them, p the finger's path.
+pub record Meets (n : ℕ) (g : Forest ℕ) (G : Forest Placed) (down : Call → Bool) (calls : List Call) (ls : List Left) (end : List ℕ) (p : Path) : Type 0 where
+  -- "In the list a call is refused exactly when 8 or 9 says so."
+  pub refused : refusals ls ≡ map down calls
+  -- "equal the finger's answers in order, nowhere being the word that Letters gives for it"
+  pub answered : walkAnswers calls ls ≡ map answerWord (fingerAnswers g down calls [])
+  -- "After the list, k and cells 1 to k are those of the node at the finger's path, k being 0 for the empty path"
+  pub used : usedCells end ≡ length (placeAt G p)
+  pub stored : cellsIn end (usedCells end) ≡ placeAt G p
+  -- "if any call was accepted, cells past k, up to 16 × (n + 1) words, are zero"
+  pub clear : someAccepted ls ≡ true → ClearPast n (usedCells end) end
+  -- at every point, some letters after the calls: "k is at most 3 × n"
+  pub small : (cs : List Letter) → length (placeAt G (pathAfter g cs p)) ≤ 3 * n
+  -- "For a single letter other than a or z .. cells 1 to m − 16 are then the same before and after."
+  pub local : (cs : List Letter) (c : Letter) → isRoot c ≡ false → SameButSixteen (placeAt G (pathAfter g cs p)) (placeAt G (moved g c (pathAfter g cs p)))
+
+-- Demand 3: over every list of calls on an accepted plan, the first cursor above the forest
+unfoldable pub Demand3 : Walk → Type 0
+unfolding Above turnedDown fingerPath lefts cursorAfterCalls forest placedForest
+Demand3 w =
+    (plan : List ℕ) (n start : ℕ) (cursor : List ℕ) (calls : List Call)
+    → checked plan ≡ Checked.Accepted n start
+    → Above cursor
+    → Meets n (forest (rulesOf plan) start) (placedForest (rulesOf plan) start) (turnedDown n cursor) calls
+    (lefts w plan cursor calls)
+    (cursorAfterCalls w plan cursor calls)
+    (fingerPath (forest (rulesOf plan) start) (turnedDown n cursor) calls [])

@@ -1,0 +1,1 @@
+// Demand 3 (specs/Demand.antt): definitions and theorems alone.

@@ -1,0 +1,12 @@
+-- Cases that keep the equation: what holds whichever value a test or an option has, holds. Assumes nothing.
+use mathlib.Core.Path.{_≡_, refl}
+use mathlib.Core.Bool.{Bool, true, false}
+use mathlib.Core.Option.{Option, none, some}
+
+pub by-bool : {P : Type 0} (b : Bool) → (b ≡ true → P) → (b ≡ false → P) → P
+by-bool true f g = f refl
+by-bool false f g = g refl
+
+pub by-option : {A P : Type 0} (x : Option A) → (x ≡ none → P) → ((a : A) → x ≡ some a → P) → P
+by-option none f g = f refl
+by-option (some a) f g = g a refl

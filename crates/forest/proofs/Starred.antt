@@ -1,0 +1,157 @@
+-- The starred cases of document 01, "One sample plan", as rows of one theorem on the outcome definitions, from the plan's bytes on.
+-- Further rows tell a merged run from two runs and a one-sided pair from a step; each is worked out by hand from "The stored
+-- place". All hold by computation.
+-- Assumes nothing.
+use Prim.Native.Nat.{ℕ, _*_}
+use mathlib.Core.Path.{_≡_, refl}
+use mathlib.Core.List.{List, [], _∷_, map, reverse}
+use lib.ListN.{length, replicate, take}
+use Rattle.words.specs.Number.{number, bytes}
+use Rattle.plan.specs.declared.Rule.{Rule}
+use Rattle.plan.specs.declared.Refusal.{Refusal}
+use Rattle.plan.specs.declared.Checked.{Checked}
+use Rattle.plan.specs.declared.Written.{Written}
+use Rattle.plan.specs.Rule.{encode}
+use Rattle.plan.specs.Refusal.{numberOf, positionOf}
+use Rattle.plan.specs.Check.{checked, rulesOf}
+use Rattle.plan.specs.Seal.{planBytes, inFront}
+use Rattle.forest.specs.declared.Measured.{Measured}
+use Rattle.forest.specs.declared.Walked.{Walked}
+use Rattle.forest.specs.Place.{Cell, Cells, placedForest}
+use Rattle.forest.specs.Forest.{forest}
+use Rattle.forest.specs.Reference.{labelAt, answers, pathAfter}
+use Rattle.forest.specs.Outcome.{measured, spread, spreadOutput, enoughWork}
+use Rattle.forest.specs.Letter.{letterOf}
+use Rattle.forest.specs.Walk.{nowhere, cursorWords, enoughLent, andLetters, lettersOf, otherAt, firstOther, cellAt, cellsIn, usedCells, headed, sameCell, sameCells, firstOf, nodeWith, pathOf, stored, placeJudged, lettersJudged, begunFrom, begun, walked, cellsOf, placeAt, cellBytes, cellsBytes, padded, storedCursor, cursorAfter, answerWord, wordsBytes, answersAfter, walkedWork}
+
+-- the sample plan, 74 bytes
+abbrev pub sample : List ℕ
+sample =
+    0 ∷ 0 ∷ 0 ∷ 0 ∷ 0 ∷ 0 ∷ 0 ∷ 0 ∷ 2 ∷ 0 ∷ 97 ∷ 0 ∷ 0 ∷ 0 ∷ 0 ∷ 0 ∷ 2 ∷ 0 ∷ 98 ∷ 0 ∷ 0 ∷ 0 ∷ 0 ∷ 0
+    ∷ 1 ∷ 0 ∷ 1 ∷ 0 ∷ 2 ∷ 0 ∷ 0 ∷ 0 ∷ 4 ∷ 0 ∷ 99 ∷ 0 ∷ 3 ∷ 0 ∷ 2 ∷ 0 ∷ 5 ∷ 0 ∷ 4 ∷ 0 ∷ 4 ∷ 0 ∷ 0 ∷ 0
+    ∷ 3 ∷ 0 ∷ 5 ∷ 0 ∷ 1 ∷ 0 ∷ 0 ∷ 0 ∷ 1 ∷ 0 ∷ 6 ∷ 0 ∷ 3 ∷ 0 ∷ 0 ∷ 0 ∷ 8 ∷ 0 ∷ 7 ∷ 0 ∷ 64 ∷ 0 ∷ 0 ∷ 0 ∷ 109 ∷ 112 ∷ []
+
+-- a plan's bytes from its rules and start
+abbrev plan : List Rule → ℕ → List ℕ
+plan R start = planBytes (map encode R) start
+
+-- what is lent: enough for eight rules and thirty-two letters; the cursor is above the forest
+abbrev work : List ℕ
+work = replicate 512 1
+
+abbrev above : List ℕ
+above = replicate 288 0
+
+abbrev given : List ℕ
+given = replicate 64 5
+
+-- the walk's answers to some letters, and its cells after them, the first cell first
+abbrev answered : List ℕ → List ℕ → List ℕ
+answered s letters = take (2 * length letters) (answersAfter (rulesOf s) (begun s work above letters given) letters given)
+
+abbrev cursorOf : List ℕ → List ℕ → List ℕ
+cursorOf s letters = cursorAfter (rulesOf s) (begun s work above letters given) letters above
+
+abbrev cellsAfter : List ℕ → List ℕ → Cells
+cellsAfter s letters = reverse (cellsIn (cursorOf s letters) (usedCells (cursorOf s letters)))
+
+-- the letters' bytes
+abbrev first : ℕ
+first = 97
+
+abbrev last : ℕ
+last = 122
+
+abbrev child : ℕ
+child = 102
+
+abbrev next : ℕ
+next = 110
+
+abbrev up : ℕ
+up = 117
+
+-- afnnfnn
+abbrev seven : List ℕ
+seven = first ∷ child ∷ next ∷ next ∷ child ∷ next ∷ next ∷ []
+
+-- four trees in a row of three left steps
+abbrev comb : List ℕ
+comb = plan (Rule.Empty ∷ Rule.Node 97 0 ∷ Rule.Pair 1 1 ∷ Rule.Pair 2 1 ∷ Rule.Pair 3 1 ∷ []) 4
+
+-- one-sided pairs on either side, at the start rule too
+abbrev one-sided : List ℕ
+one-sided = plan (Rule.Empty ∷ Rule.Node 97 0 ∷ Rule.Pair 0 1 ∷ Rule.Pair 2 0 ∷ Rule.Pair 3 1 ∷ Rule.Pair 0 4 ∷ []) 5
+
+-- a node over an empty L, a hole and an empty R; a chain of kind 3 rules; a join whose last hole goes on in C
+abbrev chain : ℕ → List ℕ
+chain start =
+    plan
+    (Rule.Empty ∷ Rule.Node 97 0 ∷ Rule.Part 98 0 0 ∷ Rule.Fill 2 1 ∷ Rule.Fill 2 3 ∷ Rule.Join 2 2 ∷ Rule.Fill 5 4 ∷ [])
+    start
+
+pub record Starred : Type 0 where
+  -- ★ the answers to afnnfnnnnununnn
+  pub answers : answered sample (first ∷ child ∷ next ∷ next ∷ child ∷ next ∷ next ∷ next ∷ next ∷ up ∷ next ∷ up ∷ next ∷ next ∷ next ∷ []) ≡ wordsBytes (99 ∷ 97 ∷ 98 ∷ 99 ∷ 97 ∷ 98 ∷ 97 ∷ 98 ∷ nowhere ∷ 99 ∷ 98 ∷ 99 ∷ 97 ∷ 98 ∷ nowhere ∷ [])
+  -- ★ spread text (c(a)(b)(c(a)(b)(a)(b))(b))(a)(b), 33 bytes
+  pub text : spreadOutput sample work (replicate 33 0) ≡ 40 ∷ 99 ∷ 40 ∷ 97 ∷ 41 ∷ 40 ∷ 98 ∷ 41 ∷ 40 ∷ 99 ∷ 40 ∷ 97 ∷ 41 ∷ 40 ∷ 98 ∷ 41 ∷ 40 ∷ 97 ∷ 41 ∷ 40 ∷ 98 ∷ 41 ∷ 41 ∷ 40 ∷ 98 ∷ 41 ∷ 41 ∷ 40 ∷ 97 ∷ 41 ∷ 40 ∷ 98 ∷ 41 ∷ []
+  pub text-length : spread sample work (replicate 33 0) ≡ Written.Length 33
+  pub text-short : spread sample work (replicate 32 0) ≡ Written.Refused Refusal.Room
+  -- ★ measure 3, 11, 3
+  pub counts : measured sample work ≡ Measured.Counts 3 11 3
+  -- ★ after a, after afnnfnn, one more n
+  pub cells-1 : cellsAfter sample (first ∷ []) ≡ (1, 0, 7, 0) ∷ (3, 7, 6, 0) ∷ (2, 6, 0, 0) ∷ (3, 5, 4, 0) ∷ []
+  pub cells-7 : cellsAfter sample seven ≡ (1, 0, 7, 0) ∷ (3, 7, 6, 0) ∷ (2, 6, 0, 0) ∷ (4, 5, 4, 0) ∷ (2, 1, 0, 0) ∷ []
+  pub cells-8 : cellsAfter sample (first ∷ child ∷ next ∷ next ∷ child ∷ next ∷ next ∷ next ∷ []) ≡ (1, 0, 7, 0) ∷ (3, 7, 6, 0) ∷ (2, 6, 0, 0) ∷ (4, 5, 4, 0) ∷ (1, 2, 2, 0) ∷ (2, 2, 0, 0) ∷ []
+  -- ★ one empty rule: a and z nowhere
+  pub empty : answered (plan (Rule.Empty ∷ []) 0) (first ∷ last ∷ []) ≡ wordsBytes (nowhere ∷ nowhere ∷ [])
+  -- ★ 10 bytes, right mark, n = 0: 2
+  pub no-rules : checked (0 ∷ 0 ∷ 0 ∷ 0 ∷ 0 ∷ 0 ∷ 0 ∷ 0 ∷ 109 ∷ 112 ∷ []) ≡ Checked.Refused Refusal.Count
+  -- ★ rule 0 = pair 0 0: 5 at 0
+  pub own-name : checked (plan (Rule.Pair 0 0 ∷ []) 0) ≡ Checked.Refused (Refusal.NotLower 0)
+  -- the numbers and positions of these
+  pub numbers : map numberOf (Refusal.Count ∷ Refusal.NotLower 0 ∷ Refusal.Room ∷ []) ≡ 2 ∷ 5 ∷ 11 ∷ []
+  pub positions : map positionOf (Refusal.Count ∷ Refusal.NotLower 0 ∷ Refusal.Room ∷ []) ≡ 0 ∷ 0 ∷ 0 ∷ []
+  -- check accepts the sample with n = 8, start 7
+  pub accepted : checked sample ≡ Checked.Accepted 8 7
+  -- a run of three left steps is one cell; a run that turns is two
+  pub three-left : cellsAfter comb (first ∷ []) ≡ (1, 0, 4, 0) ∷ (3, 4, 1, 0) ∷ (2, 1, 0, 0) ∷ []
+  pub one-turn : cellsAfter comb (first ∷ next ∷ []) ≡ (1, 0, 4, 0) ∷ (3, 4, 2, 0) ∷ (4, 2, 1, 0) ∷ (2, 1, 0, 0) ∷ []
+  -- one-sided pairs show in no cell, at the start rule neither
+  pub skipped : cellsAfter one-sided (first ∷ []) ≡ (1, 0, 4, 0) ∷ (3, 4, 1, 0) ∷ (2, 1, 0, 0) ∷ []
+  pub skipped-last : cellsAfter one-sided (last ∷ []) ≡ (1, 0, 4, 0) ∷ (4, 4, 1, 0) ∷ (2, 1, 0, 0) ∷ []
+  -- an empty L and an empty R with a hole between: the hole's tree is the child
+  pub hole-only : answered (chain 3) (first ∷ child ∷ child ∷ []) ≡ wordsBytes (98 ∷ 97 ∷ nowhere ∷ [])
+  pub hole-cells : cellsAfter (chain 3) (first ∷ child ∷ []) ≡ (1, 0, 3, 0) ∷ (2, 3, 0, 0) ∷ (2, 1, 0, 0) ∷ []
+  -- a chain of kind 3 rules: each C opens a spine of its own
+  pub chained : cellsAfter (chain 4) (first ∷ child ∷ child ∷ []) ≡ (1, 0, 4, 0) ∷ (2, 4, 0, 0) ∷ (2, 3, 0, 0) ∷ (2, 1, 0, 0) ∷ []
+  -- the last hole of a spine continues in C
+  pub continued : cellsAfter (chain 6) (first ∷ child ∷ child ∷ []) ≡ (1, 0, 6, 0) ∷ (2, 6, 0, 0) ∷ (4, 5, 2, 0) ∷ (2, 4, 0, 0) ∷ []
+
+pub starred : Starred
+unfolding planBytes encode rulesOf checked numberOf positionOf bytes number spread spreadOutput measured enoughWork inFront letterOf labelAt answers pathAfter placedForest forest cursorWords enoughLent andLetters lettersOf otherAt firstOther cellAt cellsIn usedCells headed sameCell sameCells firstOf nodeWith pathOf stored placeJudged lettersJudged begunFrom begun walked cellsOf placeAt cellBytes cellsBytes padded storedCursor cursorAfter answerWord wordsBytes answersAfter walkedWork
+starred =
+    record {
+      answers = refl;
+      text = refl;
+      text-length = refl;
+      text-short = refl;
+      counts = refl;
+      cells-1 = refl;
+      cells-7 = refl;
+      cells-8 = refl;
+      empty = refl;
+      no-rules = refl;
+      own-name = refl;
+      numbers = refl;
+      positions = refl;
+      accepted = refl;
+      three-left = refl;
+      one-turn = refl;
+      skipped = refl;
+      skipped-last = refl;
+      hole-only = refl;
+      hole-cells = refl;
+      chained = refl;
+      continued = refl;
+    }

@@ -1,0 +1,9 @@
+pub mod Expression
+pub mod Algebra
+pub mod Forest
+pub mod Place
+pub mod Letter
+pub mod Reference
+pub mod Reason
+pub mod Outcome
+pub mod Walk

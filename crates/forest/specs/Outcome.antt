@@ -1,0 +1,89 @@
+-- What measure and spread answer and leave, from what is lent (document 01, "Operations and what they turn down").
+use Prim.Native.Nat.{ℕ, _+_, _*_, _^_}
+use mathlib.Core.Bool.{Bool, cond, _&&_}
+use mathlib.Core.List.{List, _++_}
+use lib.ListN.{length, drop, replicate}
+use lib.Dec.{leb, ltb}
+use Rattle.words.specs.Number.{wordCount}
+use Rattle.plan.specs.declared.Refusal.{Refusal}
+use Rattle.plan.specs.declared.Checked.{Checked}
+use Rattle.plan.specs.declared.Written.{Written}
+use Rattle.plan.specs.Rule.{wordLength}
+use Rattle.plan.specs.Check.{checked, rulesOf}
+use Rattle.plan.specs.Seal.{outputAfter}
+use Rattle.forest.specs.declared.Measured.{Measured}
+use Rattle.forest.specs.Forest.{Forest, forest, count, weigh, one, levels, text}
+
+-- "work has fewer than 32 × n words": the words of work that n rules need
+unfoldable pub workWords : ℕ → ℕ
+workWords n = 32 * n
+
+unfoldable pub enoughWork : ℕ → List ℕ → Bool
+unfolding workWords
+enoughWork n work = leb (workWords n) (wordCount work)
+
+-- a list whose first m bytes are zeros
+unfoldable pub cleared : ℕ → List ℕ → List ℕ
+cleared m s = replicate m 0 ++ drop m s
+
+-- "Past 8, with or without a later refusal, the first 32 × n words of work end as zeros; earlier they are untouched."
+-- enough says for each n whether 8 is passed
+unfoldable pub workAfter : (ℕ → Bool) → Checked → List ℕ → List ℕ
+unfolding workWords cleared
+workAfter enough (Checked.Accepted n start) work = cond (enough n) (cleared (wordLength * workWords n) work) work
+workAfter enough (Checked.Refused r) work = work
+
+-- an entry's weight: "entries (all nodes)"
+unfoldable pub entry : ℕ → ℕ
+entry a = 1
+
+-- "11: over 2^64 − 1 nodes. It gives trees, entries (all nodes) and levels"
+unfoldable pub counted : Forest ℕ → Measured
+unfolding count weigh levels entry
+counted g = cond (ltb (weigh one g) (2 ^ 64)) (Measured.Counts (count g) (weigh entry g) (levels g)) (Measured.Refused Refusal.Room)
+
+-- "As check; 8: work has fewer than 32 × n words; 11"
+unfoldable pub measuredFrom : List ℕ → List ℕ → Checked → Measured
+unfolding enoughWork counted forest rulesOf
+measuredFrom s work (Checked.Accepted n start) =
+    cond (enoughWork n work) (counted (forest (rulesOf s) start)) (Measured.Refused Refusal.Lent)
+measuredFrom s work (Checked.Refused r) = Measured.Refused r
+
+unfoldable pub measured : List ℕ → List ℕ → Measured
+unfolding measuredFrom checked
+measured s work = measuredFrom s work (checked s)
+
+unfoldable pub measuredWork : List ℕ → List ℕ → List ℕ
+unfolding workAfter enoughWork checked
+measuredWork s work = workAfter (λ n. enoughWork n work) (checked s) work
+
+-- "3 bytes per node"
+abbrev pub nodeLength : ℕ
+nodeLength = 3
+
+-- "11: output shorter than 3 bytes per node. It .. gives the length."
+unfoldable pub textRoomed : Forest ℕ → List ℕ → Written
+unfolding weigh text
+textRoomed g out = cond (leb (nodeLength * weigh one g) (length out)) (Written.Length (length (text g))) (Written.Refused Refusal.Room)
+
+-- "As check; 8 as in measure; 11"
+unfoldable pub spreadFrom : List ℕ → List ℕ → List ℕ → Checked → Written
+unfolding enoughWork textRoomed forest rulesOf
+spreadFrom s work out (Checked.Accepted n start) =
+    cond (enoughWork n work) (textRoomed (forest (rulesOf s) start) out) (Written.Refused Refusal.Lent)
+spreadFrom s work out (Checked.Refused r) = Written.Refused r
+
+unfoldable pub spread : List ℕ → List ℕ → List ℕ → Written
+unfolding spreadFrom checked
+spread s work out = spreadFrom s work out (checked s)
+
+-- the text of the plan's start rule
+unfoldable pub textOf : List ℕ → Checked → List ℕ
+unfolding text forest rulesOf
+textOf s (Checked.Accepted n start) = text (forest (rulesOf s) start)
+textOf s (Checked.Refused r) = mathlib.Core.List.[]
+
+-- "It writes .. Later bytes stay. Refused, output is untouched." The work is left as measure leaves it.
+unfoldable pub spreadOutput : List ℕ → List ℕ → List ℕ → List ℕ
+unfolding spread textOf checked outputAfter
+spreadOutput s work out = outputAfter (spread s work out) (textOf s (checked s)) out

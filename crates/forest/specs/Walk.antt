@@ -1,0 +1,183 @@
+-- What walk answers and leaves, from what is lent (document 01, "Walk" and "Letters").
+use Prim.Native.Nat.{ℕ, zero, suc, _+_, _-_, _*_}
+use mathlib.Core.Bool.{Bool, true, false, cond, _&&_}
+use mathlib.Core.List.{List, [], _∷_, _++_, map, reverse}
+use mathlib.Core.Option.{Option, none, some}
+use lib.ListN.{length, replicate}
+use lib.Dec.{leb, eqb}
+use Rattle.words.specs.Number.{number, bytes, wordCount}
+use Rattle.plan.specs.declared.Rule.{Rule}
+use Rattle.plan.specs.declared.Refusal.{Refusal}
+use Rattle.plan.specs.declared.Checked.{Checked}
+use Rattle.plan.specs.Rule.{wordLength}
+use Rattle.plan.specs.Check.{checked, rulesOf}
+use Rattle.plan.specs.Seal.{inFront}
+use Rattle.forest.specs.declared.Walked.{Walked}
+use Rattle.forest.specs.Forest.{Forest, forest}
+use Rattle.forest.specs.Place.{Cell, Cells, Placed, placedForest}
+use Rattle.forest.specs.Letter.{Letter, letterOf}
+use Rattle.forest.specs.Reference.{Path, labelAt, answers, pathAfter}
+use Rattle.forest.specs.Outcome.{workWords, enoughWork, workAfter}
+
+-- "The cursor is a lent slice of 16-bit words, four to a cell."
+abbrev pub cellWords : ℕ
+cellWords = 4
+
+abbrev pub cellLength : ℕ
+cellLength = cellWords * wordLength
+
+-- "cursor below 16 × (n + 1) words": the words of the cursor that n rules need
+unfoldable pub cursorWords : ℕ → ℕ
+cursorWords n = 16 * (n + 1)
+
+-- "8: work below 32 × n words, cursor below 16 × (n + 1) words, or fewer answers than letters"
+unfoldable pub enoughLent : List ℕ → List ℕ → List ℕ → List ℕ → ℕ → Bool
+enoughLent work cursor letters given n =
+    enoughWork n work && (leb (cursorWords n) (wordCount cursor) && leb (length letters) (wordCount given))
+
+-- the letters of a string of bytes, up to the first that is none
+unfoldable pub andLetters : Option Letter → List Letter → List Letter
+andLetters none later = []
+andLetters (some c) later = c ∷ later
+
+unfoldable pub lettersOf : List ℕ → List Letter
+lettersOf [] = []
+lettersOf (b ∷ bs) = andLetters (letterOf b) (lettersOf bs)
+
+-- "9: the first byte outside a z f l n p u s": its place, counted from i
+unfoldable pub otherAt : Option Letter → ℕ → Option ℕ → Option ℕ
+otherAt none i later = some i
+otherAt (some c) i later = later
+
+unfoldable pub firstOther : List ℕ → ℕ → Option ℕ
+firstOther [] i = none
+firstOther (b ∷ bs) i = otherAt (letterOf b) i (firstOther bs (suc i))
+
+-- the cell with a number, and cells 1 to k, the last first
+unfoldable pub cellAt : List ℕ → ℕ → Cell
+cellAt s i = (
+  number wordLength s (cellLength * i),
+  number wordLength s (cellLength * i + wordLength),
+  number wordLength s (cellLength * i + 2 * wordLength),
+  number wordLength s (cellLength * i + 3 * wordLength),
+)
+
+unfoldable pub cellsIn : List ℕ → ℕ → Cells
+cellsIn s zero = []
+cellsIn s (suc k) = cellAt s (suc k) ∷ cellsIn s k
+
+-- "Cell 0 holds the number k of used cells, then three zeros."
+unfoldable pub usedCells : List ℕ → ℕ
+usedCells s = (cellAt s 0) .0
+
+-- cell 0 is in order, and cells 1 to k lie in the words that n rules need
+unfoldable pub headed : ℕ → List ℕ → Bool
+headed n s =
+    eqb ((cellAt s 0) .1) 0 && (eqb ((cellAt s 0) .2) 0 && (eqb ((cellAt s 0) .3) 0 && leb (cellWords * (usedCells s + 1)) (cursorWords n)))
+
+unfoldable pub sameCell : Cell → Cell → Bool
+sameCell c d = eqb (c .0) (d .0) && (eqb (c .1) (d .1) && (eqb (c .2) (d .2) && eqb (c .3) (d .3)))
+
+unfoldable pub sameCells : Cells → Cells → Bool
+sameCells [] [] = true
+sameCells [] (d ∷ ds) = false
+sameCells (c ∷ cs) [] = false
+sameCells (c ∷ cs) (d ∷ ds) = sameCell c d && sameCells cs ds
+
+-- the first path found
+unfoldable pub firstOf : Option Path → Option Path → Option Path
+firstOf none q = q
+firstOf (some p) q = some p
+
+-- the path of the node with these cells among the trees numbered from i on, under the node at path p
+unfoldable pub nodeWith : Cells → Forest Placed → ℕ → Path → Option Path
+nodeWith cs Forest.none i p = none
+nodeWith cs (Forest.tree a c f) i p =
+    cond (sameCells cs (a .1)) (some (i ∷ p)) (firstOf (nodeWith cs c 1 (i ∷ p)) (nodeWith cs f (suc i) p))
+
+-- "k = 0 is a place above the forest. Cells 1 to k are fixed by the node."
+unfoldable pub pathOf : Forest Placed → Cells → Option Path
+pathOf g [] = some []
+pathOf g (c ∷ cs) = nodeWith (c ∷ cs) g 1 []
+
+-- what a walk begins with: a refusal, or n, the walked rule and the path of the node whose cells are stored
+pub data Begun : Type 0 where
+  refused : Refusal → Begun
+  at : ℕ → ℕ → Path → Begun
+
+-- "10: no letters lead from a place above this forest to these used cells, or cell 0 has a nonzero later word"
+unfoldable pub stored : ℕ → ℕ → Option Path → Begun
+stored n r none = refused Refusal.Place
+stored n r (some p) = at n r p
+
+unfoldable pub placeJudged : List Rule → ℕ → ℕ → List ℕ → Begun
+placeJudged R n r cursor =
+    cond (headed n cursor) (stored n r (pathOf (placedForest R r) (cellsIn cursor (usedCells cursor)))) (refused Refusal.Place)
+
+-- "9: the first byte outside a z f l n p u s"
+unfoldable pub lettersJudged : Option ℕ → Begun → Begun
+lettersJudged none later = later
+lettersJudged (some i) later = refused (Refusal.Letter i)
+
+unfoldable pub begunFrom : List ℕ → List ℕ → List ℕ → List ℕ → List ℕ → Checked → Begun
+begunFrom s work cursor letters given (Checked.Accepted n start) =
+    cond (enoughLent work cursor letters given n)
+    (lettersJudged (firstOther letters 0) (placeJudged (rulesOf s) n start cursor))
+    (refused Refusal.Lent)
+begunFrom s work cursor letters given (Checked.Refused r) = refused r
+
+-- "As check; 8; 9; 10"
+unfoldable pub begun : List ℕ → List ℕ → List ℕ → List ℕ → List ℕ → Begun
+begun s work cursor letters given = begunFrom s work cursor letters given (checked s)
+
+unfoldable pub walked : Begun → Walked
+walked (refused r) = Walked.Refused r
+walked (at n r p) = Walked.Accepted
+
+-- the cells of the node at a path, none above the forest
+unfoldable pub cellsOf : Option Placed → Cells
+cellsOf none = []
+cellsOf (some a) = a .1
+
+unfoldable pub placeAt : Forest Placed → Path → Cells
+placeAt g p = cellsOf (labelAt g p)
+
+-- a cell's bytes, and those of a stack of cells, the first cell first
+unfoldable pub cellBytes : Cell → List ℕ
+cellBytes c = bytes wordLength (c .0) ++ (bytes wordLength (c .1) ++ (bytes wordLength (c .2) ++ bytes wordLength (c .3)))
+
+unfoldable pub cellsBytes : Cells → List ℕ
+cellsBytes [] = []
+cellsBytes (c ∷ cs) = cellsBytes cs ++ cellBytes c
+
+-- "After an accepted walk the cells past k, up to 16 × (n + 1) words, are zero": bytes filled up with zeros
+unfoldable pub padded : ℕ → List ℕ → List ℕ
+padded m bs = bs ++ replicate (m - length bs) 0
+
+unfoldable pub storedCursor : ℕ → Cells → List ℕ → List ℕ
+storedCursor n cs cursor = inFront (padded (wordLength * cursorWords n) (cellBytes (length cs, 0, 0, 0) ++ cellsBytes cs)) cursor
+
+unfoldable pub cursorAfter : List Rule → Begun → List ℕ → List ℕ → List ℕ
+cursorAfter R (refused r) letters cursor = cursor
+cursorAfter R (at n r p) letters cursor = storedCursor n (placeAt (placedForest R r) (pathAfter (forest R r) (lettersOf letters) p)) cursor
+
+-- "65,535 for nowhere"
+abbrev pub nowhere : ℕ
+nowhere = 65535
+
+unfoldable pub answerWord : Option ℕ → ℕ
+answerWord none = nowhere
+answerWord (some a) = a
+
+unfoldable pub wordsBytes : List ℕ → List ℕ
+wordsBytes [] = []
+wordsBytes (v ∷ vs) = bytes wordLength v ++ wordsBytes vs
+
+-- "Each letter gives one word in answers", "answers past the letters are as they were"
+unfoldable pub answersAfter : List Rule → Begun → List ℕ → List ℕ → List ℕ
+answersAfter R (refused r) letters given = given
+answersAfter R (at n r p) letters given = inFront (wordsBytes (map answerWord (answers (forest R r) (lettersOf letters) p))) given
+
+-- "Past 8 .. the first 32 × n words of work end as zeros"
+unfoldable pub walkedWork : List ℕ → List ℕ → List ℕ → List ℕ → List ℕ → List ℕ
+walkedWork s work cursor letters given = workAfter (enoughLent work cursor letters given) (checked s) work

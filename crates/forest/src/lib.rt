@@ -1,0 +1,18 @@
+// What a plan means (specs/), and the answers of the operations on its forest.
+use plan::Refusal;
+
+// What measure answers: trees, entries (all nodes) and levels, or the refusal.
+pub enum Measured {
+    Counts {
+        trees: u64,
+        entries: u64,
+        levels: u64,
+    },
+    Refused(Refusal),
+}
+
+// What walk answers; the answers to the letters are written out.
+pub enum Walked {
+    Accepted,
+    Refused(Refusal),
+}

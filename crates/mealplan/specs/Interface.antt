@@ -1,0 +1,37 @@
+-- What the C interface returns for each answer: "0 when accepted, else the refusal's number" (document 01's numbers and positions),
+-- and the numbers behind its pointers, which a refusal leaves alone.
+use Prim.Native.Nat.{ℕ}
+use Rattle.plan.specs.declared.Checked.{Checked}
+use Rattle.plan.specs.declared.Written.{Written}
+use Rattle.plan.specs.Refusal.{numberOf, positionOf}
+
+-- the result
+unfoldable pub checkedResult : Checked → ℕ
+checkedResult (Checked.Accepted n start) = 0
+checkedResult (Checked.Refused r) = numberOf r
+
+unfoldable pub writtenResult : Written → ℕ
+writtenResult (Written.Length n) = 0
+writtenResult (Written.Refused r) = numberOf r
+
+-- the position: 0 when accepted
+unfoldable pub checkedPosition : Checked → ℕ
+checkedPosition (Checked.Accepted n start) = 0
+checkedPosition (Checked.Refused r) = positionOf r
+
+unfoldable pub writtenPosition : Written → ℕ
+writtenPosition (Written.Length n) = 0
+writtenPosition (Written.Refused r) = positionOf r
+
+-- the values, over what stood there
+unfoldable pub countAfter : Checked → ℕ → ℕ
+countAfter (Checked.Accepted n start) old = n
+countAfter (Checked.Refused r) old = old
+
+unfoldable pub startAfter : Checked → ℕ → ℕ
+startAfter (Checked.Accepted n start) old = start
+startAfter (Checked.Refused r) old = old
+
+unfoldable pub lengthAfter : Written → ℕ → ℕ
+lengthAfter (Written.Length n) old = n
+lengthAfter (Written.Refused r) old = old

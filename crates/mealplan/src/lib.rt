@@ -1,0 +1,82 @@
+// The C interface: each function takes byte slices and numbers apart for one of the operations and gives its answer as numbers.
+// include/mealplan.h says the same to a C programmer.
+use plan::Checked;
+use plan::Written;
+ghost use mathlib.Core.Path.{_≡_};
+ghost use Rattle.plan.specs.Check.{checked};
+ghost use Rattle.plan.specs.Seal.{sealed, sealedOutput, unsealed, unsealedOutput};
+ghost use Rattle.mealplan.specs.Interface.{checkedResult, writtenResult, checkedPosition, writtenPosition, countAfter, startAfter, lengthAfter};
+
+// What a checked answer leaves behind the pointers, and the result.
+fn give_checked(answer: Checked, n: &mut u16, start: &mut u16, position: &mut u64) -> u32
+    ensures { λ r. ⌜ (r ≡ checkedResult answer) × (now (n .exit) ≡ countAfter answer (now (n .entry))) × (now (start .exit) ≡ startAfter answer (now (start .entry))) × (now (position .exit) ≡ checkedPosition answer) ⌝ }
+{
+    match answer {
+        Checked::Accepted {
+            n: count,
+            start: rule,
+        } => {
+            *n = count;
+            *start = rule;
+            *position = 0;
+            0
+        }
+        Checked::Refused(refusal) => {
+            *position = refusal.position();
+            refusal.number()
+        }
+    }
+}
+
+// The same for an answer that gives a length.
+fn give_written(answer: Written, written: &mut u64, position: &mut u64) -> u32
+    ensures { λ r. ⌜ (r ≡ writtenResult answer) × (now (written .exit) ≡ lengthAfter answer (now (written .entry))) × (now (position .exit) ≡ writtenPosition answer) ⌝ }
+{
+    match answer {
+        Written::Length(length) => {
+            *written = length as u64;
+            *position = 0;
+            0
+        }
+        Written::Refused(refusal) => {
+            *position = refusal.position();
+            refusal.number()
+        }
+    }
+}
+
+// Check.
+#[no_mangle]
+pub extern "C" fn plan_check(plan: &[u8], n: &mut u16, start: &mut u16, position: &mut u64) -> u32
+    ensures { λ r. ⌜ (r ≡ checkedResult (checked (now (plan .entry)))) × (now (n .exit) ≡ countAfter (checked (now (plan .entry))) (now (n .entry))) × (now (start .exit) ≡ startAfter (checked (now (plan .entry))) (now (start .entry))) × (now (position .exit) ≡ checkedPosition (checked (now (plan .entry)))) ⌝ }
+{
+    give_checked(plan::check(plan), n, start, position)
+}
+
+// Seal.
+#[no_mangle]
+pub extern "C" fn plan_seal(
+    words: &[u8],
+    start: u16,
+    out: &mut [u8],
+    written: &mut u64,
+    position: &mut u64,
+) -> u32
+    ensures { λ r. ⌜ (r ≡ writtenResult (sealed (now (words .entry)) start (now (out .entry)))) × (now (out .exit) ≡ sealedOutput (now (words .entry)) start (now (out .entry))) × (now (written .exit) ≡ lengthAfter (sealed (now (words .entry)) start (now (out .entry))) (now (written .entry))) × (now (position .exit) ≡ writtenPosition (sealed (now (words .entry)) start (now (out .entry)))) ⌝ }
+{
+    give_written(plan::seal::seal(words, start, out), written, position)
+}
+
+// Unseal.
+#[no_mangle]
+pub extern "C" fn plan_unseal(
+    plan: &[u8],
+    out: &mut [u8],
+    n: &mut u16,
+    start: &mut u16,
+    position: &mut u64,
+) -> u32
+    ensures { λ r. ⌜ (r ≡ checkedResult (unsealed (now (plan .entry)) (now (out .entry)))) × (now (out .exit) ≡ unsealedOutput (now (plan .entry)) (now (out .entry))) × (now (n .exit) ≡ countAfter (unsealed (now (plan .entry)) (now (out .entry))) (now (n .entry))) × (now (start .exit) ≡ startAfter (unsealed (now (plan .entry)) (now (out .entry))) (now (start .entry))) × (now (position .exit) ≡ checkedPosition (unsealed (now (plan .entry)) (now (out .entry)))) ⌝ }
+{
+    give_checked(plan::seal::unseal(plan, out), n, start, position)
+}

@@ -1,0 +1,16 @@
+pub mod Cells
+pub mod Fit
+pub mod Standing
+pub mod Enter
+pub mod Spine
+pub mod Moves
+pub mod Accepted
+pub mod Stood
+pub mod Rebuilt
+pub mod Unique
+pub mod Near
+pub mod Walk
+pub mod Ranged
+pub mod Rules
+pub mod Paths
+pub mod Outcome

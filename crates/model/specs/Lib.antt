@@ -1,0 +1,5 @@
+pub mod Facts
+pub mod Run
+pub mod Model
+pub mod Stored
+pub mod Walk

@@ -1,0 +1,5 @@
+pub mod Rule
+pub mod Sound
+pub mod Check
+pub mod Refusal
+pub mod Seal
