@@ -30,7 +30,7 @@ use Rattle.forest.proofs.Stored.{AllFitting, stored-length, stored-head, stored
 use Rattle.demand.specs.Calls.{Lent, Left, Call, lent, walkOf}
 use Rattle.forest.specs.Outcome.{enoughWork}
 use Rattle.demand.specs.Demand.{turnedDown, isNone, isRefused, wordsFrom, ClearPast}
-use Rattle.plan.specs.Seal.{inFront}
+use Rattle.seal.specs.Seal.{inFront}
 use Rattle.demand.proofs.Words.{words-in-front, length-answers, length-letters, length-words, answers-fit}
 use Rattle.demand.proofs.Walkable.{Walkable, Stands}
 

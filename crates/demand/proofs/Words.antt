@@ -9,7 +9,7 @@ use lib.ListN.{length, drop, length-append, length-map}
 use Rattle.words.specs.Number.{number, bytes}
 use Rattle.words.proofs.Laws.{number-bytes, length-bytes}
 use Rattle.plan.specs.Rule.{wordLength}
-use Rattle.plan.specs.Seal.{inFront}
+use Rattle.seal.specs.Seal.{inFront}
 use Rattle.forest.specs.Forest.{Forest}
 use Rattle.forest.specs.Letter.{Letter, letterOf}
 use Rattle.forest.specs.Reference.{Path, labelAt, answer, moved, answers}

@@ -14,7 +14,7 @@ use Rattle.plan.specs.declared.Written.{Written}
 use Rattle.plan.specs.Rule.{encode}
 use Rattle.plan.specs.Refusal.{numberOf, positionOf}
 use Rattle.plan.specs.Check.{checked, rulesOf}
-use Rattle.plan.specs.Seal.{planBytes, inFront}
+use Rattle.seal.specs.Seal.{planBytes, inFront}
 use Rattle.forest.specs.declared.Measured.{Measured}
 use Rattle.forest.specs.declared.Walked.{Walked}
 use Rattle.forest.specs.Place.{Cell, Cells, placedForest}
@@ -129,7 +129,7 @@ pub record Starred : Type 0 where
   pub continued : cellsAfter (chain 6) (first ∷ child ∷ child ∷ []) ≡ (1, 0, 6, 0) ∷ (2, 6, 0, 0) ∷ (4, 5, 2, 0) ∷ (2, 4, 0, 0) ∷ []
 
 pub starred : Starred
-unfolding planBytes encode rulesOf checked numberOf positionOf bytes number spread spreadOutput measured enoughWork inFront letterOf labelAt answers pathAfter placedForest forest cursorWords enoughLent andLetters lettersOf otherAt firstOther cellAt cellsIn usedCells headed sameCell sameCells firstOf nodeWith pathOf stored placeJudged lettersJudged begunFrom begun walked cellsOf placeAt cellBytes cellsBytes padded storedCursor cursorAfter answerWord wordsBytes answersAfter walkedWork
+unfolding planBytes encode rulesOf checked bytes number spread spreadOutput measured enoughWork inFront letterOf labelAt answers pathAfter placedForest forest cursorWords enoughLent andLetters lettersOf otherAt firstOther cellAt cellsIn usedCells headed sameCell sameCells firstOf nodeWith pathOf stored placeJudged lettersJudged begunFrom begun walked cellsOf placeAt cellBytes cellsBytes padded storedCursor cursorAfter answerWord wordsBytes answersAfter walkedWork
 starred =
     record {
       answers = refl;

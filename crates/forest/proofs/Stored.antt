@@ -11,7 +11,7 @@ use lib.Seq.{take-at, drop-at, take-append-le, drop-append-le, length-take-le}
 use Rattle.words.specs.Number.{number, bytes, base}
 use Rattle.words.proofs.Laws.{number-bytes, length-bytes}
 use Rattle.plan.specs.Rule.{wordLength}
-use Rattle.plan.specs.Seal.{inFront}
+use Rattle.seal.specs.Seal.{inFront}
 use Rattle.forest.specs.Place.{Cell, Cells}
 use Rattle.forest.specs.Walk.{cellLength, cursorWords, cellAt, cellsIn, usedCells, cellBytes, cellsBytes, padded, storedCursor}
 

@@ -10,7 +10,7 @@ use Rattle.plan.specs.declared.Checked.{Checked}
 use Rattle.plan.specs.declared.Written.{Written}
 use Rattle.plan.specs.Rule.{wordLength}
 use Rattle.plan.specs.Check.{checked, rulesOf}
-use Rattle.plan.specs.Seal.{outputAfter}
+use Rattle.seal.specs.Seal.{outputAfter}
 use Rattle.forest.specs.declared.Measured.{Measured}
 use Rattle.forest.specs.Forest.{Forest, forest, count, weigh, one, levels, text}
 

@@ -11,7 +11,7 @@ use Rattle.plan.specs.declared.Refusal.{Refusal}
 use Rattle.plan.specs.declared.Checked.{Checked}
 use Rattle.plan.specs.Rule.{wordLength}
 use Rattle.plan.specs.Check.{checked, rulesOf}
-use Rattle.plan.specs.Seal.{inFront}
+use Rattle.seal.specs.Seal.{inFront}
 use Rattle.forest.specs.declared.Walked.{Walked}
 use Rattle.forest.specs.Forest.{Forest, forest}
 use Rattle.forest.specs.Place.{Cell, Cells, Placed, placedForest}

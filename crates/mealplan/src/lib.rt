@@ -4,7 +4,7 @@ use plan::Checked;
 use plan::Written;
 ghost use mathlib.Core.Path.{_≡_};
 ghost use Rattle.plan.specs.Check.{checked};
-ghost use Rattle.plan.specs.Seal.{sealed, sealedOutput, unsealed, unsealedOutput};
+ghost use Rattle.seal.specs.Seal.{sealed, sealedOutput, unsealed, unsealedOutput};
 ghost use Rattle.mealplan.specs.Interface.{checkedResult, writtenResult, checkedPosition, writtenPosition, countAfter, startAfter, lengthAfter};
 
 // What a checked answer leaves behind the pointers, and the result.
@@ -38,9 +38,9 @@ fn give_written(answer: Written, written: &mut u64, position: &mut u64) -> u32
             *position = 0;
             0
         }
-        Written::Refused(refusal) => {
-            *position = refusal.position();
-            refusal.number()
+        Written::Refused(why) => {
+            *position = why.position();
+            why.number()
         }
     }
 }
@@ -64,7 +64,7 @@ pub extern "C" fn plan_seal(
 ) -> u32
     ensures { λ r. ⌜ (r ≡ writtenResult (sealed (now (words .entry)) start (now (out .entry)))) × (now (out .exit) ≡ sealedOutput (now (words .entry)) start (now (out .entry))) × (now (written .exit) ≡ lengthAfter (sealed (now (words .entry)) start (now (out .entry))) (now (written .entry))) × (now (position .exit) ≡ writtenPosition (sealed (now (words .entry)) start (now (out .entry)))) ⌝ }
 {
-    give_written(plan::seal::seal(words, start, out), written, position)
+    give_written(seal::seal(words, start, out), written, position)
 }
 
 // Unseal.
@@ -78,5 +78,5 @@ pub extern "C" fn plan_unseal(
 ) -> u32
     ensures { λ r. ⌜ (r ≡ checkedResult (unsealed (now (plan .entry)) (now (out .entry)))) × (now (out .exit) ≡ unsealedOutput (now (plan .entry)) (now (out .entry))) × (now (n .exit) ≡ countAfter (unsealed (now (plan .entry)) (now (out .entry))) (now (n .entry))) × (now (start .exit) ≡ startAfter (unsealed (now (plan .entry)) (now (out .entry))) (now (start .entry))) × (now (position .exit) ≡ checkedPosition (unsealed (now (plan .entry)) (now (out .entry)))) ⌝ }
 {
-    give_checked(plan::seal::unseal(plan, out), n, start, position)
+    give_checked(seal::unseal(plan, out), n, start, position)
 }

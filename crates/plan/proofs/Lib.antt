@@ -1,11 +1,4 @@
 pub mod Records
 pub mod Checking
 pub mod Decode
-pub mod RecordBytes
 pub mod Sound
-pub mod Prefix
-pub mod Front
-pub mod TrailerBytes
-pub mod Sealed
-pub mod Unsealed
-pub mod RoundTrip

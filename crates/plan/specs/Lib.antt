@@ -2,4 +2,3 @@ pub mod Rule
 pub mod Sound
 pub mod Check
 pub mod Refusal
-pub mod Seal

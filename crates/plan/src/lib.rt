@@ -1,6 +1,4 @@
 // The plan's format (document 01, "A plan's bytes"): rules, check, seal, unseal.
-pub mod seal;
-
 ghost use mathlib.Core.Path.{_≡_};
 ghost use mathlib.Core.List.{_++_};
 ghost use Prim.Native.Nat.{_+_, _-_, _*_, _≤_, _<_};
