@@ -41,6 +41,15 @@ uint32_t plan_unseal(const uint8_t *plan, size_t plan_len,
                      uint8_t *out, size_t out_len,
                      uint16_t *n, uint16_t *start, uint64_t *position);
 
+/* Measure a plan's forest: *trees, *entries (all nodes) and *levels; 11 if it
+   has more than 2^64 - 1 nodes. work needs 64 bytes a rule; unless the plan or
+   work itself is refused (1 to 8), its first 64 bytes a rule end as zeros, and
+   the bytes past them never change. */
+uint32_t plan_measure(const uint8_t *plan, size_t plan_len,
+                      uint8_t *work, size_t work_len,
+                      uint64_t *trees, uint64_t *entries, uint64_t *levels,
+                      uint64_t *position);
+
 #ifdef __cplusplus
 }
 #endif

@@ -4,6 +4,7 @@ use Prim.Native.Nat.{ℕ}
 use Rattle.plan.specs.declared.Checked.{Checked}
 use Rattle.plan.specs.declared.Written.{Written}
 use Rattle.plan.specs.Refusal.{numberOf, positionOf}
+use Rattle.forest.specs.declared.Measured.{Measured}
 
 -- the result
 unfoldable pub checkedResult : Checked → ℕ
@@ -14,6 +15,10 @@ unfoldable pub writtenResult : Written → ℕ
 writtenResult (Written.Length n) = 0
 writtenResult (Written.Refused r) = numberOf r
 
+unfoldable pub measuredResult : Measured → ℕ
+measuredResult (Measured.Counts t e l) = 0
+measuredResult (Measured.Refused r) = numberOf r
+
 -- the position: 0 when accepted
 unfoldable pub checkedPosition : Checked → ℕ
 checkedPosition (Checked.Accepted n start) = 0
@@ -22,6 +27,10 @@ checkedPosition (Checked.Refused r) = positionOf r
 unfoldable pub writtenPosition : Written → ℕ
 writtenPosition (Written.Length n) = 0
 writtenPosition (Written.Refused r) = positionOf r
+
+unfoldable pub measuredPosition : Measured → ℕ
+measuredPosition (Measured.Counts t e l) = 0
+measuredPosition (Measured.Refused r) = positionOf r
 
 -- the values, over what stood there
 unfoldable pub countAfter : Checked → ℕ → ℕ
@@ -35,3 +44,15 @@ startAfter (Checked.Refused r) old = old
 unfoldable pub lengthAfter : Written → ℕ → ℕ
 lengthAfter (Written.Length n) old = n
 lengthAfter (Written.Refused r) old = old
+
+unfoldable pub treesAfter : Measured → ℕ → ℕ
+treesAfter (Measured.Counts t e l) old = t
+treesAfter (Measured.Refused r) old = old
+
+unfoldable pub entriesAfter : Measured → ℕ → ℕ
+entriesAfter (Measured.Counts t e l) old = e
+entriesAfter (Measured.Refused r) old = old
+
+unfoldable pub levelsAfter : Measured → ℕ → ℕ
+levelsAfter (Measured.Counts t e l) old = l
+levelsAfter (Measured.Refused r) old = old

@@ -1,11 +1,13 @@
 // The C interface: each function takes byte slices and numbers apart for one of the operations and gives its answer as numbers.
 // include/mealplan.h says the same to a C programmer.
+use forest::Measured;
 use plan::Checked;
 use plan::Written;
 ghost use mathlib.Core.Path.{_≡_};
 ghost use Rattle.plan.specs.Check.{checked};
 ghost use Rattle.seal.specs.Seal.{sealed, sealedOutput, unsealed, unsealedOutput};
-ghost use Rattle.mealplan.specs.Interface.{checkedResult, writtenResult, checkedPosition, writtenPosition, countAfter, startAfter, lengthAfter};
+ghost use Rattle.forest.specs.Outcome.{measured, measuredWork};
+ghost use Rattle.mealplan.specs.Interface.{measuredResult, measuredPosition, treesAfter, entriesAfter, levelsAfter, checkedResult, writtenResult, checkedPosition, writtenPosition, countAfter, startAfter, lengthAfter};
 
 // What a checked answer leaves behind the pointers, and the result.
 fn give_checked(answer: Checked, n: &mut u16, start: &mut u16, position: &mut u64) -> u32
@@ -79,4 +81,54 @@ pub extern "C" fn plan_unseal(
     ensures { λ r. ⌜ (r ≡ checkedResult (unsealed (now (plan .entry)) (now (out .entry)))) × (now (out .exit) ≡ unsealedOutput (now (plan .entry)) (now (out .entry))) × (now (n .exit) ≡ countAfter (unsealed (now (plan .entry)) (now (out .entry))) (now (n .entry))) × (now (start .exit) ≡ startAfter (unsealed (now (plan .entry)) (now (out .entry))) (now (start .entry))) × (now (position .exit) ≡ checkedPosition (unsealed (now (plan .entry)) (now (out .entry)))) ⌝ }
 {
     give_checked(seal::unseal(plan, out), n, start, position)
+}
+
+// What a measured answer leaves behind the pointers, and the result.
+fn give_measured(
+    answer: Measured,
+    trees: &mut u64,
+    entries: &mut u64,
+    levels: &mut u64,
+    position: &mut u64,
+) -> u32
+    ensures { λ r. ⌜ (r ≡ measuredResult answer) × (now (trees .exit) ≡ treesAfter answer (now (trees .entry))) × (now (entries .exit) ≡ entriesAfter answer (now (entries .entry))) × (now (levels .exit) ≡ levelsAfter answer (now (levels .entry))) × (now (position .exit) ≡ measuredPosition answer) ⌝ }
+{
+    match answer {
+        Measured::Counts {
+            trees: t,
+            entries: e,
+            levels: l,
+        } => {
+            *trees = t;
+            *entries = e;
+            *levels = l;
+            *position = 0;
+            0
+        }
+        Measured::Refused(reason) => {
+            *position = reason.position();
+            reason.number()
+        }
+    }
+}
+
+// Measure.
+#[no_mangle]
+pub extern "C" fn plan_measure(
+    plan: &[u8],
+    work: &mut [u8],
+    trees: &mut u64,
+    entries: &mut u64,
+    levels: &mut u64,
+    position: &mut u64,
+) -> u32
+    ensures { λ r. ⌜ (r ≡ measuredResult (measured (now (plan .entry)) (now (work .entry)))) × (now (work .exit) ≡ measuredWork (now (plan .entry)) (now (work .entry))) × (now (trees .exit) ≡ treesAfter (measured (now (plan .entry)) (now (work .entry))) (now (trees .entry))) × (now (entries .exit) ≡ entriesAfter (measured (now (plan .entry)) (now (work .entry))) (now (entries .entry))) × (now (levels .exit) ≡ levelsAfter (measured (now (plan .entry)) (now (work .entry))) (now (levels .entry))) × (now (position .exit) ≡ measuredPosition (measured (now (plan .entry)) (now (work .entry)))) ⌝ }
+{
+    give_measured(
+        measure::measure(plan, work),
+        trees,
+        entries,
+        levels,
+        position,
+    )
 }

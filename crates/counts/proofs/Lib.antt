@@ -1,0 +1,8 @@
+pub mod Meaning
+pub mod Digits
+pub mod Reach
+pub mod Column
+pub mod Pass
+pub mod Rules
+pub mod Passes
+pub mod Work

@@ -1,0 +1,4 @@
+pub mod Count
+pub mod Recurrence
+pub mod Says
+pub mod Tally

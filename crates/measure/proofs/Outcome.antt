@@ -1,0 +1,50 @@
+-- Measure's answer and work, by the ways through its code: refused by check, refused for its work, or counted over the loaded rules and
+-- then cleared. Assumes nothing.
+use Prim.Native.Nat.{ℕ, _+_, _-_, _*_}
+use mathlib.Core.Path.{_≡_, sym, ap, subst, _∙_}
+use mathlib.Core.Bool.{Bool, true, false}
+use mathlib.Core.List.{List}
+use lib.ListN.{length}
+use lib.Dec.{T}
+use Rattle.plan.specs.declared.Refusal.{Refusal}
+use Rattle.plan.specs.declared.Checked.{Checked}
+use Rattle.plan.specs.Rule.{recordLength, wordLength}
+use Rattle.plan.specs.Check.{checked, recordsFrom, rulesIn, rulesOf, trailerLength}
+use Rattle.forest.specs.declared.Measured.{Measured}
+use Rattle.forest.specs.Expression.{expression}
+use Rattle.forest.specs.Forest.{forest}
+use Rattle.forest.specs.Outcome.{workWords, enoughWork, cleared, counted, measured, measuredWork}
+use Rattle.tables.specs.Rows.{Within, Loaded}
+use Rattle.tables.proofs.Rows.{within-both}
+use Rattle.counts.proofs.Work.{Held, held, work-refused, work-lent, work-cleared, beyond-work, enough-room}
+use Rattle.measure.specs.Total.{Startable, Answered}
+
+-- the answer and the work that measure gives
+abbrev pub Outcome : List ℕ → List ℕ → Measured → List ℕ → Type 0
+Outcome s work m t = (m ≡ measured s work) × (t ≡ measuredWork s work)
+
+module _ (s work : List ℕ) where
+  pub refused : (r : Refusal) → checked s ≡ Checked.Refused r → Outcome s work (Measured.Refused r) work
+  unfolding measured
+  refused r q = (rw q, work-refused s work r q)
+
+  module _ (n start : ℕ) (q : checked s ≡ Checked.Accepted n start) where
+    pub lent : enoughWork n work ≡ false → Outcome s work (Measured.Refused Refusal.Lent) work
+    unfolding measured
+    lent e = (rw (q, e), work-lent s work n start q e)
+
+    given : (m : Measured) → enoughWork n work ≡ true → m ≡ counted (forest (rulesOf s) start) → m ≡ measured s work
+    unfolding measured
+    given m e a = rw (q, e) a
+
+    pub finished : {m : Measured} {t u v : List ℕ} → enoughWork n work ≡ true → Held s n start t → Within 0 (64 * n) work t
+        → Answered n start m t u → v ≡ cleared (wordLength * workWords n) u → Outcome s work m v
+    unfolding forest
+    finished {m} {u = u} e h w a p = (
+      given m e (a .answer (expression (rulesOf s)) (h .unfolds) (h .closed)),
+      p ∙ work-cleared s work n start q e u (within-both w (beyond-work n (a .beyond))),
+    )
+
+-- what the loaded rows are good for
+pub startable : {s t : List ℕ} {n start : ℕ} → Held s n start t → Startable t n start
+startable h = record { ready = h .ready; below = h .below }

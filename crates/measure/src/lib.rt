@@ -1,0 +1,63 @@
+// Measure (document 01): the trees, entries and levels of a plan's forest.
+ghost use mathlib.Core.Path.{_≡_};
+ghost use Rattle.plan.specs.Check.{checked};
+ghost use Rattle.forest.specs.Outcome.{measured, measuredWork};
+ghost use Rattle.measure.specs.Total.{Startable, Totalled, Answered};
+use counts::Count;
+use counts::Tally;
+use counts::Weight;
+use forest::Measured;
+use plan::Checked;
+use plan::Refusal;
+
+// A count of rule r's forest, by two passes over the rules.
+fn total(work: &mut [u8], n: u16, r: u16, first: Tally, second: Tally) -> Count
+    requires { ⌜ Startable (now work) n r ⌝ }
+    ensures { λ x. ⌜ Totalled first second n r x (now (work .entry)) (now (work .exit)) ⌝ }
+{
+    counts::count_rules(work, n, first, second);
+    counts::count_at(work, r, Count::MAIN)
+}
+
+// The answer for rule r of the rules in the rows. Trees and levels are at most as many as nodes, and so are entries.
+fn answer(work: &mut [u8], n: u16, r: u16) -> Measured
+    requires { ⌜ Startable (now work) n r ⌝ }
+    ensures { λ x. ⌜ Answered n r x (now (work .entry)) (now (work .exit)) ⌝ }
+{
+    let nodes = total(work, n, r, Tally::Own(Weight::Node), Tally::Sum);
+    if nodes.over != 0 {
+        return Measured::Refused(Refusal::Room);
+    }
+    let entries = total(work, n, r, Tally::Own(Weight::Entry), Tally::Sum);
+    let trees = total(work, n, r, Tally::Own(Weight::Node), Tally::Trees);
+    let levels = total(work, n, r, Tally::Depth, Tally::Levels);
+    Measured::Counts {
+        trees: trees.low,
+        entries: entries.low,
+        levels: levels.low,
+    }
+}
+
+// An accepted plan measured: the work is tested, filled and cleared.
+fn measure_rules(plan: &[u8], work: &mut [u8], n: u16, start: u16) -> Measured
+    requires { ⌜ checked (now plan) ≡ Checked.Accepted n start ⌝ }
+    ensures { λ x. ⌜ (x ≡ measured (now (plan .entry)) (now (work .entry))) × (now (work .exit) ≡ measuredWork (now (plan .entry)) (now (work .entry))) ⌝ }
+{
+    if !counts::enough_work(work, n) {
+        return Measured::Refused(Refusal::Lent);
+    }
+    counts::load_rules(plan, work, n);
+    let answer = answer(work, n, start);
+    counts::clear_work(work, n);
+    answer
+}
+
+// Measure a plan: its trees, entries (all nodes) and levels, or why it is turned down.
+pub fn measure(plan: &[u8], work: &mut [u8]) -> Measured
+    ensures { λ x. ⌜ (x ≡ measured (now (plan .entry)) (now (work .entry))) × (now (work .exit) ≡ measuredWork (now (plan .entry)) (now (work .entry))) ⌝ }
+{
+    match plan::check(plan) {
+        Checked::Accepted { n, start } => measure_rules(plan, work, n, start),
+        Checked::Refused(refusal) => Measured::Refused(refusal),
+    }
+}
