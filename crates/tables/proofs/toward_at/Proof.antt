@@ -1,0 +1,18 @@
+-- The word that a link keeps for one step. Assumes nothing.
+use mathlib.Core.Path.{sym, _∙_}
+use denote.Ref.{now}
+use Rattle.tables.specs.Table.{sideOf, linkIn}
+use Rattle.tables.proofs.Entries.{known-toward}
+use borrow.Author.Needs.{needs}
+use Rattle.tables.proofs.toward_at.Statement.{statement}
+use Rattle.tables.proofs.toward_at.Tie as tie
+
+word-at-requires : tie.Need-word-at-requires
+word-at-requires c κs = search needs
+
+returns : tie.Need-returns
+unfolding linkIn
+returns c = let a = c .before .before .args in c .word-at .ensures ∙ sym (known-toward (now (a .work)) (a .r) (c .before .before .pre) (sideOf (a .side)))
+
+pub toward-at-spec : {M : Type 1} → statement M
+toward-at-spec = tie.close (tie.spec word-at-requires returns)

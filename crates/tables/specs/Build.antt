@@ -1,0 +1,92 @@
+-- How a row is made from the rows of the rules that its rule names.
+use Prim.Native.Nat.{ℕ, _+_, _^_, _<_}
+use mathlib.Core.Bool.{Bool, true, false, cond, _&&_}
+use mathlib.Core.List.{List}
+use lib.Dec.{T, eqb, ltb}
+use Rattle.plan.specs.declared.Rule.{Rule}
+use Rattle.plan.specs.Rule.{every}
+use Rattle.forest.specs.Place.{Side}
+use Rattle.forest.proofs.Position.{pick}
+use Rattle.tables.specs.declared.Link.{Link}
+use Rattle.tables.specs.declared.Entry.{Entry}
+use Rattle.tables.specs.Table.{linkIn, known, In, Below}
+
+-- the jump of a rule whose next on side s is p (skew-binary): over p's jump and its jump if these are equally long, else p
+unfoldable pub jumpOver : List ℕ → Side → ℕ → ℕ → ℕ → Bool
+jumpOver t s p j k =
+    ltb ((known t) .depth s j) ((known t) .depth s p)
+    && eqb ((known t) .depth s j + (known t) .depth s j) ((known t) .depth s p + (known t) .depth s k)
+
+unfoldable pub jumpFrom : List ℕ → Side → ℕ → ℕ
+jumpFrom t s p =
+    let j = (linkIn t s p) .jump in
+    let k = (linkIn t s j) .jump in
+    cond (jumpOver t s p j k) k p
+
+-- the link of a rule that steps to p, and of a rule that has no step
+unfoldable pub linkFrom : List ℕ → Side → ℕ → Link
+linkFrom t s p = record { toward = p; last = (known t) .last s p; depth = (known t) .depth s p + 1; jump = jumpFrom t s p }
+
+unfoldable pub linkOwn : ℕ → Link
+linkOwn r = record { toward = r; last = r; depth = 0; jump = r }
+
+-- a pair of rules b and c: with one side empty, the link of the other; else a step to the side's representative
+unfoldable pub linkPair : List ℕ → Side → ℕ → ℕ → Link
+linkPair t s b c =
+    cond ((known t) .isEmpty b) (linkIn t s c) (cond ((known t) .isEmpty c) (linkIn t s b) (linkFrom t s ((known t) .representative (pick s b c))))
+
+unfoldable pub linkOf : List ℕ → Side → ℕ → Rule → Link
+linkOf t s r Rule.Empty = linkOwn r
+linkOf t s r (Rule.Pair b c) = linkPair t s b c
+linkOf t s r (Rule.Node a c) = linkOwn r
+linkOf t s r (Rule.Fill b c) = linkOwn r
+linkOf t s r (Rule.Part a b c) = linkOwn r
+linkOf t s r (Rule.Join b c) = linkFrom t s (pick s b c)
+
+unfoldable pub emptyOf : List ℕ → Rule → Bool
+emptyOf t Rule.Empty = true
+emptyOf t (Rule.Pair b c) = (known t) .isEmpty b && (known t) .isEmpty c
+emptyOf t (Rule.Node a c) = false
+emptyOf t (Rule.Fill b c) = false
+emptyOf t (Rule.Part a b c) = false
+emptyOf t (Rule.Join b c) = false
+
+unfoldable pub representativeOf : List ℕ → ℕ → Rule → ℕ
+representativeOf t r Rule.Empty = r
+representativeOf t r (Rule.Pair b c) =
+    cond ((known t) .isEmpty b) ((known t) .representative c) (cond ((known t) .isEmpty c) ((known t) .representative b) r)
+representativeOf t r (Rule.Node a c) = r
+representativeOf t r (Rule.Fill b c) = r
+representativeOf t r (Rule.Part a b c) = r
+representativeOf t r (Rule.Join b c) = r
+
+-- all that is known of rule r with that right-hand side
+unfoldable pub entryOf : List ℕ → ℕ → Rule → Entry
+entryOf t r x =
+    record { representative = representativeOf t r x; empty = emptyOf t x; left = linkOf t Side.left r x; right = linkOf t Side.right r x }
+
+-- the rows that a step to p looks at are there, and its number of steps fits
+pub record Steps (t : List ℕ) (s : Side) (p : ℕ) : Type 0 where
+  pub here : In t p
+  pub there : In t ((linkIn t s p) .jump)
+  pub beyond : In t ((linkIn t s ((linkIn t s p) .jump)) .jump)
+  pub small : (known t) .depth s p + 1 < 2 ^ 16
+
+-- the rows of the rules that are done lead to rows of such rules
+pub record Made (Done : ℕ → Type 0) (t : List ℕ) : Type 0 where
+  pub room : (r : ℕ) → Done r → In t r
+  pub represents : (r : ℕ) → Done r → Done ((known t) .representative r)
+  pub jumps : (s : Side) (r : ℕ) → Done r → Done ((linkIn t s r) .jump)
+  pub small : (s : Side) (r : ℕ) → Done r → (known t) .depth s r + 1 < 2 ^ 16
+
+-- what the link of a pair of rules looks at is there
+pub record Pairs (t : List ℕ) (s : Side) (b c : ℕ) : Type 0 where
+  pub first : In t b
+  pub second : In t c
+  pub chosen : In t (pick s b c)
+  pub steps : Steps t s ((known t) .representative (pick s b c))
+
+-- the rows below r are made, and the rule names only these
+pub record Ready (r : ℕ) (x : Rule) (t : List ℕ) : Type 0 where
+  pub made : Made (Below r) t
+  pub lower : T (every (λ k. ltb k r) x)
