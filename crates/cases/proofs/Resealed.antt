@@ -1,0 +1,10 @@
+-- The sample plan unsealed and sealed again has the same bytes, by computation. Assumes nothing.
+use Prim.Native.Nat.{ℕ}
+use mathlib.Core.Path.{_≡_}
+use mathlib.Core.List.{List}
+use Rattle.seal.specs.Seal.{sealedOutput, unsealedOutput}
+use Rattle.cases.specs.Cases.{zeros, sample}
+
+pub resealed : (s : List ℕ) → s ≡ sample → sealedOutput (unsealedOutput s (zeros 64)) 7 (zeros 74) ≡ s
+unfolding sealedOutput unsealedOutput
+resealed s e = rw e
