@@ -40,7 +40,7 @@ pair-number : (P : ℕ → Type 0) (r : ℕ) (b c : Expression) → P r → P (r
 unfolding representative
 pair-number P r b c p pb pc = by-bool (isEmpty b) (λ u. rw u pc) (λ u. by-bool (isEmpty c) (λ v. rw (u, v) pb) (λ v. rw (u, v) p))
 
-representative-in : (P : ℕ → Type 0) (e : Expression) → Every P e → P (representative e)
+pub representative-in : (P : ℕ → Type 0) (e : Expression) → Every P e → P (representative e)
 unfolding representative
 representative-in P e (empty p) = p
 representative-in P e (pair {r} {b} {c} p hb hc) = pair-number P r b c p (representative-in P b hb) (representative-in P c hc)

@@ -1,6 +1,6 @@
 -- Steps along the way of one side, and when a rule may stand as another's jump: the rule itself next to it, a rule that copies its way,
 -- or over two jumps one after the other. Steps add up, so each is one count. Assumes nothing.
-use Prim.Native.Nat.{ℕ, zero, suc, _+_, _-_, _≤_, _<_}
+use Prim.Native.Nat.{ℕ, zero, suc, _+_, _-_, _<_}
 use native.Mathlib.Nat.{suc-add, zero-add}
 use native.Mathlib.Omega.{arith}
 use mathlib.Core.Path.{_≡_, refl, sym, ap, _∙_}

@@ -1,6 +1,6 @@
 -- Climbing: a jump and a step both lead to a rule further on the way and fewer steps from its end, so what is left to climb from
 -- there is what was left before. The rows of a plan's rules can be climbed, and are known as the plan's facts. Assumes nothing.
-use Prim.Native.Nat.{ℕ, zero, suc, _+_, _-_, _*_, _≤_, _<_}
+use Prim.Native.Nat.{ℕ, suc, _-_, _≤_, _<_}
 use native.Mathlib.Omega.{arith}
 use mathlib.Core.Path.{_≡_, refl, sym, ap, _∙_}
 use mathlib.Core.List.{List}
@@ -8,7 +8,7 @@ use Rattle.forest.specs.Place.{Side}
 use Rattle.model.specs.Facts.{Facts}
 use Rattle.model.specs.Run.{along}
 use Rattle.tables.specs.Table.{linkIn, In, known, Climbs}
-use Rattle.tables.proofs.Along.{along-from, along-add}
+use Rattle.tables.proofs.Along.{along-add}
 
 -- y is further on the way of side s from x
 pub record Onward (t : List ℕ) (s : Side) (x y : ℕ) : Type 0 where

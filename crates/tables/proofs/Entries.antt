@@ -12,7 +12,6 @@ use borrow.Author.Tests.{lt-ltb}
 use Rattle.words.specs.Number.{base}
 use Rattle.plan.specs.declared.Rule.{Rule}
 use Rattle.forest.specs.Place.{Side}
-use Rattle.model.specs.Facts.{Facts}
 use Rattle.tables.specs.declared.Link.{Link}
 use Rattle.tables.specs.declared.Entry.{Entry}
 use Rattle.tables.specs.Rows.{rowLength, field, putField, ownEnd, ruleIn, Within}

@@ -1,19 +1,18 @@
 -- One turn of the building: the row of rule i is made from the rows below it, since its rule names only lower ones. Nothing else changes,
 -- and the rules stay. The rules that rows hold are the list they were read from. Assumes nothing.
 use Prim.Native.Nat.{ℕ, zero, suc, _+_, _*_, _^_, _≤_, _<_}
-use native.Mathlib.Nat.{zero-add, suc-add, add-suc}
+use native.Mathlib.Nat.{zero-add}
 use native.Mathlib.Omega.{arith}
 use mathlib.Core.Path.{_≡_, refl, sym, ap, _∙_}
-use mathlib.Core.List.{List, [], _∷_}
-use lib.ListN.{length, getD}
+use mathlib.Core.List.{List}
+use lib.ListN.{length}
 use lib.Seq.{ext-getD}
-use lib.Dec.{T, ltb, ltb→lt}
 use Rattle.plan.specs.declared.Rule.{Rule}
 use Rattle.plan.specs.Sound.{rule, Sound}
 use Rattle.forest.proofs.Unfold.{Names, named-falls}
 use Rattle.tables.specs.declared.Entry.{Entry}
-use Rattle.tables.specs.Rows.{rowLength, ownEnd, ruleIn, Holds, Within, Beyond}
-use Rattle.tables.specs.Table.{entryIn, putEntry, entryEnd, In, Tabled, Below, Built, keptFrom, kept}
+use Rattle.tables.specs.Rows.{rowLength, ownEnd, ruleIn, Holds, Within}
+use Rattle.tables.specs.Table.{putEntry, entryEnd, Below, Built, keptFrom, kept}
 use Rattle.tables.specs.Build.{entryOf, Ready}
 use Rattle.tables.proofs.Rows.{within-none, within-both, within-wider}
 use Rattle.tables.proofs.Entries.{SmallEntry, within-putEntry, entryIn-putEntry, same-rule}

@@ -3,20 +3,18 @@
 use Prim.Native.Nat.{ℕ, zero, suc, _+_, _*_, _/_, _≤_, _<_}
 use native.Mathlib.Omega.{arith}
 use native.Mathlib.Decide.{decLt}
-use mathlib.Core.Path.{_≡_, refl, sym, ap, _∙_, fun-ext}
-use mathlib.Core.Bool.{true}
+use mathlib.Core.Path.{_≡_, refl, sym, ap, _∙_}
 use mathlib.Core.List.{List}
 use lib.ListN.{length, take, List·getD-eq-default}
 use lib.Seq.{length-take-le}
-use lib.Dec.{eqb}
 use borrow.Author.Tests.{le-ltb}
 use Rattle.words.proofs.Laws.{number-take}
 use Rattle.plan.specs.declared.Rule.{Rule}
 use Rattle.plan.specs.Sound.{rule, Sound}
 use Rattle.forest.specs.Expression.{Expression, rhs, unfolded, expression}
 use Rattle.forest.specs.Place.{Side, isEmpty, representative}
-use Rattle.forest.proofs.Unfold.{Names, named-below}
-use Rattle.model.specs.Facts.{Facts, factsOf, toward, last, depth}
+use Rattle.forest.proofs.Unfold.{named-below}
+use Rattle.model.specs.Facts.{factsOf, toward, last, depth}
 use Rattle.tables.specs.Rows.{rowLength, field, atKind, atLabel, atOne, atTwo, rowIn, ruleIn, Holds}
 use Rattle.tables.specs.Table.{atRepresentative, atEmptiness, atLink, entryEnd, atToward, atLast, atDepth, atJump, linkLength, linkIn, entryIn, In, rowOr, known, Tabled, Below, Built, Climbs}
 use Rattle.tables.proofs.Entries.{known-rule}

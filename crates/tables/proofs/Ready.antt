@@ -1,12 +1,12 @@
 -- What a row is made from is there: the rows of the rules named, their representatives, and what these jump to. Assumes nothing.
 use Prim.Native.Nat.{ℕ, _<_}
 use mathlib.Core.List.{List}
-use lib.Dec.{T, ltb, ltb→lt}
+use lib.Dec.{ltb, ltb→lt}
 use Rattle.plan.specs.declared.Rule.{Rule}
 use Rattle.forest.specs.Place.{Side}
 use Rattle.forest.proofs.Position.{pick}
 use Rattle.forest.proofs.Unfold.{Names, every-named}
-use Rattle.tables.specs.Table.{known, In, Below}
+use Rattle.tables.specs.Table.{In}
 use Rattle.tables.specs.Build.{Steps, Made, Pairs, Ready}
 
 -- what holds of both holds of the one on a side

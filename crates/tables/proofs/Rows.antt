@@ -3,12 +3,11 @@
 use Prim.Native.Nat.{ℕ, zero, suc, _+_, _-_, _*_, _^_, _≤_, _<_}
 use mathlib.Core.Path.{_≡_, refl, sym, ap, _∙_}
 use mathlib.Core.List.{List}
-use mathlib.Core.Logic.{⊎-elim}
 use native.Mathlib.Omega.{arith}
 use native.Mathlib.Decide.{decLt}
 use lib.ListN.{length, getD, take, drop}
 use lib.Seq.{getD-take, getD-drop, take-take, drop-drop}
-use Rattle.words.specs.Number.{base, number, put}
+use Rattle.words.specs.Number.{base}
 use Rattle.words.proofs.Laws.{number-agrees, length-put, put-same, put-other, put-take, put-drop}
 use Rattle.plan.specs.declared.Rule.{Rule}
 use Rattle.plan.specs.Rule.{recordLength, recordAt, decode, ruleOf}

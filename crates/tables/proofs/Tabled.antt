@@ -1,6 +1,6 @@
 -- A row made from true rows is true: its words are the facts of its rule, case by case of its right-hand side, and its jump leads on.
 -- So the rows become true one after the other, in any order in which the rules named come first. Assumes nothing.
-use Prim.Native.Nat.{ℕ, suc, _+_, _*_, _^_, _≤_, _<_}
+use Prim.Native.Nat.{ℕ, suc, _+_, _*_, _^_, _<_}
 use native.Mathlib.Numerals.{add-one}
 use native.Mathlib.Omega.{arith}
 use native.Mathlib.Decide.{ℕ-discrete}
@@ -12,7 +12,7 @@ use lib.Dec.{eqb, ltb}
 use borrow.Author.Tests.{ltb-true, eqb-true}
 use Rattle.plan.specs.declared.Rule.{Rule}
 use Rattle.plan.specs.Sound.{rule, Sound}
-use Rattle.forest.specs.Expression.{Expression, rhs, expression}
+use Rattle.forest.specs.Expression.{rhs, expression}
 use Rattle.forest.specs.Place.{Side, isEmpty, representative}
 use Rattle.forest.proofs.Position.{pick}
 use Rattle.forest.proofs.Unfold.{Names, unfolding-equation}
@@ -20,7 +20,7 @@ use Rattle.model.specs.Facts.{Facts, factsOf}
 use Rattle.tables.specs.declared.Link.{Link}
 use Rattle.tables.specs.declared.Entry.{Entry}
 use Rattle.tables.specs.Rows.{rowLength, ownEnd, Within}
-use Rattle.tables.specs.Table.{linkIn, entryIn, putEntry, entryEnd, In, known, Leads, Tabled, Below}
+use Rattle.tables.specs.Table.{linkIn, entryIn, entryEnd, In, known, Leads, Tabled, Below}
 use Rattle.tables.specs.Build.{jumpOver, jumpFrom, linkFrom, linkOwn, linkPair, linkOf, emptyOf, representativeOf, entryOf, Made}
 use Rattle.tables.proofs.Ready.{picked}
 use Rattle.tables.proofs.Entries.{known-isEmpty, known-representative, known-toward, known-last, known-depth, other-entry}

@@ -1,6 +1,6 @@
 -- What is known of each rule, in its row behind the rule itself: whether it is empty, its representative, and for each side a link,
 -- the way of that side from the rule. Read back, the rows are facts as the walker knows them (`known`).
-use Prim.Native.Nat.{ℕ, zero, suc, _+_, _-_, _*_, _/_, _≤_, _<_}
+use Prim.Native.Nat.{ℕ, zero, suc, _+_, _-_, _/_, _≤_, _<_}
 use mathlib.Core.Path.{_≡_}
 use mathlib.Core.Bool.{Bool, true, false, cond}
 use mathlib.Core.List.{List, [], _∷_}
@@ -13,7 +13,7 @@ use Rattle.model.specs.Run.{along}
 use Rattle.tables.specs.declared.Side as code
 use Rattle.tables.specs.declared.Link.{Link}
 use Rattle.tables.specs.declared.Entry.{Entry}
-use Rattle.tables.specs.Rows.{rowLength, field, putField, ownEnd, ruleIn, Holds, Beyond}
+use Rattle.tables.specs.Rows.{rowLength, field, putField, ruleIn, Holds, Beyond}
 
 -- the code's sides
 unfoldable pub sideOf : code.Side → Side

@@ -1,6 +1,6 @@
 -- The loop's invariant: what is left to climb from x is what was left from a. Both a jump and a step keep it, and come closer to the
 -- end of the way. Assumes nothing.
-use Prim.Native.Nat.{ℕ, suc, _-_, _≤_, _<_}
+use Prim.Native.Nat.{ℕ, suc, _-_, _<_}
 use mathlib.Core.Path.{_≡_, refl, sym, ap, _∙_}
 use native.Mathlib.Omega.{arith}
 use denote.Ref.{now}

@@ -1,9 +1,9 @@
 -- The four writes are those of `putEntry`, one after the other. Assumes nothing.
 use Prim.Native.Nat.{ℕ}
-use mathlib.Core.Path.{ap, _∙_}
+use mathlib.Core.Path.{_≡_}
 use mathlib.Core.List.{List}
-use denote.Ref.{now}
 use Rattle.forest.specs.Place.{Side}
+use Rattle.tables.specs.declared.Entry.{Entry}
 use Rattle.tables.specs.Rows.{putField}
 use Rattle.tables.specs.Table.{sideOf, atRepresentative, atEmptiness, flag, putLink, putEntry}
 use borrow.Author.Needs.{needs}
@@ -28,15 +28,16 @@ write-requires-2 c κs = search needs
 same-length : tie.Need-same-length
 same-length c = search needs
 
+-- the four lists one after the other
+written : (t t₁ t₂ t₃ t₄ : List ℕ) (r v : ℕ) (e : Entry) → t₁ ≡ putField 2 t r atRepresentative (e .representative) → v ≡ flag (e .empty)
+    → t₂ ≡ putField 2 t₁ r atEmptiness v → t₃ ≡ putLink t₂ Side.left r (e .left) → t₄ ≡ putLink t₃ Side.right r (e .right) → t₄ ≡ putEntry t r e
+unfolding putEntry
+written t t₁ t₂ t₃ t₄ r v e e₁ f e₂ e₃ e₄ = rw (e₄, e₃, e₂, f, e₁)
+
 returns : tie.Need-returns
-unfolding putEntry sideOf
+unfolding sideOf
 returns c =
-    let a = c .before .before .before .before .before .before .before .before .before .before .before .before .before .before .before .before .before .before .args in
-    c .before .before .write2 .ensures
-    ∙ ap (λ (l : List ℕ). putLink l Side.right (a .r) (a .self .right)) (c .before .before .before .before .before .before .write .ensures
-    ∙ ap (λ (l : List ℕ). putLink l Side.left (a .r) (a .self .left)) (c .before .before .before .before .before .before .before .before .before .before .put162 .ensures
-    ∙ ap (λ (l : List ℕ). putField 2 l (a .r) atEmptiness (c .before .before .before .before .before .before .before .before .before .before .before .flag .result)) (c .before .before .before .before .before .before .before .before .before .before .before .before .before .before .before .put16 .ensures)
-    ∙ ap (λ (v : ℕ). putField 2 (putField 2 (now (a .work)) (a .r) atRepresentative (a .self .representative)) (a .r) atEmptiness v) (c .before .before .before .before .before .before .before .before .before .before .before .flag .ensures)))
+    written _ _ _ _ _ _ _ _ (c .before .before .before .before .before .before .before .before .before .before .before .before .before .before .before .put16 .ensures) (c .before .before .before .before .before .before .before .before .before .before .before .flag .ensures) (c .before .before .before .before .before .before .before .before .before .before .put162 .ensures) (c .before .before .before .before .before .before .write .ensures) (c .before .before .write2 .ensures)
 
 pub write-spec : {M : Type 1} → statement M
 write-spec =

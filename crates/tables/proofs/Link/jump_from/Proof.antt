@@ -1,7 +1,7 @@
 -- The test of the jumps' lengths is that of `jumpOver`, on the words read. Assumes nothing.
 use Prim.Native.Nat.{ℕ, _+_}
 use mathlib.Core.Path.{_≡_, sym, _∙_}
-use mathlib.Core.Bool.{Bool, true, false, cond, _&&_}
+use mathlib.Core.Bool.{cond, _&&_}
 use mathlib.Core.List.{List}
 use denote.Ref.{now}
 use lib.Dec.{eqb, ltb}

@@ -2,7 +2,7 @@
 use mathlib.Core.Path.{sym, ap, _∙_}
 use denote.Ref.{now}
 use Rattle.tables.specs.Table.{known, sideOf}
-use Rattle.tables.specs.Build.{linkFrom, linkPair, Steps}
+use Rattle.tables.specs.Build.{linkFrom, linkPair}
 use borrow.Author.Needs.{needs}
 use Rattle.tables.proofs.Link.of_pair.Statement.{statement}
 use Rattle.tables.proofs.Link.of_pair.Tie as tie

@@ -1,0 +1,5 @@
+pub mod Valid
+pub mod Run
+pub mod Begin
+pub mod Bytes
+pub mod Inside
