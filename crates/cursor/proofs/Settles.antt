@@ -1,0 +1,52 @@
+-- What an outcome comes to, by its two cases: nowhere keeps the place, and a node's cells are the change's. And zeros past the
+-- used cells, as one list.
+-- Assumes nothing.
+use Prim.Native.Nat.{ℕ, _+_, _-_, _*_, _≤_}
+use native.Mathlib.Omega.{arith}
+use mathlib.Core.Path.{_≡_, refl, sym, ap, _∙_}
+use mathlib.Core.List.{List, [], _++_, append-nil}
+use mathlib.Core.Option.{Option, none, some}
+use lib.ListN.{length, take, drop, replicate, length-drop}
+use lib.Seq.{take-all, drop-length, drop-drop}
+use Rattle.forest.specs.Outcome.{cleared}
+use Rattle.forest.specs.Walk.{nowhere}
+use Rattle.model.specs.Facts.{Facts}
+use Rattle.model.specs.Model.{Node}
+use Rattle.model.specs.Walk.{label}
+use Rattle.cursor.specs.declared.Change.{Change}
+use Rattle.cursor.specs.declared.Outcome.{Outcome}
+use Rattle.cursor.specs.declared.Landing.{Landing}
+use Rattle.cursor.specs.Moves.{Lies, Kept, changed, changeNode, outcome}
+use Rattle.cursor.specs.Settled.{Wrote, changeHigh, Room, Left, landing, Settled}
+use Rattle.cursor.proofs.Writes.{length-change}
+
+module _ (s : List ℕ) {o : Outcome} where
+  pub settled-none : (F : Facts) (k p : ℕ) → o ≡ Outcome.Nowhere → Settled F k p (outcome o s) s s (record { used = k; rule = p; answer = nowhere })
+  unfolding outcome landing Left
+  settled-none F k p e = rw e (record { landed = refl; left = refl })
+
+  module _ {x : Change} (e : o ≡ Outcome.Node x) where
+    pub node-room : Room s (outcome o s) → Lies s (changeHigh x)
+    unfolding outcome Room changeNode
+    node-room h = rw (length-change x s) at (rw e at h)
+
+    pub node-kept : (P : ℕ → Type 0) → Kept P (outcome o s) → P (x .rule)
+    unfolding outcome Kept changeNode
+    node-kept P h = (rw e at h) .0
+
+    pub settled-node : (F : Facts) (k p : ℕ) {s′ : List ℕ} {u a : ℕ} → u ≡ changeHigh x → a ≡ label (F .rule (x .rule)) → Wrote (changed x s) s s′
+        → Settled F k p (outcome o s) s s′ (record { used = u; rule = x .rule; answer = a })
+    unfolding outcome landing Left changeNode
+    settled-node F k p q l w =
+        rw e (record { landed = λ i. record { used = (q ∙ sym (length-change x s)) i; rule = x .rule; answer = l i }; left = w })
+
+-- the bytes from a to e cleared in the part from a on
+pub clear-part : (s : List ℕ) (a e : ℕ) → a ≤ e → e ≤ length s
+    → take a s ++ (cleared (e - a) (take (length s - a) (drop a s)) ++ drop (length s - a) (drop a s)) ≡ take a s ++ (replicate (e - a) 0 ++ drop e s)
+unfolding cleared
+clear-part s a e low high =
+    let n : length (drop a s) ≡ length s - a = length-drop a s in
+    let whole : take (length s - a) (drop a s) ≡ drop a s = take-all (length s - a) (drop a s) (omega arith) in
+    let rest : drop (length s - a) (drop a s) ≡ [] = ap (λ (k : ℕ). drop k (drop a s)) (sym n) ∙ drop-length (drop a s) in
+    let past : a + (e - a) ≡ e = omega arith in
+    rw (whole, rest, append-nil, drop-drop (e - a) a s, past)

@@ -1,0 +1,4 @@
+pub mod Known
+pub mod Cells
+pub mod Moves
+pub mod Settled
