@@ -3,3 +3,4 @@ pub mod Run
 pub mod Begin
 pub mod Bytes
 pub mod Inside
+pub mod Holding
