@@ -50,6 +50,15 @@ uint32_t plan_measure(const uint8_t *plan, size_t plan_len,
                       uint64_t *trees, uint64_t *entries, uint64_t *levels,
                       uint64_t *position);
 
+/* Spread a plan's forest as text: "(", the label, the children, ")" for each node
+   in reading order, at the front of out, which needs 3 bytes a node, else 11.
+   work as for plan_measure. Accepted: *written is the text's length and later
+   bytes of out stay. Refused: out is untouched. */
+uint32_t plan_spread(const uint8_t *plan, size_t plan_len,
+                     uint8_t *work, size_t work_len,
+                     uint8_t *out, size_t out_len,
+                     uint64_t *written, uint64_t *position);
+
 #ifdef __cplusplus
 }
 #endif

@@ -47,6 +47,11 @@ int main(int argc, char **argv) {
         if (work[i] != 0) return printf("work byte %zu is not cleared\n", i), 1;
     want("measure with too little work", plan_measure(plan, length, work, 511, &trees, &entries, &levels, &position), 8);
 
+    want("spread", plan_spread(plan, length, work, sizeof work, sealed, 33, &written, &position), 0);
+    want("text length", written, 33);
+    want("the text", memcmp(sealed, "(c(a)(b)(c(a)(b)(a)(b))(b))(a)(b)", 33) == 0, 1);
+    want("spread into 32 bytes", plan_spread(plan, length, work, sizeof work, sealed, 32, &written, &position), 11);
+
     plan[length - 1] ^= 1;
     n = 77;
     want("check with a wrong mark", plan_check(plan, length, &n, &start, &position), 1);

@@ -6,3 +6,4 @@ pub mod Pass
 pub mod Rules
 pub mod Passes
 pub mod Work
+pub mod Totals

@@ -22,6 +22,7 @@ use Rattle.forest.proofs.Good.{Sort, Good}
 use Rattle.tables.specs.Rows.{rowLength, ruleIn, Holds, Within, Beyond, Loaded}
 use Rattle.tables.proofs.Rows.{within-wider}
 use Rattle.counts.specs.Tally.{Ready, Unfolds}
+use Rattle.counts.specs.Total.{Startable}
 
 -- the bytes that enough work has
 pub enough-room : (n : ℕ) (s : List ℕ) → enoughWork n s ≡ true → 64 * n ≤ length s
@@ -58,6 +59,9 @@ pub record Held (s : List ℕ) (n start : ℕ) (t : List ℕ) : Type 0 where
   pub unfolds : Unfolds t n (expression (rulesOf s))
   pub below : start < n
   pub closed : Good Sort.row (expression (rulesOf s) start)
+  pub accepted : Plan mostRules s n start
+  pub same : (k : ℕ) → k < n → ruleIn t k ≡ rule (rulesOf s) k
+  pub room : 64 * n ≤ length t
 
 rules-first : (s : List ℕ) (n start : ℕ) → Plan mostRules s n start → rulesIn (recordsFrom s (length s - trailerLength - recordLength * n) n) ≡ rulesOf s
 unfolding rulesOf
@@ -81,6 +85,9 @@ held {s} {u} {t} n start q enough l =
       unfolds = record { unfolds = λ r below. rw (same r below) (unfolding-equation (p .sound) r (omega arith)) };
       below = omega arith;
       closed = closed-row (p .sound) (p .ends);
+      accepted = p;
+      same = same;
+      room = let a : length t ≡ length u = l′ .beyond .same-length in omega arith;
     }
 
 -- the plan and the work are long enough to load from and into
@@ -91,3 +98,7 @@ loadable s u n start q enough = (plan-long mostRules s n start (checked-plan s n
 -- frames below the end of the words that are cleared
 pub beyond-work : (n : ℕ) {s t : List ℕ} → Beyond n s t → Within 0 (64 * n) s t
 beyond-work n w = within-wider 0 (64 * n) (omega arith) (omega arith) w
+
+-- what the loaded rows are good for
+pub startable : {s t : List ℕ} {n start : ℕ} → Held s n start t → Startable t n start
+startable h = record { ready = h .ready; below = h .below }

@@ -2,3 +2,4 @@ pub mod Count
 pub mod Recurrence
 pub mod Says
 pub mod Tally
+pub mod Total

@@ -9,6 +9,7 @@ ghost use Rattle.forest.specs.Outcome.{workWords, enoughWork, cleared};
 ghost use Rattle.tables.specs.Rows.{rowLength, field, putField, ruleIn, Loaded};
 ghost use Rattle.counts.specs.Count.{capped, numberOf, countLength};
 ghost use Rattle.counts.specs.Tally.{Reach, Between, Readable, RowTallied, Ready, Passable, Tallied, Counted, weightOf, ownOf, sumOf, treesOf, depthOf, levelsOf, tallyOf};
+ghost use Rattle.counts.specs.Total.{Startable, Totalled};
 use plan::Record;
 use plan::Rule;
 use plan::Trailer;
@@ -306,6 +307,15 @@ pub fn count_rules(work: &mut [u8], n: u16, first: Tally, second: Tally)
 {
     tally_all(work, n, first, Count::HELP, Count::HELP);
     tally_all(work, n, second, Count::HELP, Count::MAIN);
+}
+
+// A count of rule r's forest, by two passes over the rules.
+pub fn total(work: &mut [u8], n: u16, r: u16, first: Tally, second: Tally) -> Count
+    requires { ⌜ Startable (now work) n r ⌝ }
+    ensures { λ x. ⌜ Totalled first second n r x (now (work .entry)) (now (work .exit)) ⌝ }
+{
+    count_rules(work, n, first, second);
+    count_at(work, r, Count::MAIN)
 }
 
 // The 16-bit words of work that a rule needs, and their bytes.

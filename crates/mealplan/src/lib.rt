@@ -6,7 +6,7 @@ use plan::Written;
 ghost use mathlib.Core.Path.{_≡_};
 ghost use Rattle.plan.specs.Check.{checked};
 ghost use Rattle.seal.specs.Seal.{sealed, sealedOutput, unsealed, unsealedOutput};
-ghost use Rattle.forest.specs.Outcome.{measured, measuredWork};
+ghost use Rattle.forest.specs.Outcome.{measured, measuredWork, spread, spreadOutput};
 ghost use Rattle.mealplan.specs.Interface.{measuredResult, measuredPosition, treesAfter, entriesAfter, levelsAfter, checkedResult, writtenResult, checkedPosition, writtenPosition, countAfter, startAfter, lengthAfter};
 
 // What a checked answer leaves behind the pointers, and the result.
@@ -131,4 +131,18 @@ pub extern "C" fn plan_measure(
         levels,
         position,
     )
+}
+
+// Spread.
+#[no_mangle]
+pub extern "C" fn plan_spread(
+    plan: &[u8],
+    work: &mut [u8],
+    out: &mut [u8],
+    written: &mut u64,
+    position: &mut u64,
+) -> u32
+    ensures { λ r. ⌜ (r ≡ writtenResult (spread (now (plan .entry)) (now (work .entry)) (now (out .entry)))) × (now (work .exit) ≡ measuredWork (now (plan .entry)) (now (work .entry))) × (now (out .exit) ≡ spreadOutput (now (plan .entry)) (now (work .entry)) (now (out .entry))) × (now (written .exit) ≡ lengthAfter (spread (now (plan .entry)) (now (work .entry)) (now (out .entry))) (now (written .entry))) × (now (position .exit) ≡ writtenPosition (spread (now (plan .entry)) (now (work .entry)) (now (out .entry)))) ⌝ }
+{
+    give_written(spread::spread(plan, work, out), written, position)
 }

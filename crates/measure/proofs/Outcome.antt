@@ -17,7 +17,7 @@ use Rattle.forest.specs.Outcome.{workWords, enoughWork, cleared, counted, measu
 use Rattle.tables.specs.Rows.{Within, Loaded}
 use Rattle.tables.proofs.Rows.{within-both}
 use Rattle.counts.proofs.Work.{Held, held, work-refused, work-lent, work-cleared, beyond-work, enough-room}
-use Rattle.measure.specs.Total.{Startable, Answered}
+use Rattle.measure.specs.Answer.{Answered}
 
 -- the answer and the work that measure gives
 abbrev pub Outcome : List ℕ → List ℕ → Measured → List ℕ → Type 0
@@ -44,7 +44,3 @@ module _ (s work : List ℕ) where
       given m e (a .answer (expression (rulesOf s)) (h .unfolds) (h .closed)),
       p ∙ work-cleared s work n start q e u (within-both w (beyond-work n (a .beyond))),
     )
-
--- what the loaded rows are good for
-pub startable : {s t : List ℕ} {n start : ℕ} → Held s n start t → Startable t n start
-startable h = record { ready = h .ready; below = h .below }

@@ -2,35 +2,26 @@
 ghost use mathlib.Core.Path.{_≡_};
 ghost use Rattle.plan.specs.Check.{checked};
 ghost use Rattle.forest.specs.Outcome.{measured, measuredWork};
-ghost use Rattle.measure.specs.Total.{Startable, Totalled, Answered};
-use counts::Count;
+ghost use Rattle.counts.specs.Total.{Startable};
+ghost use Rattle.measure.specs.Answer.{Answered};
 use counts::Tally;
 use counts::Weight;
 use forest::Measured;
 use plan::Checked;
 use plan::Refusal;
 
-// A count of rule r's forest, by two passes over the rules.
-fn total(work: &mut [u8], n: u16, r: u16, first: Tally, second: Tally) -> Count
-    requires { ⌜ Startable (now work) n r ⌝ }
-    ensures { λ x. ⌜ Totalled first second n r x (now (work .entry)) (now (work .exit)) ⌝ }
-{
-    counts::count_rules(work, n, first, second);
-    counts::count_at(work, r, Count::MAIN)
-}
-
 // The answer for rule r of the rules in the rows. Trees and levels are at most as many as nodes, and so are entries.
 fn answer(work: &mut [u8], n: u16, r: u16) -> Measured
     requires { ⌜ Startable (now work) n r ⌝ }
     ensures { λ x. ⌜ Answered n r x (now (work .entry)) (now (work .exit)) ⌝ }
 {
-    let nodes = total(work, n, r, Tally::Own(Weight::Node), Tally::Sum);
+    let nodes = counts::total(work, n, r, Tally::Own(Weight::Node), Tally::Sum);
     if nodes.over != 0 {
         return Measured::Refused(Refusal::Room);
     }
-    let entries = total(work, n, r, Tally::Own(Weight::Entry), Tally::Sum);
-    let trees = total(work, n, r, Tally::Own(Weight::Node), Tally::Trees);
-    let levels = total(work, n, r, Tally::Depth, Tally::Levels);
+    let entries = counts::total(work, n, r, Tally::Own(Weight::Entry), Tally::Sum);
+    let trees = counts::total(work, n, r, Tally::Own(Weight::Node), Tally::Trees);
+    let levels = counts::total(work, n, r, Tally::Depth, Tally::Levels);
     Measured::Counts {
         trees: trees.low,
         entries: entries.low,

@@ -6,8 +6,8 @@ use mathlib.Core.Bool.{true}
 use lib.ListN.{length}
 use borrow.Author.Tests.{not-true, not-false}
 use Rattle.forest.specs.Outcome.{enoughWork}
-use Rattle.counts.proofs.Work.{Held, held, loadable, beyond-work, enough-room}
-use Rattle.measure.proofs.Outcome.{lent, finished, startable}
+use Rattle.counts.proofs.Work.{Held, held, loadable, beyond-work, enough-room, startable}
+use Rattle.measure.proofs.Outcome.{lent, finished}
 use native.Mathlib.Omega.{arith}
 use Rattle.measure.proofs.measure_rules.Statement.{statement}
 use Rattle.measure.proofs.measure_rules.Tie as tie

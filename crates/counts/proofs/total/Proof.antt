@@ -1,8 +1,8 @@
 -- The count is read where the second pass wrote it. Assumes nothing.
 use borrow.Author.Needs.{needs}
-use Rattle.measure.proofs.Answers.{totalled}
-use Rattle.measure.proofs.total.Statement.{statement}
-use Rattle.measure.proofs.total.Tie as tie
+use Rattle.counts.proofs.Totals.{totalled}
+use Rattle.counts.proofs.total.Statement.{statement}
+use Rattle.counts.proofs.total.Tie as tie
 
 count-rules-requires : tie.Need-count-rules-requires
 count-rules-requires c κs = search needs

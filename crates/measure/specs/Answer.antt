@@ -1,0 +1,17 @@
+-- What measure answers once the rules are loaded.
+use Prim.Native.Nat.{ℕ}
+use mathlib.Core.Path.{_≡_}
+use mathlib.Core.List.{List}
+use Rattle.forest.specs.declared.Measured.{Measured}
+use Rattle.forest.specs.Expression.{Expression}
+use Rattle.forest.specs.Algebra.{value}
+use Rattle.forest.specs.Forest.{trees}
+use Rattle.forest.specs.Outcome.{counted}
+use Rattle.forest.proofs.Good.{Sort, Good}
+use Rattle.tables.specs.Rows.{Beyond}
+use Rattle.counts.specs.Tally.{Unfolds}
+
+-- the answer for rule r, whatever its expression, as long as it unfolds the rules in the rows and is closed
+pub record Answered (n r : ℕ) (m : Measured) (s t : List ℕ) : Type 0 where
+  pub beyond : Beyond n s t
+  pub answer : (E : ℕ → Expression) → Unfolds s n E → Good Sort.row (E r) → m ≡ counted (trees (value (E r)))

@@ -1,0 +1,173 @@
+-- The answer for one rule: its nodes are counted, three bytes of room for each decide, and where they are there the rows get their tasks
+-- and the rule's text is written. Assumes nothing.
+use Prim.Native.Nat.{ℕ, zero, suc, _+_, _*_, _/_, _^_, _≤_, _<_}
+use native.Mathlib.Omega.{arith}
+use mathlib.Core.Path.{_≡_, refl, sym, ap, subst, _∙_}
+use mathlib.Core.Bool.{Bool, true, false}
+use mathlib.Core.List.{List}
+use lib.ListN.{length}
+use lib.Dec.{leb}
+use borrow.Author.Tests.{leb-true, leb-false, le-leb, lt-leb}
+use Rattle.plan.specs.declared.Refusal.{Refusal}
+use Rattle.plan.specs.declared.Rule.{Rule}
+use Rattle.plan.specs.declared.Written.{Written}
+use Rattle.plan.specs.Rule.{wordLength}
+use Rattle.plan.specs.Sound.{rule, Sound, Closed}
+use Rattle.seal.specs.Seal.{inFront, outputAfter}
+use Rattle.forest.specs.Expression.{Expression, expression}
+use Rattle.forest.specs.Algebra.{value}
+use Rattle.forest.specs.Forest.{Forest, trees, forest, weigh, one, text}
+use Rattle.forest.specs.Outcome.{nodeLength, textRoomed}
+use Rattle.forest.proofs.Good.{Sort, Good}
+use Rattle.forest.proofs.Unfold.{unfolding-equation, closed-row}
+use Rattle.forest.proofs.Counts.{text-length}
+use Rattle.tables.specs.Rows.{rowLength, ownEnd, ruleIn, Within}
+use Rattle.tables.proofs.Rows.{within-both, within-wider}
+use Rattle.counts.specs.declared.Count.{Count}
+use Rattle.counts.specs.declared.Tally.{Tally}
+use Rattle.counts.specs.declared.Weight.{Weight}
+use Rattle.counts.specs.Count.{capped, limit, numberOf}
+use Rattle.counts.specs.Says.{whole, says}
+use Rattle.counts.specs.Tally.{weightOf, Besides, Ready, Unfolds}
+use Rattle.counts.specs.Total.{Startable, Totalled}
+use Rattle.counts.proofs.Meaning.{told}
+use Rattle.counts.proofs.Column.{besides-rule}
+use Rattle.counts.proofs.Totals.{nodes-total}
+use Rattle.spread.specs.Task.{taskIn}
+use Rattle.spread.specs.Stack.{atTask, tasksAt}
+use Rattle.spread.specs.Run.{rowsIn, meant, stackAt, workEnd, Taskable, Tasked, Tabled, Ran, Spreadable, Answerable, Answered}
+use Rattle.spread.proofs.Tasks.{by-test}
+use Rattle.spread.proofs.Rows.{rows-length, rows-rule, rows-same, task-recurs}
+
+-- two tests that say the same
+same-test : (a b c d : ℕ) → (a ≤ b → c ≤ d) → (c ≤ d → a ≤ b) → leb a b ≡ leb c d
+same-test a b c d f g =
+    by-test (leb a b)
+    (λ u. u ∙ sym (le-leb c d (f (leb-true a b u))))
+    (λ u.
+    by-test (leb c d)
+    (λ w. let l : b < a = leb-false a b u in let m : a ≤ b = g (leb-true c d w) in absurd (omega arith))
+    (λ w. u ∙ sym w))
+
+-- room for three bytes a node
+pub fits-over : (c : Count) (room : ℕ) → (c .over ≡ 0 → ⊥) → room < limit → false ≡ leb (nodeLength * numberOf c) room
+fits-over c room over small = sym (lt-leb (nodeLength * numberOf c) room (omega arith))
+
+pub fits-low : (c : Count) (room : ℕ) → c .over ≡ 0 → leb (c .low) (room / 3) ≡ leb (nodeLength * numberOf c) room
+fits-low c room clear = same-test (c .low) (room / 3) (nodeLength * numberOf c) room (λ l. omega arith) (λ l. omega arith)
+
+-- from the rows
+module _ {t : List ℕ} {n r : ℕ} (a : Answerable t n r) where
+  in-rows : r < n
+  in-rows = let l : r < length (rowsIn t n) = a .closed .below in omega (arith, rows-length t n)
+
+  rows-unfold : Unfolds t n (meant t n)
+  rows-unfold =
+      record { unfolds = λ k below. rw (← (rows-rule t n k below)) (unfolding-equation (a .sound) k (omega (arith, rows-length t n))) }
+
+  closed-good : Good Sort.row (meant t n r)
+  closed-good = closed-row (a .sound) (a .closed)
+
+  pub startable : Startable t n r
+  startable =
+      record {
+        ready =
+            record {
+              room = omega (arith, a .room);
+              lower = λ k below. rw (← (rows-rule t n k below)) (a .sound .falls k (omega (arith, rows-length t n)));
+            };
+        below = in-rows;
+      }
+
+  taskable : Taskable t n
+  taskable =
+      record {
+        room = omega (arith, a .room);
+        lower = startable .ready .lower;
+        labels = λ k below. rw (← (rows-rule t n k below)) (a .sound .labels k (omega (arith, rows-length t n)));
+        few = a .few;
+      }
+
+  -- the rule's text
+  rule-text : says (meant t n r) whole ≡ text (forest (rowsIn t n) r)
+  unfolding forest
+  rule-text = told closed-good
+
+-- the rows keep their rules
+rows-kept : {o w n : ℕ} {s t : List ℕ} → Besides o w n s t → ownEnd ≤ o → rowsIn t n ≡ rowsIn s n
+rows-kept {n = n} {s = s} {t = t} b past = rows-same s t n (λ k below. besides-rule b past k)
+
+answerable-kept : {o w n r : ℕ} {s t : List ℕ} → Besides o w n s t → ownEnd ≤ o → Answerable s n r → Answerable t n r
+answerable-kept {n = n} {r = r} {s = s} {t = t} b past a =
+    let long : length t ≡ length s = b .beyond .same-length in
+    record { sound = rw (rows-kept b past) (a .sound); closed = rw (rows-kept b past) (a .closed); few = a .few; room = omega (arith, a .room) }
+
+-- the nodes of the rule
+module _ {s t : List ℕ} {n r : ℕ} {c : Count} (a : Answerable s n r) (p : Totalled (Tally.Own Weight.Node) Tally.Sum n r c s t) where
+  nodes : numberOf c ≡ capped (weigh one (forest (rowsIn s n) r))
+  unfolding forest weightOf
+  nodes = nodes-total (rows-unfold a) (closed-good a) Weight.Node p
+
+  counted : Answerable t n r
+  counted = answerable-kept (p .passes .besides) (omega arith) a
+
+  pub tasks-next : Taskable t n
+  tasks-next = taskable counted
+
+  pub refused : (out : List ℕ) → leb (nodeLength * numberOf c) (length out) ≡ false → Answered n r (Written.Refused Refusal.Room) s t out out
+  unfolding textRoomed outputAfter
+  refused out e =
+      let l : length out < nodeLength * numberOf c = leb-false (nodeLength * numberOf c) (length out) e in
+      record {
+        answer = rw (lt-leb (nodeLength * weigh one (forest (rowsIn s n) r)) (length out) (omega (arith, nodes)));
+        writes = refl;
+        within = within-wider 0 (workEnd n) (omega arith) (omega arith) (p .passes .besides .beyond);
+      }
+
+  module _ (out : List ℕ) (small : length out < limit) (e : leb (nodeLength * numberOf c) (length out) ≡ true) where
+    enough : nodeLength * weigh one (forest (rowsIn s n) r) ≤ length out
+    enough = let l : nodeLength * numberOf c ≤ length out = leb-true (nodeLength * numberOf c) (length out) e in omega (arith, nodes)
+
+    module _ {u : List ℕ} (q : Tasked n t u) where
+      tasked : Answerable u n r
+      tasked = answerable-kept (q .besides) (omega arith) counted
+
+      all-same : rowsIn u n ≡ rowsIn s n
+      all-same = rows-kept (q .besides) (omega arith) ∙ rows-kept (p .passes .besides) (omega arith)
+
+      tabled : Tabled u n
+      tabled =
+          record {
+            sound = tasked .sound;
+            few = tasked .few;
+            least = let b : r < n = in-rows tasked in omega arith;
+            room = tasked .room;
+            tasks =
+                q .column (λ k. taskIn (meant u n k))
+                (task-recurs t n (tasked .sound) (rows-length u n)
+                (λ k below. sym (besides-rule (q .besides) (omega arith) k) ∙ sym (rows-rule u n k below)));
+          }
+
+      same-text : says (meant u n r) whole ≡ text (forest (rowsIn s n) r)
+      same-text = rule-text tasked ∙ ap (λ (R : List Rule). text (forest R r)) all-same
+
+      pub spreadable : Spreadable u out n r
+      spreadable =
+          record {
+            tabled = tabled;
+            below = in-rows tasked;
+            fits = rw same-text (omega (arith, text-length (forest (rowsIn s n) r), enough));
+          }
+
+      pub spread-out : {x : ℕ} {w out′ : List ℕ} → Ran n (says (meant u n r) whole) x u w out out′ → Answered n r (Written.Length x) s w out out′
+      unfolding textRoomed outputAfter
+      spread-out g =
+          let h = rw same-text at g in
+          record {
+            answer = rw (le-leb (nodeLength * weigh one (forest (rowsIn s n) r)) (length out) enough) (ap Written.Length (h .long));
+            writes = h .writes;
+            within =
+                within-both (within-wider 0 (workEnd n) (omega arith) (omega arith) (p .passes .besides .beyond))
+                (within-both (within-wider 0 (workEnd n) (omega arith) (omega arith) (q .besides .beyond))
+                (within-wider 0 (workEnd n) (omega arith) (omega arith) (h .within)));
+          }

@@ -1,0 +1,3 @@
+pub mod Task
+pub mod Stack
+pub mod Run

@@ -1,0 +1,69 @@
+-- The stack of tasks in the lent work: words from an offset on, the top last, so that two stacks can lie in one work.
+use Prim.Native.Nat.{ℕ, zero, suc, _+_, _*_, _/_, _≤_, _<_}
+use mathlib.Core.Path.{_≡_}
+use mathlib.Core.List.{List, [], _∷_, _++_}
+use lib.ListN.{length, take, drop}
+use lib.Dec.{T, ltb}
+use Rattle.words.specs.Number.{number}
+use Rattle.plan.specs.declared.Rule.{Rule}
+use Rattle.plan.specs.Rule.{every, labelled, wordLength}
+use Rattle.tables.specs.Rows.{rowLength, field, ruleIn, Within}
+use Rattle.spread.specs.declared.Step.{Step}
+use Rattle.spread.specs.declared.State.{State}
+use Rattle.spread.specs.Task.{parts, noTask, saidBytes, stepOf, addTask, addTasks, taskOf}
+
+-- where a row keeps the task of its whole rule
+abbrev pub atTask : ℕ
+atTask = 30
+
+abbrev pub tasksAt : List ℕ → ℕ → ℕ
+tasksAt t k = field wordLength t k atTask
+
+-- k tasks from an offset on, the top first
+unfoldable pub tasksIn : List ℕ → ℕ → ℕ → List ℕ
+unfolding number
+tasksIn t from zero = []
+tasksIn t from (suc k) = number wordLength t (from + wordLength * k) ∷ tasksIn t from k
+
+-- v put on k tasks, of which there are then j
+pub record Pushed (from k v j : ℕ) (s t : List ℕ) : Type 0 where
+  pub tasks : tasksIn t from j ≡ addTask v (tasksIn s from k)
+  pub grown : j ≤ k + 1
+  pub within : Within (from + wordLength * k) (from + wordLength * k + wordLength) s t
+
+-- the tasks of a step put on k others
+pub record AllPushed (from k : ℕ) (x : Step) (j : ℕ) (s t : List ℕ) : Type 0 where
+  pub tasks : tasksIn t from j ≡ addTasks x (tasksIn s from k)
+  pub within : Within from (from + wordLength * (k + 3)) s t
+
+-- row r can be read, keeps the rule x, which names lower rules, and its numbers are small enough
+pub record Steppable (t : List ℕ) (r : ℕ) (x : Rule) : Type 0 where
+  pub room : rowLength * (r + 1) ≤ length t
+  pub lower : T (every (λ y. ltb y r) x)
+  pub labels : T (labelled x)
+  pub few : r < 16383
+
+-- what task v comes to, from the rows
+abbrev pub stepIn : List ℕ → ℕ → Step
+stepIn t v = stepOf (tasksAt t) (ruleIn t) v
+
+-- the task over k others
+abbrev pub taskOver : List ℕ → ℕ → ℕ → ℕ
+taskOver t from k = number wordLength t (from + wordLength * k)
+
+-- a turn may be made: the task over k others can be read, its bytes fit the output after at others, its tasks fit the stack
+pub record Turnable (t out : List ℕ) (from k at : ℕ) : Type 0 where
+  pub steps : Steppable t (taskOver t from k / parts) (ruleIn t (taskOver t from k / parts))
+  pub stack : from + wordLength * (k + 3) ≤ length t
+  pub fits : at + length (saidBytes ((stepIn t (taskOver t from k)) .said)) ≤ length out
+
+-- bytes written after at others
+abbrev pub written : List ℕ → ℕ → List ℕ → List ℕ
+written out at bs = take at out ++ (bs ++ drop (at + length bs) out)
+
+-- after a turn
+pub record TurnMade (from k at : ℕ) (x : State) (s t out out′ : List ℕ) : Type 0 where
+  pub tasks : tasksIn t from (x .tasks) ≡ addTasks (stepIn s (taskOver s from k)) (tasksIn s from k)
+  pub within : Within from (from + wordLength * (k + 3)) s t
+  pub writes : out′ ≡ written out at (saidBytes ((stepIn s (taskOver s from k)) .said))
+  pub moves : x .at ≡ at + length (saidBytes ((stepIn s (taskOver s from k)) .said))
