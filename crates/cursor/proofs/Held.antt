@@ -1,18 +1,18 @@
 -- What a sound table and the cells of a cursor name has rows: a step, a run, the cell on top, and fewer cells.
 -- Assumes nothing.
-use Prim.Native.Nat.{ℕ, zero, suc, _+_, _-_, _≤_, _<_}
+use Prim.Native.Nat.{ℕ, zero, suc, _-_, _≤_, _<_}
 use native.Mathlib.Omega.{arith}
-use mathlib.Core.Path.{_≡_, refl, sym, ap, _∙_}
-use mathlib.Core.List.{List, [], _∷_}
+use mathlib.Core.Path.{_≡_, sym, _∙_}
+use mathlib.Core.List.{List}
 use native.Mathlib.Decide.{decLt}
-use Rattle.forest.specs.Place.{Cell, Cells, Side}
+use Rattle.forest.specs.Place.{Cell, Side}
 use Rattle.forest.specs.Walk.{cellAt, cellsIn}
 use Rattle.model.specs.Facts.{Facts}
 use Rattle.model.specs.Model.{along, oneAbove, outer, outerOf}
 use Rattle.plan.specs.declared.Rule.{Rule}
-use Rattle.tables.specs.Table.{known, In}
-use Rattle.cursor.specs.Known.{Names, Closed, Closes}
-use Rattle.cursor.specs.Moves.{Each, Fits, Lies, Held, Turns, aboveTop}
+use Rattle.tables.specs.Table.{In}
+use Rattle.cursor.specs.Known.{Names, Closed}
+use Rattle.cursor.specs.Moves.{Each, Fits, Held, Turns, aboveTop}
 use Rattle.forest.proofs.Position.{other}
 use Rattle.cursor.proofs.Turns.{run-no-row}
 

@@ -6,3 +6,4 @@ pub mod Kept
 pub mod Outcomes
 pub mod Writes
 pub mod Settles
+pub mod States

@@ -2,7 +2,7 @@
 -- Assumes nothing.
 use Prim.Native.Nat.{ℕ}
 use mathlib.Core.Path.{_≡_, refl}
-use mathlib.Core.Bool.{Bool, false}
+use mathlib.Core.Bool.{false}
 use mathlib.Core.List.{List, [], _∷_}
 use mathlib.Core.Option.{Option, none}
 use types.Run.{OneOf, miss}
@@ -11,10 +11,11 @@ use Rattle.plan.specs.declared.Rule.{Rule}
 use Rattle.plan.proofs.Rule.{the-type}
 use Rattle.forest.specs.Place.{Cells, Side}
 use Rattle.model.specs.Facts.{Facts}
+use Rattle.model.specs.Stored.{rowUnder, spineAt, isNode}
 use Rattle.model.specs.Walk.{label}
 use Rattle.model.specs.Model.{Node, outerOf, innerOf, isPart, childOf, besideHole}
 
--- the tags of all kinds but a fill, but a part, and but a node and a part
+-- the tags of all kinds but a fill, but a part, but a node and a part, and but those and a fill
 abbrev but-fill : List ℕ
 but-fill = 0 ∷ 1 ∷ 2 ∷ 4 ∷ 5 ∷ []
 
@@ -23,6 +24,9 @@ but-part = 0 ∷ 1 ∷ 2 ∷ 3 ∷ 5 ∷ []
 
 abbrev but-entry : List ℕ
 but-entry = 0 ∷ 1 ∷ 3 ∷ 5 ∷ []
+
+abbrev but-tree : List ℕ
+but-tree = 0 ∷ 1 ∷ 5 ∷ []
 
 pub other-outer : (x : Rule) (a : ℕ) → OneOf but-fill (tagOf the-type x) → outerOf x a ≡ a
 unfolding outerOf
@@ -77,3 +81,30 @@ other-label (Rule.Node x c) h = absurd (miss but-entry 2 tt h)
 other-label (Rule.Fill b c) h = refl
 other-label (Rule.Part x b c) h = absurd (miss but-entry 4 tt h)
 other-label (Rule.Join b c) h = refl
+
+pub other-row : (x : Rule) (k d : ℕ) → OneOf but-entry (tagOf the-type x) → rowUnder x k d ≡ none
+unfolding rowUnder
+other-row Rule.Empty k d h = refl
+other-row (Rule.Pair b c) k d h = refl
+other-row (Rule.Node x c) k d h = absurd (miss but-entry 2 tt h)
+other-row (Rule.Fill b c) k d h = refl
+other-row (Rule.Part x b c) k d h = absurd (miss but-entry 4 tt h)
+other-row (Rule.Join b c) k d h = refl
+
+pub other-spine : (x : Rule) (p k : ℕ) (o : Option ℕ) (a : ℕ) → OneOf but-tree (tagOf the-type x) → spineAt x p k o a ≡ false
+unfolding spineAt
+other-spine Rule.Empty p k o a h = refl
+other-spine (Rule.Pair b c) p k o a h = refl
+other-spine (Rule.Node x c) p k o a h = absurd (miss but-tree 2 tt h)
+other-spine (Rule.Fill b c) p k o a h = absurd (miss but-tree 3 tt h)
+other-spine (Rule.Part x b c) p k o a h = absurd (miss but-tree 4 tt h)
+other-spine (Rule.Join b c) p k o a h = refl
+
+pub other-node : (x : Rule) (k : ℕ) → OneOf but-entry (tagOf the-type x) → isNode x k ≡ false
+unfolding isNode
+other-node Rule.Empty k h = refl
+other-node (Rule.Pair b c) k h = refl
+other-node (Rule.Node x c) k h = absurd (miss but-entry 2 tt h)
+other-node (Rule.Fill b c) k h = refl
+other-node (Rule.Part x b c) k h = absurd (miss but-entry 4 tt h)
+other-node (Rule.Join b c) k h = refl

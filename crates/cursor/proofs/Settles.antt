@@ -1,11 +1,10 @@
 -- What an outcome comes to, by its two cases: nowhere keeps the place, and a node's cells are the change's. And zeros past the
 -- used cells, as one list.
 -- Assumes nothing.
-use Prim.Native.Nat.{ℕ, _+_, _-_, _*_, _≤_}
+use Prim.Native.Nat.{ℕ, _+_, _-_, _≤_}
 use native.Mathlib.Omega.{arith}
 use mathlib.Core.Path.{_≡_, refl, sym, ap, _∙_}
 use mathlib.Core.List.{List, [], _++_, append-nil}
-use mathlib.Core.Option.{Option, none, some}
 use lib.ListN.{length, take, drop, replicate, length-drop}
 use lib.Seq.{take-all, drop-length, drop-drop}
 use Rattle.forest.specs.Outcome.{cleared}
@@ -15,7 +14,6 @@ use Rattle.model.specs.Model.{Node}
 use Rattle.model.specs.Walk.{label}
 use Rattle.cursor.specs.declared.Change.{Change}
 use Rattle.cursor.specs.declared.Outcome.{Outcome}
-use Rattle.cursor.specs.declared.Landing.{Landing}
 use Rattle.cursor.specs.Moves.{Lies, Kept, changed, changeNode, outcome}
 use Rattle.cursor.specs.Settled.{Wrote, changeHigh, Room, Left, landing, Settled}
 use Rattle.cursor.proofs.Writes.{length-change}

@@ -3,21 +3,19 @@
 -- Assumes nothing.
 use Prim.Native.Nat.{ℕ, suc, _+_, _-_, _≤_, _<_}
 use native.Mathlib.Omega.{arith}
-use mathlib.Core.Path.{_≡_, refl, sym, ap, _∙_}
-use mathlib.Core.Bool.{Bool, true, false, cond}
+use mathlib.Core.Path.{_≡_, sym, ap, _∙_}
 use mathlib.Core.List.{List, [], _∷_}
-use mathlib.Core.Option.{Option, none, some as some′}
-use lib.Dec.{eqb, leb}
+use mathlib.Core.Option.{none, some as some′}
 use borrow.Author.Tests.{eq-eqb, ne-eqb, le-leb, lt-leb}
 use Rattle.forest.specs.Place.{Cell, Cells, Side, cellRow, cellSpine, cellRun, step}
 use Rattle.forest.specs.Walk.{cellAt, cellsIn}
 use Rattle.forest.proofs.Position.{other}
 use Rattle.model.specs.Facts.{Facts}
-use Rattle.model.specs.Model.{Node, oneAbove, outer, standing, run, shrunk, turned, besideTop}
+use Rattle.model.specs.Model.{Node, outer, standing, run, shrunk, turned, besideTop}
 use Rattle.model.proofs.Cells.{topKind, step-begins}
 use Rattle.cursor.specs.declared.Cell.{Cell as Words}
 use Rattle.tables.specs.Table.{known}
-use Rattle.cursor.specs.Cells.{words, cell, runCell}
+use Rattle.cursor.specs.Cells.{cell, runCell}
 use Rattle.cursor.specs.Moves.{add, aboveTop}
 use Rattle.cursor.proofs.Stack.{cells-none, cells-top, add-some, add-run, run-some, apart-back, step-grows, step-kind, run-begins, above-first}
 

@@ -1,10 +1,9 @@
 -- Each return is a case of `besideTop`. Assumes nothing.
-use mathlib.Core.Path.{_≡_, sym, ap, _∙_}
+use mathlib.Core.Path.{sym, ap, _∙_}
 use native.Mathlib.Omega.{arith}
 use denote.Ref.{now}
 use mathlib.Core.Option.{some}
 use Rattle.forest.specs.Place.{cellRun}
-use Rattle.forest.specs.Walk.{cellAt}
 use Rattle.forest.proofs.Position.{other}
 use Rattle.model.specs.Model.{Node}
 use Rattle.tables.specs.Table.{known, sideOf}

@@ -1,7 +1,6 @@
 -- Each arm of the match is a case of `childOf`. Assumes nothing.
 use Prim.Native.Nat.{ℕ}
-use mathlib.Core.Path.{_≡_, sym, ap, _∙_}
-use mathlib.Core.Option.{none}
+use mathlib.Core.Path.{sym, ap, _∙_}
 use denote.Ref.{now}
 use Rattle.plan.specs.declared.Rule.{Rule}
 use Rattle.forest.specs.Place.{rowOfNode, rowOfPart}

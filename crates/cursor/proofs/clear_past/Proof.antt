@@ -1,16 +1,13 @@
 -- The zeros are those of `clear` on the cursor past cell k. Assumes nothing.
 use Prim.Native.Nat.{ℕ, _+_, _-_, _*_}
-use mathlib.Core.Path.{_≡_, sym, ap, _∙_}
+use mathlib.Core.Path.{_≡_, ap, _∙_}
 use native.Mathlib.Omega.{arith}
 use mathlib.Core.List.{List, _++_}
 use lib.ListN.{length, take, drop, replicate, length-take, length-drop}
 use denote.Ref.{now}
-use Rattle.forest.specs.Outcome.{cleared}
 use Rattle.forest.specs.Walk.{cursorWords}
 use Rattle.cursor.specs.Settled.{cursorLength, clearedPast}
 use Rattle.cursor.proofs.Settles.{clear-part}
-use lib.ListN.{length, take, drop, length-take, length-drop}
-use Rattle.cursor.specs.Settled.{clearedPast}
 use borrow.Author.Needs.{needs}
 use Rattle.cursor.proofs.clear_past.Statement.{statement}
 use Rattle.cursor.proofs.clear_past.Tie as tie

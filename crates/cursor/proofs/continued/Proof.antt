@@ -2,10 +2,9 @@
 use Prim.Native.Nat.{ℕ}
 use mathlib.Core.Path.{_≡_, sym, ap, _∙_}
 use native.Mathlib.Omega.{arith}
-use mathlib.Core.Option.{Option, none, some, Option·map}
+use mathlib.Core.Option.{none, some, Option·map}
 use denote.Ref.{now}
-use Rattle.plan.specs.declared.Rule.{Rule}
-use Rattle.forest.specs.Place.{cellSpine, cellRow}
+use Rattle.forest.specs.Place.{cellSpine}
 use Rattle.forest.specs.Walk.{cellAt, cellsIn}
 use Rattle.model.specs.Model.{Node, opened, innerOf, continuing}
 use Rattle.tables.specs.Table.{known, In}

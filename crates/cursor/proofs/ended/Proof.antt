@@ -1,5 +1,5 @@
 -- Each return is a case of `ended`. Assumes nothing.
-use mathlib.Core.Path.{_≡_, sym, ap, _∙_}
+use mathlib.Core.Path.{sym, ap, _∙_}
 use native.Mathlib.Omega.{arith}
 use denote.Ref.{now}
 use Rattle.forest.specs.Place.{rowOfPart}

@@ -1,6 +1,6 @@
 -- An empty rule has no root; else the row over the representative, and the tree at its end. Assumes nothing.
 use Prim.Native.Nat.{ℕ}
-use mathlib.Core.Path.{_≡_, sym, ap, _∙_}
+use mathlib.Core.Path.{sym, ap, _∙_}
 use mathlib.Core.Option.{some}
 use denote.Ref.{now}
 use Rattle.forest.specs.Place.{cellRow}

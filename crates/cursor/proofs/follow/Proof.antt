@@ -1,5 +1,5 @@
 -- The tree beside in the row, else the tree in the hole that the row ends at. Assumes nothing.
-use mathlib.Core.Path.{_≡_, sym, ap, _∙_}
+use mathlib.Core.Path.{sym, ap, _∙_}
 use mathlib.Core.Option.{some}
 use denote.Ref.{now}
 use Rattle.forest.specs.Walk.{cellsIn}

@@ -1,6 +1,6 @@
 -- The part beside in the spine, else what the spine continues in. Assumes nothing.
 use Prim.Native.Nat.{ℕ}
-use mathlib.Core.Path.{_≡_, sym, ap, _∙_}
+use mathlib.Core.Path.{sym, ap, _∙_}
 use mathlib.Core.Option.{some, Option·map}
 use denote.Ref.{now}
 use Rattle.forest.specs.Place.{Cells, Side}

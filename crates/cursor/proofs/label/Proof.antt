@@ -1,6 +1,5 @@
 -- Each arm of the match is a case of `label`. Assumes nothing.
 use mathlib.Core.Path.{sym, ap, _∙_}
-use denote.Ref.{now}
 use Rattle.model.specs.Walk.{label}
 use Rattle.cursor.proofs.Rules.{other-label}
 use borrow.Author.Needs.{needs}

@@ -1,5 +1,5 @@
 -- No cells, no node; else the rule that they stand at. Assumes nothing.
-use mathlib.Core.Path.{_≡_, sym, ap, _∙_}
+use mathlib.Core.Path.{sym, ap, _∙_}
 use native.Mathlib.Omega.{arith}
 use mathlib.Core.Option.{some}
 use denote.Ref.{now}

@@ -1,6 +1,6 @@
 -- Only a fill has an outer rule. Assumes nothing.
 use mathlib.Core.Path.{sym}
-use Rattle.model.specs.Model.{outer, outerOf}
+use Rattle.model.specs.Model.{outer}
 use Rattle.cursor.proofs.Rules.{other-outer}
 use borrow.Author.Needs.{needs}
 use Rattle.cursor.proofs.outer.Statement.{statement}

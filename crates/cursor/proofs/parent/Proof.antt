@@ -1,5 +1,5 @@
 -- The part in whose hole the node stands, else the node below its row. Assumes nothing.
-use mathlib.Core.Path.{_≡_, sym, ap, _∙_}
+use mathlib.Core.Path.{sym, ap, _∙_}
 use native.Mathlib.Omega.{arith}
 use mathlib.Core.Option.{some}
 use denote.Ref.{now}

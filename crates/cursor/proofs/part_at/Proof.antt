@@ -1,5 +1,5 @@
 -- The rule that the cells stand at is a part or not. Assumes nothing.
-use mathlib.Core.Path.{_≡_, sym, ap, _∙_}
+use mathlib.Core.Path.{sym, ap, _∙_}
 use mathlib.Core.Option.{some}
 use denote.Ref.{now}
 use Rattle.forest.specs.Walk.{cellsIn}

@@ -1,7 +1,6 @@
 -- The row on that side, else the hole. Assumes nothing.
-use mathlib.Core.Path.{_≡_, sym, ap, _∙_}
+use mathlib.Core.Path.{sym, _∙_}
 use denote.Ref.{now}
-use Rattle.forest.specs.Place.{rowOfPart}
 use Rattle.forest.specs.Walk.{cellsIn}
 use Rattle.model.specs.Model.{enter, inward}
 use Rattle.tables.specs.Table.{known, sideOf}

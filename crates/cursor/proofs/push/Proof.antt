@@ -1,11 +1,9 @@
 -- No cell changes nothing; a cell is written above the others. Assumes nothing.
-use mathlib.Core.Path.{_≡_, sym, _∙_}
+use mathlib.Core.Path.{sym}
 use native.Mathlib.Omega.{arith}
 use borrow.Author.Tests.{ne-eqb}
 use denote.Ref.{now}
 use Rattle.forest.specs.Walk.{cellsIn}
-use Rattle.cursor.specs.Cells.{words}
-use Rattle.cursor.specs.Settled.{Wrote}
 use Rattle.cursor.proofs.Stack.{add-some}
 use Rattle.cursor.proofs.Writes.{high-none, high-some, add-nothing, wrote-none, wrote-one}
 use borrow.Author.Needs.{needs}

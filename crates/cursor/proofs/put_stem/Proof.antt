@@ -1,15 +1,10 @@
 -- Three cells, one after the other. Assumes nothing.
-use mathlib.Core.Path.{_≡_, ap, _∙_}
+use mathlib.Core.Path.{ap, _∙_}
 use native.Mathlib.Omega.{arith}
 use denote.Ref.{now}
 use Rattle.cursor.specs.Moves.{stemCells, stepCells}
 use Rattle.cursor.specs.Settled.{high, stemHigh}
 use Rattle.cursor.proofs.Writes.{high-grows, stands-none, stands-more}
-use mathlib.Core.Path.{_≡_, sym, ap, _∙_}
-use Rattle.forest.specs.Walk.{cellsIn}
-use Rattle.cursor.specs.Moves.{add, stemCells, stepCells}
-use Rattle.cursor.specs.Settled.{Wrote, high, stemHigh}
-use Rattle.cursor.proofs.Writes.{high-grows, length-add, length-cells, wrote-then}
 use borrow.Author.Needs.{needs}
 use Rattle.cursor.proofs.put_stem.Statement.{statement}
 use Rattle.cursor.proofs.put_stem.Tie as tie

@@ -2,9 +2,8 @@
 use Prim.Native.Nat.{ℕ}
 use mathlib.Core.Path.{ap, sym, _∙_}
 use borrow.Author.Tests.{eq-eqb, ne-eqb}
-use denote.Ref.{now}
 use Rattle.forest.specs.Place.{cellRun}
-use Rattle.tables.specs.Table.{known, sideOf}
+use Rattle.tables.specs.Table.{sideOf}
 use Rattle.cursor.specs.Cells.{cell, runCell}
 use borrow.Author.Needs.{needs}
 use Rattle.cursor.proofs.run_from.Statement.{statement}

@@ -1,21 +1,18 @@
 -- The run is gone or one step shorter, and each way is a law. Assumes nothing.
-use Prim.Native.Nat.{ℕ, _+_, _-_, _≤_, _<_}
-use mathlib.Core.Path.{_≡_, sym, ap, _∙_}
+use Prim.Native.Nat.{_-_}
+use mathlib.Core.Path.{_≡_, ap, _∙_}
 use native.Mathlib.Omega.{arith}
 use denote.Ref.{now}
-use Rattle.forest.specs.Place.{cellRun, step}
+use Rattle.forest.specs.Place.{step}
 use Rattle.forest.specs.Walk.{cellAt, cellsIn}
 use Rattle.forest.proofs.Position.{other}
 use Rattle.cursor.specs.declared.Cell.{Cell as Words}
 use Rattle.tables.specs.Table.{known, sideOf}
 use Rattle.cursor.specs.Cells.{cell}
-use Rattle.cursor.specs.Moves.{add, stepCells, aboveTop}
+use Rattle.cursor.specs.Moves.{add, stepCells}
 use Rattle.cursor.proofs.Stack.{top-one, top-two}
 use Rattle.cursor.proofs.Held.{turns-one, turns-two}
 use Rattle.cursor.proofs.Turns.{own-words, steps-gone, steps-short}
-use Rattle.cursor.proofs.Stack.{top-kind, top-one, top-two, cells-none}
-use Rattle.cursor.proofs.Held.{held-top}
-use Rattle.cursor.proofs.Turns.{own-words, run-no-row, steps-gone, steps-short}
 use borrow.Author.Needs.{needs}
 use Rattle.cursor.proofs.stepped.Statement.{statement}
 use Rattle.cursor.proofs.stepped.Tie as tie

@@ -1,8 +1,5 @@
 -- The cells from the top are read off the number. Assumes nothing.
-use Prim.Native.Nat.{ℕ}
-use mathlib.Core.Path.{ap}
 use native.Mathlib.Omega.{arith}
-use mathlib.Core.List.{List}
 use Rattle.model.specs.Model.{tail}
 use Rattle.cursor.proofs.Stack.{cells-none, cells-top}
 use borrow.Author.Needs.{needs}

@@ -1,24 +1,16 @@
 -- The step's law and the run back. Assumes nothing.
-use Prim.Native.Nat.{ℕ, _-_}
-use mathlib.Core.Path.{_≡_, sym, ap, _∙_}
+use mathlib.Core.Path.{_≡_, ap, _∙_}
 use denote.Ref.{now}
 use Rattle.forest.specs.Place.{step}
 use Rattle.forest.specs.Walk.{cellsIn}
 use Rattle.forest.proofs.Position.{other}
 use Rattle.model.specs.Model.{oneAbove, shrunk}
-use Rattle.tables.specs.Table.{known, In, sideOf}
+use Rattle.tables.specs.Table.{known, sideOf}
 use Rattle.cursor.specs.Cells.{runCell}
 use Rattle.cursor.specs.Moves.{add, stepCells, stemCells, stemNode, aboveTop}
 use Rattle.cursor.proofs.Stack.{top-one, top-two}
 use Rattle.cursor.proofs.Held.{turns-one, turns-two, turns-above}
 use Rattle.cursor.proofs.Turns.{turned-cells}
-use native.Mathlib.Omega.{arith}
-use Rattle.forest.specs.Place.{Cells, step}
-use Rattle.forest.specs.Walk.{cellAt, cellsIn}
-use Rattle.model.specs.Model.{Node, oneAbove, shrunk}
-use Rattle.cursor.proofs.Stack.{top-kind, top-one, top-two}
-use Rattle.cursor.proofs.Held.{held-top, above-has}
-use Rattle.cursor.proofs.Turns.{run-no-row, turned-cells}
 use borrow.Author.Needs.{needs}
 use Rattle.cursor.proofs.turned.Statement.{statement}
 use Rattle.cursor.proofs.turned.Tie as tie

@@ -1,11 +1,10 @@
 -- The stem's cells, then four cells, one after the other. Assumes nothing.
-use mathlib.Core.Path.{_≡_, sym, ap, _∙_}
+use mathlib.Core.Path.{sym, ap, _∙_}
 use native.Mathlib.Omega.{arith}
 use denote.Ref.{now}
 use Rattle.cursor.specs.Moves.{stemCells, changed}
 use Rattle.cursor.specs.Settled.{high, stemHigh, changeHigh}
 use Rattle.cursor.proofs.Writes.{high-grows, length-stem, Stands, stands-more}
-use Rattle.cursor.proofs.Writes.{high-grows, length-stem, stands-more}
 use borrow.Author.Needs.{needs}
 use Rattle.cursor.proofs.write.Statement.{statement}
 use Rattle.cursor.proofs.write.Tie as tie

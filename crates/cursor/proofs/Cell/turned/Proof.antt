@@ -2,7 +2,6 @@
 use Prim.Native.Nat.{ℕ}
 use mathlib.Core.Path.{ap}
 use Rattle.cursor.specs.Cells.{cell}
-use Rattle.forest.specs.Place.{Cell}
 use borrow.Author.Needs.{needs}
 use Rattle.cursor.proofs.Cell.turned.Statement.{statement}
 use Rattle.cursor.proofs.Cell.turned.Tie as tie
