@@ -6,4 +6,5 @@ pub mod Kept
 pub mod Outcomes
 pub mod Writes
 pub mod Settles
+pub mod Stores
 pub mod States

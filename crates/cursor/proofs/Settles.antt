@@ -1,13 +1,7 @@
--- What an outcome comes to, by its two cases: nowhere keeps the place, and a node's cells are the change's. And zeros past the
--- used cells, as one list.
--- Assumes nothing.
-use Prim.Native.Nat.{ℕ, _+_, _-_, _≤_}
-use native.Mathlib.Omega.{arith}
-use mathlib.Core.Path.{_≡_, refl, sym, ap, _∙_}
-use mathlib.Core.List.{List, [], _++_, append-nil}
-use lib.ListN.{length, take, drop, replicate, length-drop}
-use lib.Seq.{take-all, drop-length, drop-drop}
-use Rattle.forest.specs.Outcome.{cleared}
+-- What an outcome comes to, by its two cases: nowhere keeps the place, and a node's cells are the change's. Assumes nothing.
+use Prim.Native.Nat.{ℕ}
+use mathlib.Core.Path.{_≡_, refl, sym, _∙_}
+use mathlib.Core.List.{List}
 use Rattle.forest.specs.Walk.{nowhere}
 use Rattle.model.specs.Facts.{Facts}
 use Rattle.model.specs.Model.{Node}
@@ -37,14 +31,3 @@ module _ (s : List ℕ) {o : Outcome} where
     unfolding outcome landing Left changeNode
     settled-node F k p q l w =
         rw e (record { landed = λ i. record { used = (q ∙ sym (length-change x s)) i; rule = x .rule; answer = l i }; left = w })
-
--- the bytes from a to e cleared in the part from a on
-pub clear-part : (s : List ℕ) (a e : ℕ) → a ≤ e → e ≤ length s
-    → take a s ++ (cleared (e - a) (take (length s - a) (drop a s)) ++ drop (length s - a) (drop a s)) ≡ take a s ++ (replicate (e - a) 0 ++ drop e s)
-unfolding cleared
-clear-part s a e low high =
-    let n : length (drop a s) ≡ length s - a = length-drop a s in
-    let whole : take (length s - a) (drop a s) ≡ drop a s = take-all (length s - a) (drop a s) (omega arith) in
-    let rest : drop (length s - a) (drop a s) ≡ [] = ap (λ (k : ℕ). drop k (drop a s)) (sym n) ∙ drop-length (drop a s) in
-    let past : a + (e - a) ≡ e = omega arith in
-    rw (whole, rest, append-nil, drop-drop (e - a) a s, past)

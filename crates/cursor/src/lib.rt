@@ -4,10 +4,10 @@ ghost use Prim.Native.Nat.{ℕ, _+_, _*_, _≤_};
 ghost use mathlib.Core.List.{List};
 ghost use lib.ListN.{length};
 ghost use Rattle.forest.specs.Place.{cellRow, cellSpine, cellRun, rowOfPart, step};
-ghost use Rattle.forest.specs.Walk.{cellLength, cellAt, cellsIn, headed};
+ghost use Rattle.forest.specs.Walk.{cellLength, cellAt, cellsIn, headed, storedCursor};
 ghost use Rattle.forest.proofs.Position.{other, pick, orElse};
 ghost use Rattle.model.specs.Model.{outer, innerOf, standing, tail, popRun, shrunk, turned, besideTop, opened, enter, continuing, inward, under, partAt, outward, ended, follow, child, besideHole, sibling, belowRow, nodeAt, parent, root};
-ghost use mathlib.Core.Option.{Option·map};
+ghost use mathlib.Core.Option.{some, Option·map};
 ghost use Rattle.tables.specs.Table.{sideOf, known, In, Climbs};
 ghost use Rattle.model.specs.Walk.{label};
 ghost use Rattle.model.specs.Stored.{formOf, rowUnder, rowIn, afterRow, isThat, spineAt, keptBy, afterRun, next, isNode, endsWell, accepts};
@@ -344,7 +344,7 @@ fn pop_run(cursor: &[u8], k: usize, side: Side) -> usize
 }
 
 // The rule that a place stands at.
-fn standing(work: &[u8], cursor: &[u8], k: usize) -> u16
+pub fn standing(work: &[u8], cursor: &[u8], k: usize) -> u16
     requires { ⌜ Held (now work) (now cursor) k ⌝ }
     ensures { λ r. ⌜ r ≡ standing (known (now (work .entry))) (cellsIn (now (cursor .entry)) k) ⌝ }
 {
@@ -672,6 +672,13 @@ pub fn root(work: &[u8], side: Side, r: u16) -> Outcome
     enter(work, Stem::kept(0, r), side, Cell::NODE_ROW, r)
 }
 
+// The node with rule p that k cells lead to, itself.
+pub fn stay(k: usize, p: u16) -> Outcome
+    ensures { λ o. ⌜ ((s : List ℕ) → outcome o s ≡ some (p, cellsIn s k)) ⌝ }
+{
+    Outcome::Node(Stem::kept(k, p).alone())
+}
+
 // A cell on top of k cells, if it is one; gives their number.
 fn push(cursor: &mut [u8], k: usize, cell: Cell) -> usize
     requires { ⌜ Lies (now cursor) (high cell k) ⌝ }
@@ -755,6 +762,21 @@ pub fn clear_past(cursor: &mut [u8], k: usize, n: u16)
     let from = Cell::LENGTH * (k + 1);
     let to = Cell::LENGTH * Cell::A_RULE * (n as usize + 1);
     tables::clear(&mut cursor[from..], to - from);
+}
+
+// The place of cells 1 to k: their number into cell 0, with no later word, and zeros past them.
+pub fn store(cursor: &mut [u8], k: usize, n: u16)
+    requires { ⌜ (cellLength * (k + 1) ≤ cursorLength n) × (cursorLength n ≤ length (now cursor)) ⌝ }
+    ensures { λ x. ⌜ now (cursor .exit) ≡ storedCursor n (cellsIn (now (cursor .entry)) k) (now (cursor .entry)) ⌝ }
+{
+    let head = Cell {
+        kind: (k % 65536) as u16,
+        one: 0,
+        two: 0,
+        three: 0,
+    };
+    head.write(cursor, 0);
+    clear_past(cursor, k, n);
 }
 
 // Cell 0 is in order: it has no later word, and its cells lie in what n rules need of the cursor.

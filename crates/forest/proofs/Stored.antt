@@ -1,5 +1,6 @@
 -- A stored cursor reads back: its cell 0 holds the number of cells, cells 1 to k are those stored, the rest of the required words
--- are zeros, and what lies behind them is as it was. A cell's bytes stand where cellAt reads them, one cell after the other.
+-- are zeros, and what lies behind them is as it was. A cell's bytes stand where cellAt reads them, one cell after the other; and
+-- cells that are read have the bytes that they were read from, as a plan's records have.
 -- Assumes nothing.
 use Prim.Native.Nat.{ℕ, zero, suc, _+_, _-_, _*_, _^_, _≤_, _<_}
 use native.Mathlib.Omega.{arith}
@@ -7,11 +8,12 @@ use native.Mathlib.Nat.{add-assoc}
 use mathlib.Core.Path.{_≡_, refl, sym, ap, ap₂, _∙_}
 use mathlib.Core.List.{List, [], _∷_, _++_, append-assoc}
 use lib.ListN.{length, take, drop, replicate, length-append, length-drop, length-replicate}
-use lib.Seq.{take-at, drop-at, take-append-le, drop-append-le, length-take-le}
+use lib.Seq.{take-at, drop-at, take-append-le, drop-append-le, length-take-le, take-add, drop-drop}
 use Rattle.words.specs.Number.{number, bytes, base}
 use Rattle.words.proofs.Laws.{number-bytes, length-bytes}
-use Rattle.plan.specs.Rule.{wordLength}
+use Rattle.plan.specs.Rule.{wordLength, recordAt, recordBytes}
 use Rattle.seal.specs.Seal.{inFront}
+use Rattle.seal.proofs.RecordBytes.{Bytes, record-bytes}
 use Rattle.forest.specs.Place.{Cell, Cells}
 use Rattle.forest.specs.Walk.{cellLength, cursorWords, cellAt, cellsIn, usedCells, cellBytes, cellsBytes, padded, storedCursor}
 
@@ -26,7 +28,7 @@ abbrev pub AllFitting : Cells → Type 0
 AllFitting [] = Unit {0}
 AllFitting (c ∷ cs) = Fitting c × AllFitting cs
 
-length-cell : (c : Cell) → length (cellBytes c) ≡ cellLength
+pub length-cell : (c : Cell) → length (cellBytes c) ≡ cellLength
 unfolding cellBytes
 length-cell c = simp (length-append, length-bytes)
 
@@ -71,6 +73,20 @@ cells-back (c ∷ cs) p q e f =
     head =
         ap (λ (l : List ℕ). cellAt l (suc (length cs))) behind
         ∙ cell-back c (p ++ cellsBytes cs) q (suc (length cs)) (length-append p (cellsBytes cs) ∙ omega (arith, length-cells cs)) (f .0)
+
+-- a cell's bytes, and those of cells 1 to k, are the ones that it was read from
+cell-bytes : (s : List ℕ) (i : ℕ) → Bytes s → cellLength * (i + 1) ≤ length s → cellBytes (cellAt s i) ≡ take cellLength (drop (cellLength * i) s)
+unfolding cellBytes cellAt recordBytes recordAt
+cell-bytes s i b fits = record-bytes s (cellLength * i) b (omega arith)
+
+pub cells-bytes : (s : List ℕ) (k : ℕ) → Bytes s → cellLength * (k + 1) ≤ length s → cellsBytes (cellsIn s k) ≡ take (cellLength * k) (drop cellLength s)
+unfolding cellsBytes cellsIn
+cells-bytes s zero b fits = refl
+cells-bytes s (suc k) b fits =
+    let more : cellLength * suc k ≡ cellLength * k + cellLength = omega arith in
+    let from : cellLength * suc k ≡ cellLength + cellLength * k = omega arith in
+    ap₂ (λ (x y : List ℕ). x ++ y) (cells-bytes s k b (omega arith)) (cell-bytes s (suc k) b (omega arith) ∙ ap (λ (m : ℕ). take cellLength (drop m s)) from)
+    ∙ (rw (more, take-add (cellLength * k) cellLength (drop cellLength s), drop-drop (cellLength * k) cellLength s))
 
 -- ---- the stored cursor
 

@@ -7,7 +7,7 @@ use lib.ListN.{length, take, drop, replicate, length-take, length-drop}
 use denote.Ref.{now}
 use Rattle.forest.specs.Walk.{cursorWords}
 use Rattle.cursor.specs.Settled.{cursorLength, clearedPast}
-use Rattle.cursor.proofs.Settles.{clear-part}
+use Rattle.cursor.proofs.Stores.{clear-part}
 use borrow.Author.Needs.{needs}
 use Rattle.cursor.proofs.clear_past.Statement.{statement}
 use Rattle.cursor.proofs.clear_past.Tie as tie
