@@ -63,7 +63,7 @@ pub record Held (s : List ℕ) (n start : ℕ) (t : List ℕ) : Type 0 where
   pub same : (k : ℕ) → k < n → ruleIn t k ≡ rule (rulesOf s) k
   pub room : 64 * n ≤ length t
 
-rules-first : (s : List ℕ) (n start : ℕ) → Plan mostRules s n start → rulesIn (recordsFrom s (length s - trailerLength - recordLength * n) n) ≡ rulesOf s
+pub rules-first : (s : List ℕ) (n start : ℕ) → Plan mostRules s n start → rulesIn (recordsFrom s (length s - trailerLength - recordLength * n) n) ≡ rulesOf s
 unfolding rulesOf
 rules-first s n start p = rw (← (plan-first mostRules s n start p), ← (plan-records mostRules s n start p))
 

@@ -2,7 +2,7 @@
 -- answers and the cursor are those of the walker on cells. Assumes nothing.
 use Prim.Native.Nat.{ℕ, zero, suc, _<_}
 use mathlib.Core.Path.{_≡_, refl, sym, ap, _∙_, subst}
-use mathlib.Core.Bool.{Bool, true, false, cond}
+use mathlib.Core.Bool.{Bool, true, false, cond, true≢false}
 use mathlib.Core.List.{List, [], _∷_, map}
 use mathlib.Core.Option.{Option, none, some}
 use lib.ListN.{length}
@@ -27,7 +27,8 @@ use Rattle.model.specs.Walk as model
 use Rattle.model.proofs.Rules.{facts-agree}
 use Rattle.model.proofs.Walk.{Same}
 use Rattle.model.proofs.Outcome.{Found, accepted-path, refused-path, call-answers, call-cells}
-use Rattle.walk.proofs.Valid.{Valid, good, fit}
+use Rattle.walk.specs.Standing.{Valid, placed}
+use Rattle.walk.proofs.Valid.{good, fit}
 
 module _ {R : List Rule} {rank : ℕ → ℕ} (S : Sound R rank) {r : ℕ} (C : Closed R r) where
   -- a place of the walked rule's forest: its path and the walker's node there
@@ -43,18 +44,18 @@ module _ {R : List Rule} {rank : ℕ → ℕ} (S : Sound R rank) {r : ℕ} (C : 
   unfolding placeJudged
   place-not-headed n cursor h = rw h
 
-  pub place-above : (n : ℕ) (cursor : List ℕ) → headed n cursor ≡ true → usedCells cursor ≡ 0 → placeJudged R n r cursor ≡ Begun.at n r []
+  place-above : (n : ℕ) (cursor : List ℕ) → headed n cursor ≡ true → usedCells cursor ≡ 0 → placeJudged R n r cursor ≡ Begun.at n r []
   unfolding placeJudged stored cellsIn pathOf
   place-above n cursor h u = rw (h, u)
 
-  pub stood-above : (p : ℕ) → Stood [] (p, [])
+  stood-above : (p : ℕ) → Stood [] (p, [])
   unfolding labelAt
   stood-above p = record { named = Named.above; same = Same.above }
 
   numbered : ruleNumber (expression R r) ≡ r
   numbered = ruleNumber-expression R r
 
-  pub place-accepted : (n : ℕ) (cursor : List ℕ) (k : ℕ) → headed n cursor ≡ true → usedCells cursor ≡ suc k → accepts (factsOf R) r (cellsIn cursor (suc k)) ≡ true
+  place-accepted : (n : ℕ) (cursor : List ℕ) (k : ℕ) → headed n cursor ≡ true → usedCells cursor ≡ suc k → accepts (factsOf R) r (cellsIn cursor (suc k)) ≡ true
       → (p : Path) × Stood p (standing (factsOf R) (cellsIn cursor (suc k)), cellsIn cursor (suc k)) × (placeJudged R n r cursor ≡ Begun.at n r p)
   unfolding placeJudged stored placedForest
   place-accepted n cursor k h u q =
@@ -62,11 +63,28 @@ module _ {R : List Rule} {rank : ℕ → ℕ} (S : Sound R rank) {r : ℕ} (C : 
       accepted-path (expression R r) (good S C (factsOf R) (λ k l. facts-agree R k)) (factsOf R) (fit S C (factsOf R) (λ k l. facts-agree R k)) (cellsIn cursor (suc k)) (rw numbered q) in
       (f .path, record { named = f .named; same = f .same }, rw (h, u, f .found))
 
-  pub place-refused : (n : ℕ) (cursor : List ℕ) (k : ℕ) → headed n cursor ≡ true → usedCells cursor ≡ suc k → accepts (factsOf R) r (cellsIn cursor (suc k)) ≡ false
+  place-refused : (n : ℕ) (cursor : List ℕ) (k : ℕ) → headed n cursor ≡ true → usedCells cursor ≡ suc k → accepts (factsOf R) r (cellsIn cursor (suc k)) ≡ false
       → placeJudged R n r cursor ≡ Begun.refused Refusal.Place
   unfolding placeJudged stored placedForest cellsIn
   place-refused n cursor k h u q =
       rw (h, u, refused-path (expression R r) (good S C (factsOf R) (λ k l. facts-agree R k)) (factsOf R) (fit S C (factsOf R) (λ k l. facts-agree R k)) (cellAt cursor (suc k)) (cellsIn cursor k) (rw numbered q))
+
+  -- both by the test of the stored cells, above the forest or at a node
+  begins-at : (n : ℕ) (cursor : List ℕ) (k : ℕ) → headed n cursor ≡ true → usedCells cursor ≡ k → placed (factsOf R) r (cellsIn cursor k) ≡ true
+      → (p : Path) × Stood p (standing (factsOf R) (cellsIn cursor k), cellsIn cursor k) × (placeJudged R n r cursor ≡ Begun.at n r p)
+  unfolding placed cellsIn
+  begins-at n cursor zero h u q = ([], stood-above (standing (factsOf R) []), place-above n cursor h u)
+  begins-at n cursor (suc k) h u q = place-accepted n cursor k h u q
+
+  pub begins : (n : ℕ) (cursor : List ℕ) (k : ℕ) → headed n cursor ≡ true → k ≡ usedCells cursor → placed (factsOf R) r (cellsIn cursor k) ≡ true
+      → (p : Path) × Stood p (standing (factsOf R) (cellsIn cursor k), cellsIn cursor k) × (placeJudged R n r cursor ≡ Begun.at n r p)
+  begins n cursor k h u q = begins-at n cursor k h (sym u) q
+
+  pub begins-not : (n : ℕ) (cursor : List ℕ) (k : ℕ) → headed n cursor ≡ true → k ≡ usedCells cursor → placed (factsOf R) r (cellsIn cursor k) ≡ false
+      → placeJudged R n r cursor ≡ Begun.refused Refusal.Place
+  unfolding placed cellsIn
+  begins-not n cursor zero h u q = absurd (true≢false q)
+  begins-not n cursor (suc k) h u q = place-refused n cursor k h (sym u) q
 
   -- what is answered and left from a place
   labels-forest : relabel label (placedOf (expression R r)) ≡ forest R r

@@ -1,6 +1,10 @@
 pub mod Valid
-pub mod Run
 pub mod Begin
 pub mod Bytes
 pub mod Inside
 pub mod Holding
+pub mod Standing
+pub mod Letters
+pub mod Places
+pub mod Filling
+pub mod Outcome

@@ -26,11 +26,7 @@ use Rattle.model.proofs.Fit.{Fit}
 use Rattle.model.proofs.Rules.{Agrees, rules-fit, rules-inside}
 use Rattle.model.proofs.Ranged.{Every, Numbers, node-number, cell-numbers}
 use Rattle.model.proofs.Walk.{movedAt, Same, moved-same}
-
--- the node is that of some position, or above the forest
-pub record Valid (R : List Rule) (r : ℕ) (n : Node) : Type 0 where
-  pub position : Option Located
-  pub same : Same (expression R r) position n
+use Rattle.walk.specs.Standing.{Valid}
 
 module _ {R : List Rule} {rank : ℕ → ℕ} (S : Sound R rank) {r : ℕ} (C : Closed R r) (F : Facts) (agrees : (k : ℕ) → k < length R → Agrees F R k) where
   pub good : Good Sort.row (expression R r)

@@ -1,9 +1,28 @@
 // Walk (document 01).
+use cursor::Cell;
+use cursor::Landing;
+use cursor::Outcome;
+use forest::Walked;
+use plan::Checked;
+use plan::Refusal;
+use tables::Row;
 use tables::Side;
 ghost use mathlib.Core.Path.{_≡_};
+ghost use Prim.Native.Nat.{ℕ, _*_, _≤_};
+ghost use mathlib.Core.List.{List, []};
+ghost use lib.ListN.{length, take};
+ghost use Rattle.plan.specs.declared.Checked.{Checked};
+ghost use Rattle.plan.specs.Check.{checked, rulesOf};
 ghost use Rattle.forest.specs.Letter.{letterOf};
-ghost use Rattle.forest.specs.Walk.{firstOther};
-ghost use Rattle.walk.specs.Letters.{readAs, foundAt};
+ghost use Rattle.forest.specs.Walk.{firstOther, enoughLent, cellsIn, placeJudged, lettersJudged};
+ghost use Rattle.model.specs.Walk.{move};
+ghost use Rattle.demand.specs.Calls.{walkOf};
+ghost use Rattle.tables.specs.Rows.{rowLength, Within};
+ghost use Rattle.tables.specs.Table.{known};
+ghost use Rattle.cursor.specs.Moves.{outcome, Lies};
+ghost use Rattle.walk.specs.Letters.{readAs, foundAt, moveOf};
+ghost use Rattle.walk.specs.Standing.{rulesKept, Table, Stands, Stepped, Ran, Answerable, placed};
+ghost use Rattle.walk.specs.Calls.{Filled, Travels, Walks, Planned, Lendable, lends, leaves};
 
 // A letter as a move over a side.
 enum Letter {
@@ -55,4 +74,204 @@ fn first_other(letters: &[u8]) -> Found
         i += 1;
     }
     Found::Nothing
+}
+
+// Where a letter leads from above the forest: only a and z lead anywhere.
+fn from_above(table: &[u8], r: u16, letter: Letter) -> Outcome
+    requires { ⌜ Table r (now table) ⌝ }
+    ensures { λ o. ⌜ ((s : List ℕ) (p : ℕ) → outcome o s ≡ move (known (now (table .entry))) r (moveOf letter) (p, [])) ⌝ }
+{
+    match letter {
+        Letter::Root(side) => cursor::root(table, side, r),
+        Letter::Child(_) => Outcome::Nowhere,
+        Letter::Sibling(_) => Outcome::Nowhere,
+        Letter::Parent => Outcome::Nowhere,
+        Letter::Stay => Outcome::Nowhere,
+    }
+}
+
+// Where a letter leads from k cells and rule p; r is the walked rule.
+fn decide(table: &[u8], cursor: &[u8], k: usize, p: u16, r: u16, letter: Letter) -> Outcome
+    requires { ⌜ Stands r (now table) (now cursor) k p ⌝ }
+    ensures { λ o. ⌜ outcome o (now (cursor .entry)) ≡ move (known (now (table .entry))) r (moveOf letter) (p, cellsIn (now (cursor .entry)) k) ⌝ }
+{
+    if k == 0 {
+        return from_above(table, r, letter);
+    }
+    match letter {
+        Letter::Root(side) => cursor::root(table, side, r),
+        Letter::Child(side) => cursor::child(table, cursor, k, p, side),
+        Letter::Sibling(side) => cursor::sibling(table, cursor, k, p, side),
+        Letter::Parent => cursor::parent(table, cursor, k, p),
+        Letter::Stay => cursor::stay(k, p),
+    }
+}
+
+// A letter from k cells and rule p: decided on the cells as they are, and then written.
+fn step(table: &[u8], cursor: &mut [u8], k: usize, p: u16, r: u16, letter: Letter) -> Landing
+    requires { ⌜ Stands r (now table) (now cursor) k p ⌝ }
+    ensures { λ x. ⌜ Stepped r (now (table .entry)) (moveOf letter) k p (now (cursor .entry)) (now (cursor .exit)) x ⌝ }
+{
+    let o = decide(table, cursor, k, p, r, letter);
+    cursor::settle(table, cursor, k, p, o)
+}
+
+// Letters in turn from k cells and rule p, a word of answers each; gives the number of cells that they lead to.
+fn run(
+    table: &[u8],
+    cursor: &mut [u8],
+    letters: &[u8],
+    answers: &mut [u8],
+    r: u16,
+    k: usize,
+    p: u16,
+) -> usize
+    requires { ⌜ Stands r (now table) (now cursor) k p × Answerable (now letters) (now answers) ⌝ }
+    ensures { λ x. ⌜ Ran r (now (table .entry)) (now (letters .entry)) k p (now (cursor .entry)) (now (cursor .exit)) (now (answers .entry)) (now (answers .exit)) x ⌝ }
+{
+    let mut used = k;
+    let mut rule = p;
+    let mut i: usize = 0;
+    while i < letters.len() {
+        let Read::Move(letter) = letter_of(letters[i]) else {
+            return used;
+        };
+        let landing = step(table, cursor, used, rule, r, letter);
+        words::write16(answers, 2 * i, landing.answer as u16);
+        used = landing.used;
+        rule = landing.rule;
+        i += 1;
+    }
+    used
+}
+
+// Whether k cells are a place of rule r's forest: above it, or a node's.
+fn placed(table: &[u8], cursor: &[u8], k: usize, r: u16) -> bool
+    requires { ⌜ Table r (now table) × Lies (now cursor) k ⌝ }
+    ensures { λ b. ⌜ b ≡ placed (known (now (table .entry))) r (cellsIn (now (cursor .entry)) k) ⌝ }
+{
+    if k == 0 {
+        return true;
+    }
+    cursor::accepts(table, cursor, k, r)
+}
+
+// Letters from the stored place, on the table of the plan's rules: a place that is none is turned down.
+fn travel(
+    table: &[u8],
+    cursor: &mut [u8],
+    letters: &[u8],
+    answers: &mut [u8],
+    n: u16,
+    r: u16,
+) -> Walked
+    requires { ⌜ Travels r n (now table) (now cursor) (now letters) (now answers) ⌝ }
+    ensures { λ x. ⌜ Walks (rulesKept (now (table .entry))) (placeJudged (rulesKept (now (table .entry))) n r (now (cursor .entry))) (now (letters .entry)) (now (cursor .entry)) (now (cursor .exit)) (now (answers .entry)) (now (answers .exit)) x ⌝ }
+{
+    if !cursor::headed(cursor, n) {
+        return Walked::Refused(Refusal::Place);
+    }
+    let k = Cell::read(cursor, 0).kind as usize;
+    if !placed(table, cursor, k, r) {
+        return Walked::Refused(Refusal::Place);
+    }
+    let p = cursor::standing(table, cursor, k);
+    let used = run(table, cursor, letters, answers, r, k, p);
+    cursor::store(cursor, used, n);
+    Walked::Accepted
+}
+
+// The table of an accepted plan's rules, in the first rows of the work.
+fn fill(plan: &[u8], work: &mut [u8], n: u16)
+    requires { ⌜ Planned (now plan) n × (64 * n ≤ length (now work)) ⌝ }
+    ensures { λ x. ⌜ Filled (rulesOf (now (plan .entry))) (take (rowLength * n) (now (work .exit))) × Within 0 (64 * n) (now (work .entry)) (now (work .exit)) ⌝ }
+{
+    counts::load_rules(plan, work, n);
+    tables::build(work, n);
+}
+
+// Letters on an accepted plan, past 8 and 9.
+fn walk_letters(
+    plan: &[u8],
+    work: &mut [u8],
+    cursor: &mut [u8],
+    letters: &[u8],
+    answers: &mut [u8],
+    n: u16,
+    start: u16,
+) -> Walked
+    requires { ⌜ Lendable (now plan) n start (now work) (now cursor) (now letters) (now answers) ⌝ }
+    ensures { λ x. ⌜ Walks (rulesOf (now (plan .entry))) (placeJudged (rulesOf (now (plan .entry))) n start (now (cursor .entry))) (now (letters .entry)) (now (cursor .entry)) (now (cursor .exit)) (now (answers .entry)) (now (answers .exit)) x × Within 0 (64 * n) (now (work .entry)) (now (work .exit)) ⌝ }
+{
+    fill(plan, work, n);
+    let table = &work[..Row::LENGTH * (n as usize)];
+    travel(table, cursor, letters, answers, n, start)
+}
+
+// Bytes on an accepted plan, past 8: the first that is no letter is turned down.
+fn walk_bytes(
+    plan: &[u8],
+    work: &mut [u8],
+    cursor: &mut [u8],
+    letters: &[u8],
+    answers: &mut [u8],
+    n: u16,
+    start: u16,
+) -> Walked
+    requires { ⌜ Lendable (now plan) n start (now work) (now cursor) (now letters) (now answers) ⌝ }
+    ensures { λ x. ⌜ Walks (rulesOf (now (plan .entry))) (lettersJudged (firstOther (now (letters .entry)) 0) (placeJudged (rulesOf (now (plan .entry))) n start (now (cursor .entry)))) (now (letters .entry)) (now (cursor .entry)) (now (cursor .exit)) (now (answers .entry)) (now (answers .exit)) x × Within 0 (64 * n) (now (work .entry)) (now (work .exit)) ⌝ }
+{
+    match first_other(letters) {
+        Found::At(i) => Walked::Refused(Refusal::Letter(i)),
+        Found::Nothing => walk_letters(plan, work, cursor, letters, answers, n, start),
+    }
+}
+
+// Whether n rules have enough of work and cursor, and each letter a word of answers.
+fn enough_lent(work: &[u8], cursor: &[u8], letters: &[u8], answers: &[u8], n: u16) -> bool
+    ensures { λ b. ⌜ b ≡ enoughLent (now (work .entry)) (now (cursor .entry)) (now (letters .entry)) (now (answers .entry)) n ⌝ }
+{
+    counts::enough_work(work, n)
+        & ((Cell::WORDS * Cell::A_RULE * (n as usize + 1) <= words::word_count(cursor))
+            & (letters.len() <= words::word_count(answers)))
+}
+
+// Walk on an accepted plan: what is lent is tested, the work is filled and cleared.
+fn walk_rules(
+    plan: &[u8],
+    work: &mut [u8],
+    cursor: &mut [u8],
+    letters: &[u8],
+    answers: &mut [u8],
+    n: u16,
+    start: u16,
+) -> Walked
+    requires { ⌜ checked (now plan) ≡ Checked.Accepted n start ⌝ }
+    ensures { λ x. ⌜ leaves x (now (work .exit)) (now (cursor .exit)) (now (answers .exit)) ≡ walkOf (lends (now (plan .entry)) (now (work .entry)) (now (cursor .entry)) (now (letters .entry)) (now (answers .entry))) ⌝ }
+{
+    if !enough_lent(work, cursor, letters, answers, n) {
+        return Walked::Refused(Refusal::Lent);
+    }
+    let answer = walk_bytes(plan, work, cursor, letters, answers, n, start);
+    counts::clear_work(work, n);
+    answer
+}
+
+// Walk a plan's forest by letters from the place that the cursor holds: the answers are written and the place is stored, or why it
+// is turned down.
+pub fn walk(
+    plan: &[u8],
+    work: &mut [u8],
+    cursor: &mut [u8],
+    letters: &[u8],
+    answers: &mut [u8],
+) -> Walked
+    ensures { λ x. ⌜ leaves x (now (work .exit)) (now (cursor .exit)) (now (answers .exit)) ≡ walkOf (lends (now (plan .entry)) (now (work .entry)) (now (cursor .entry)) (now (letters .entry)) (now (answers .entry))) ⌝ }
+{
+    match plan::check(plan) {
+        Checked::Accepted { n, start } => {
+            walk_rules(plan, work, cursor, letters, answers, n, start)
+        }
+        Checked::Refused(refusal) => Walked::Refused(refusal),
+    }
 }

@@ -1,0 +1,68 @@
+-- Walk's answer and what it leaves, by the ways through its code: turned down by check, for what is lent, or past 8, after which the
+-- work is cleared. Assumes nothing.
+use Prim.Native.Nat.{ℕ, _+_, _-_, _*_, _/_, _≤_}
+use native.Mathlib.Omega.{arith}
+use mathlib.Core.Path.{_≡_, refl, sym, ap, subst, _∙_}
+use mathlib.Core.Bool.{Bool, true, false}
+use mathlib.Core.List.{List, _++_}
+use mathlib.Core.Option.{Option, none, some}
+use lib.ListN.{length}
+use lib.Dec.{leb}
+use borrow.Author.Tests.{leb-true}
+use Rattle.words.specs.Number.{wordCount}
+use Rattle.plan.specs.declared.Refusal.{Refusal}
+use Rattle.plan.specs.declared.Checked.{Checked}
+use Rattle.plan.specs.Rule.{wordLength}
+use Rattle.plan.specs.Check.{checked, rulesOf}
+use Rattle.forest.specs.declared.Walked.{Walked}
+use Rattle.forest.specs.Outcome.{workWords, enoughWork, cleared, workAfter}
+use Rattle.forest.specs.Walk.{cursorWords, enoughLent, firstOther, Begun, placeJudged, lettersJudged, begunFrom, begun, walked, cursorAfter, answersAfter, walkedWork}
+use Rattle.model.proofs.Accepted.{first-holds, second-holds}
+use Rattle.demand.specs.Calls.{Left, walkOf}
+use Rattle.tables.specs.Rows.{Within}
+use Rattle.counts.proofs.Work.{enough-room, work-bytes, cleared-same}
+use Rattle.walk.specs.Standing.{Answerable}
+use Rattle.walk.specs.Calls.{lends, leaves, Lendable, Walks}
+
+module _ (s work cursor letters given : List ℕ) where
+  pub refused : (why : Refusal) → checked s ≡ Checked.Refused why → leaves (Walked.Refused why) work cursor given ≡ walkOf (lends s work cursor letters given)
+  unfolding walkOf begun begunFrom walked cursorAfter answersAfter walkedWork workAfter
+  refused why q = rw q
+
+  module _ (n start : ℕ) (q : checked s ≡ Checked.Accepted n start) where
+    pub lent : enoughLent work cursor letters given n ≡ false → leaves (Walked.Refused Refusal.Lent) work cursor given ≡ walkOf (lends s work cursor letters given)
+    unfolding walkOf begun begunFrom walked cursorAfter answersAfter walkedWork workAfter
+    lent e = rw (q, e)
+
+    -- what 8 gives
+    pub lendable : enoughLent work cursor letters given n ≡ true → Lendable s n start work cursor letters given
+    unfolding enoughLent cursorWords
+    lendable e =
+        let worked = first-holds (enoughWork n work) _ e in
+        let rest = second-holds (enoughWork n work) _ e in
+        let far : 16 * (n + 1) ≤ length cursor / 2 = leb-true _ _ (first-holds (leb (cursorWords n) (wordCount cursor)) _ rest) in
+        let all : length letters ≤ length given / 2 = leb-true _ _ (second-holds (leb (cursorWords n) (wordCount cursor)) _ rest) in
+        record { accepted = q; worked = enough-room n work worked; room = omega arith; answerable = omega arith }
+
+    begins : enoughLent work cursor letters given n ≡ true
+        → begun s work cursor letters given ≡ lettersJudged (firstOther letters 0) (placeJudged (rulesOf s) n start cursor)
+    unfolding begun begunFrom
+    begins e = rw (q, e)
+
+    left-work : enoughLent work cursor letters given n ≡ true → {t : List ℕ} → Within 0 (64 * n) work t → cleared (wordLength * workWords n) t ≡ walkedWork s work cursor letters given
+    unfolding walkedWork workAfter
+    left-work e w = rw (q, e, work-bytes n) (cleared-same w)
+
+    -- past 8
+    pub finished : {x : Walked} {t u cursor′ given′ : List ℕ} → enoughLent work cursor letters given n ≡ true
+        → Walks (rulesOf s) (lettersJudged (firstOther letters 0) (placeJudged (rulesOf s) n start cursor)) letters cursor cursor′ given given′ x
+        → Within 0 (64 * n) work t → u ≡ cleared (wordLength * workWords n) t
+        → leaves x u cursor′ given′ ≡ walkOf (lends s work cursor letters given)
+    unfolding walkOf
+    finished {x} {t} {u} {cursor′} {given′} e w f p =
+        let b = sym (begins e) in
+        let answer : x ≡ walked (begun s work cursor letters given) = w .answer ∙ ap walked b in
+        let worked : u ≡ walkedWork s work cursor letters given = p ∙ left-work e f in
+        let place : cursor′ ≡ cursorAfter (rulesOf s) (begun s work cursor letters given) letters cursor = w .cursor-left ∙ ap (λ (y : Begun). cursorAfter (rulesOf s) y letters cursor) b in
+        let words : given′ ≡ answersAfter (rulesOf s) (begun s work cursor letters given) letters given = w .answers-left ∙ ap (λ (y : Begun). answersAfter (rulesOf s) y letters given) b in
+        λ i. record { answer = answer i; work = worked i; cursor = place i; answers = words i }

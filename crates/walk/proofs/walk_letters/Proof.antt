@@ -1,0 +1,47 @@
+-- The table is filled in the first rows of the work, and walked on there. Assumes nothing.
+use mathlib.Core.Path.{sym}
+use Rattle.walk.proofs.Filling.{planned, prefix-long, travels, walks-on}
+use borrow.Author.Needs.{needs}
+use Rattle.walk.proofs.walk_letters.Statement.{statement}
+use Rattle.walk.proofs.walk_letters.Tie as tie
+
+fill-requires : tie.Need-fill-requires
+fill-requires c κs = (planned (c .before .before .before .before .before .before .pre), c .before .before .before .before .before .before .pre .worked)
+
+mul-table : tie.Need-mul-table
+mul-table c = search needs
+
+slice-reshare-prefix-table : tie.Need-slice-reshare-prefix-table
+slice-reshare-prefix-table c = search needs
+
+slice-aggregate-table : tie.Need-slice-aggregate-table
+slice-aggregate-table c = sym (prefix-long (c .before .before .before .before .before .before .before .before .before .before .pre) (c .before .before .before .fill .ensures .1))
+
+travel-requires : tie.Need-travel-requires
+travel-requires c κs = travels (c .before .before .before .before .before .before .before .before .before .before .before .before .pre) (c .before .before .before .before .before .fill .ensures .0) (prefix-long (c .before .before .before .before .before .before .before .before .before .before .before .before .pre) (c .before .before .before .before .before .fill .ensures .1))
+
+same-length : tie.Need-same-length
+same-length c = search needs
+
+same-length-2 : tie.Need-same-length-2
+same-length-2 c = search needs
+
+same-length-3 : tie.Need-same-length-3
+same-length-3 c = search needs
+
+returns : tie.Need-returns
+returns c = (walks-on (c .before .before .before .before .before .before .before .before .before .before .before .before .before .before .before .before .before .pre) (c .before .before .before .before .before .before .before .before .before .before .fill .ensures .0) (prefix-long (c .before .before .before .before .before .before .before .before .before .before .before .before .before .before .before .before .before .pre) (c .before .before .before .before .before .before .before .before .before .before .fill .ensures .1)) (c .before .before .before .before .travel .ensures), c .before .before .before .before .before .before .before .before .before .before .fill .ensures .1)
+
+pub walk-letters-spec : {M : Type 1} → statement M
+walk-letters-spec =
+    tie.close
+    (tie.spec
+    fill-requires
+    mul-table
+    slice-reshare-prefix-table
+    slice-aggregate-table
+    travel-requires
+    same-length
+    same-length-2
+    same-length-3
+    returns)
