@@ -5,6 +5,7 @@ use Rattle.plan.specs.declared.Checked.{Checked}
 use Rattle.plan.specs.declared.Written.{Written}
 use Rattle.plan.specs.Refusal.{numberOf, positionOf}
 use Rattle.forest.specs.declared.Measured.{Measured}
+use Rattle.forest.specs.declared.Walked.{Walked}
 
 -- the result
 unfoldable pub checkedResult : Checked → ℕ
@@ -19,6 +20,10 @@ unfoldable pub measuredResult : Measured → ℕ
 measuredResult (Measured.Counts t e l) = 0
 measuredResult (Measured.Refused r) = numberOf r
 
+unfoldable pub walkedResult : Walked → ℕ
+walkedResult Walked.Accepted = 0
+walkedResult (Walked.Refused r) = numberOf r
+
 -- the position: 0 when accepted
 unfoldable pub checkedPosition : Checked → ℕ
 checkedPosition (Checked.Accepted n start) = 0
@@ -31,6 +36,10 @@ writtenPosition (Written.Refused r) = positionOf r
 unfoldable pub measuredPosition : Measured → ℕ
 measuredPosition (Measured.Counts t e l) = 0
 measuredPosition (Measured.Refused r) = positionOf r
+
+unfoldable pub walkedPosition : Walked → ℕ
+walkedPosition Walked.Accepted = 0
+walkedPosition (Walked.Refused r) = positionOf r
 
 -- the values, over what stood there
 unfoldable pub countAfter : Checked → ℕ → ℕ

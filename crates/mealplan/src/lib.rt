@@ -1,13 +1,16 @@
 // The C interface: each function takes byte slices and numbers apart for one of the operations and gives its answer as numbers.
 // include/mealplan.h says the same to a C programmer.
 use forest::Measured;
+use forest::Walked;
 use plan::Checked;
 use plan::Written;
 ghost use mathlib.Core.Path.{_≡_};
 ghost use Rattle.plan.specs.Check.{checked};
 ghost use Rattle.seal.specs.Seal.{sealed, sealedOutput, unsealed, unsealedOutput};
 ghost use Rattle.forest.specs.Outcome.{measured, measuredWork, spread, spreadOutput};
-ghost use Rattle.mealplan.specs.Interface.{measuredResult, measuredPosition, treesAfter, entriesAfter, levelsAfter, checkedResult, writtenResult, checkedPosition, writtenPosition, countAfter, startAfter, lengthAfter};
+ghost use Rattle.demand.specs.Calls.{walkOf};
+ghost use Rattle.walk.specs.Calls.{lends};
+ghost use Rattle.mealplan.specs.Interface.{measuredResult, measuredPosition, treesAfter, entriesAfter, levelsAfter, checkedResult, writtenResult, checkedPosition, writtenPosition, countAfter, startAfter, lengthAfter, walkedResult, walkedPosition};
 
 // What a checked answer leaves behind the pointers, and the result.
 fn give_checked(answer: Checked, n: &mut u16, start: &mut u16, position: &mut u64) -> u32
@@ -145,4 +148,35 @@ pub extern "C" fn plan_spread(
     ensures { λ r. ⌜ (r ≡ writtenResult (spread (now (plan .entry)) (now (work .entry)) (now (out .entry)))) × (now (work .exit) ≡ measuredWork (now (plan .entry)) (now (work .entry))) × (now (out .exit) ≡ spreadOutput (now (plan .entry)) (now (work .entry)) (now (out .entry))) × (now (written .exit) ≡ lengthAfter (spread (now (plan .entry)) (now (work .entry)) (now (out .entry))) (now (written .entry))) × (now (position .exit) ≡ writtenPosition (spread (now (plan .entry)) (now (work .entry)) (now (out .entry)))) ⌝ }
 {
     give_written(spread::spread(plan, work, out), written, position)
+}
+
+// What a walked answer leaves behind the pointer, and the result.
+fn give_walked(answer: Walked, position: &mut u64) -> u32
+    ensures { λ r. ⌜ (r ≡ walkedResult answer) × (now (position .exit) ≡ walkedPosition answer) ⌝ }
+{
+    match answer {
+        Walked::Accepted => {
+            *position = 0;
+            0
+        }
+        Walked::Refused(refusal) => {
+            *position = refusal.position();
+            refusal.number()
+        }
+    }
+}
+
+// Walk.
+#[no_mangle]
+pub extern "C" fn plan_walk(
+    plan: &[u8],
+    work: &mut [u8],
+    cursor: &mut [u8],
+    letters: &[u8],
+    answers: &mut [u8],
+    position: &mut u64,
+) -> u32
+    ensures { λ r. ⌜ (r ≡ walkedResult ((walkOf (lends (now (plan .entry)) (now (work .entry)) (now (cursor .entry)) (now (letters .entry)) (now (answers .entry)))) .answer)) × (now (work .exit) ≡ (walkOf (lends (now (plan .entry)) (now (work .entry)) (now (cursor .entry)) (now (letters .entry)) (now (answers .entry)))) .work) × (now (cursor .exit) ≡ (walkOf (lends (now (plan .entry)) (now (work .entry)) (now (cursor .entry)) (now (letters .entry)) (now (answers .entry)))) .cursor) × (now (answers .exit) ≡ (walkOf (lends (now (plan .entry)) (now (work .entry)) (now (cursor .entry)) (now (letters .entry)) (now (answers .entry)))) .answers) × (now (position .exit) ≡ walkedPosition ((walkOf (lends (now (plan .entry)) (now (work .entry)) (now (cursor .entry)) (now (letters .entry)) (now (answers .entry)))) .answer)) ⌝ }
+{
+    give_walked(walk::walk(plan, work, cursor, letters, answers), position)
 }
