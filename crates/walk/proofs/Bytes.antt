@@ -1,5 +1,4 @@
--- Letters among bytes: a byte that is none of the eight is no letter, and the first byte that is none is found from each place
--- on by looking at the byte there. Assumes nothing.
+-- The first byte that is no letter is found from each place on by looking at the byte there. Assumes nothing.
 use Prim.Native.Nat.{ℕ, suc, _+_, _≤_, _<_}
 use native.Mathlib.Numerals.{add-one}
 use mathlib.Core.Path.{_≡_, refl, sym, ap, _∙_}
@@ -7,14 +6,8 @@ use mathlib.Core.List.{List, [], _∷_}
 use mathlib.Core.Option.{Option, none, some}
 use lib.ListN.{length, getD, drop, drop-of-length-le}
 use lib.Seq.{drop-cons}
-use borrow.Author.Tests.{ne-eqb}
 use Rattle.forest.specs.Letter.{Letter, letterOf}
 use Rattle.forest.specs.Walk.{firstOther, otherAt}
-
-pub no-letter : (b : ℕ) → (b ≡ 97 → ⊥) → (b ≡ 122 → ⊥) → (b ≡ 102 → ⊥) → (b ≡ 108 → ⊥) → (b ≡ 110 → ⊥) → (b ≡ 112 → ⊥) → (b ≡ 117 → ⊥) → (b ≡ 115 → ⊥) → letterOf b ≡ none
-unfolding letterOf
-no-letter b a z f l n p u s =
-    simp (ne-eqb b 97 a, ne-eqb b 122 z, ne-eqb b 102 f, ne-eqb b 108 l, ne-eqb b 110 n, ne-eqb b 112 p, ne-eqb b 117 u, ne-eqb b 115 s)
 
 from-here : (s : List ℕ) (i : ℕ) → i < length s → firstOther (drop i s) i ≡ otherAt (letterOf (getD s i 0)) i (firstOther (drop (suc i) s) (suc i))
 unfolding firstOther

@@ -1,10 +1,5 @@
-pub mod Valid
 pub mod Begin
 pub mod Bytes
-pub mod Inside
-pub mod Holding
-pub mod Standing
-pub mod Letters
 pub mod Places
 pub mod Filling
 pub mod Outcome

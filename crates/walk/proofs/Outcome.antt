@@ -21,7 +21,7 @@ use Rattle.model.proofs.Accepted.{first-holds, second-holds}
 use Rattle.demand.specs.Calls.{Left, walkOf}
 use Rattle.tables.specs.Rows.{Within}
 use Rattle.counts.proofs.Work.{enough-room, work-bytes, cleared-same}
-use Rattle.walk.specs.Standing.{Answerable}
+use Rattle.letters.specs.Standing.{Answerable}
 use Rattle.walk.specs.Calls.{lends, leaves, Lendable, Walks}
 
 module _ (s work cursor letters given : List ℕ) where

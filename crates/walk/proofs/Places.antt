@@ -1,6 +1,6 @@
 -- A call on the table of a plan's rules: the stored place is turned down, or the letters are taken from it and the place that they
 -- lead to is stored. Assumes nothing.
-use Prim.Native.Nat.{ℕ, _+_, _*_, _≤_}
+use Prim.Native.Nat.{ℕ, _+_, _*_, _≤_, _<_}
 use native.Mathlib.Omega.{arith}
 use mathlib.Core.Path.{_≡_, refl, sym, ap, subst, _∙_}
 use mathlib.Core.Bool.{Bool, true, false, _&&_}
@@ -19,6 +19,7 @@ use Rattle.forest.specs.Walk.{cellLength, cellWords, cursorWords, cellAt, cells
 use Rattle.forest.proofs.Stored.{stored-parts}
 use Rattle.model.specs.Facts.{Facts, factsOf}
 use Rattle.model.specs.Model.{Node, standing}
+use Rattle.model.specs.Stored.{accepts}
 use Rattle.model.specs.Walk.{answers, after}
 use Rattle.model.proofs.Accepted.{second-holds}
 use Rattle.tables.specs.Rows.{Within}
@@ -27,11 +28,20 @@ use Rattle.cursor.specs.declared.Cell.{Cell as Words}
 use Rattle.cursor.specs.Cells.{cell}
 use Rattle.cursor.specs.Moves.{Lies}
 use Rattle.cursor.specs.Settled.{cursorLength}
-use Rattle.cursor.proofs.Stack.{top-kind}
+use Rattle.cursor.proofs.Stack.{cells-none, cells-top, top-kind}
 use Rattle.cursor.proofs.Writes.{length-cells}
-use Rattle.walk.specs.Standing.{Valid, rulesKept, Table, Stands, Ran, placed}
-use Rattle.walk.specs.Calls.{Travels, Walks}
+use Rattle.letters.specs.Standing.{Valid, rulesKept, Table, Stands, Ran}
+use Rattle.walk.specs.Calls.{placed, Travels, Walks}
 use Rattle.walk.proofs.Begin.{Stood, stood-valid, begins, begins-not, place-not-headed, answers-left, cursor-left}
+
+-- cells that are a place
+pub placed-above : (F : Facts) (r : ℕ) (s : List ℕ) (k : ℕ) → k ≡ 0 → true ≡ placed F r (cellsIn s k)
+unfolding placed
+placed-above F r s k e = rw (cells-none s k e)
+
+pub placed-node : (F : Facts) (r : ℕ) (s : List ℕ) (k : ℕ) → 0 < k → accepts F r (cellsIn s k) ≡ placed F r (cellsIn s k)
+unfolding placed
+placed-node F r s k h = rw (cells-top s k h)
 
 -- a call that is turned down leaves all as it was
 pub refused-walks : (R : List Rule) {b : Begun} (why : Refusal) (letters cursor given : List ℕ) → b ≡ Begun.refused why → Walks R b letters cursor cursor given given (Walked.Refused why)

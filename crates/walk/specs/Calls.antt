@@ -1,18 +1,33 @@
 -- What is asked and kept below walk's entry: the table filled, the letters judged, and what the call answers and leaves.
 use Prim.Native.Nat.{ℕ, _*_, _≤_}
 use mathlib.Core.Path.{_≡_}
-use mathlib.Core.List.{List}
+use mathlib.Core.Bool.{Bool, true}
+use mathlib.Core.List.{List, [], _∷_}
+use mathlib.Core.Option.{Option, none, some}
 use lib.ListN.{length}
 use Rattle.plan.specs.declared.Rule.{Rule}
 use Rattle.plan.specs.declared.Checked.{Checked}
 use Rattle.plan.specs.Check.{checked}
 use Rattle.forest.specs.declared.Walked.{Walked}
+use Rattle.forest.specs.Place.{Cells}
 use Rattle.forest.specs.Walk.{Begun, walked, cursorAfter, answersAfter}
 use Rattle.demand.specs.Calls.{Lent, Left}
-use Rattle.model.specs.Facts.{factsOf}
+use Rattle.model.specs.Facts.{Facts, factsOf}
+use Rattle.model.specs.Stored.{accepts}
 use Rattle.tables.specs.Table.{rows, known, Climbs}
 use Rattle.cursor.specs.Settled.{cursorLength}
-use Rattle.walk.specs.Standing.{rulesKept, Table, Answerable}
+use Rattle.walk.specs.declared.Found.{Found}
+use Rattle.letters.specs.Standing.{rulesKept, Table, Answerable}
+
+-- where the first byte that is no letter stands
+unfoldable pub foundAt : Found → Option ℕ
+foundAt (Found.At i) = some i
+foundAt Found.Nothing = none
+
+-- cells are a place: above the forest, or a node's
+unfoldable pub placed : Facts → ℕ → Cells → Bool
+placed F r [] = true
+placed F r (c ∷ cs) = accepts F r (c ∷ cs)
 
 -- what a call is lent, and what it answers and leaves
 abbrev pub lends : List ℕ → List ℕ → List ℕ → List ℕ → List ℕ → Lent

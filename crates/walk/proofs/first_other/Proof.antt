@@ -6,7 +6,8 @@ use lib.ListN.{length, drop}
 use borrow.Author.Needs.{needs}
 use Rattle.forest.specs.Walk.{firstOther}
 use denote.Ref.{now}
-use Rattle.walk.specs.Letters.{readAs, foundAt}
+use Rattle.letters.specs.Letters.{readAs}
+use Rattle.walk.specs.Calls.{foundAt}
 use Rattle.walk.proofs.Bytes.{other-here, other-later, other-none}
 use Rattle.walk.proofs.first_other.Statement.{statement}
 use Rattle.walk.proofs.first_other.Tie as tie

@@ -5,8 +5,9 @@ use Rattle.forest.specs.Place.{Cells}
 use Rattle.forest.specs.Walk.{cellsIn}
 use Rattle.tables.specs.Table.{known}
 use Rattle.cursor.proofs.Stack.{cells-none, cells-top}
-use Rattle.walk.specs.Standing.{placed}
-use Rattle.walk.proofs.Standing.{table-held, walked-in, placed-above, placed-node}
+use Rattle.walk.specs.Calls.{placed}
+use Rattle.letters.proofs.Standing.{table-held, walked-in}
+use Rattle.walk.proofs.Places.{placed-above, placed-node}
 use native.Mathlib.Omega.{arith}
 use Rattle.walk.proofs.placed.Statement.{statement}
 use Rattle.walk.proofs.placed.Tie as tie

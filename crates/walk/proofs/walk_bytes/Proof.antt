@@ -2,7 +2,7 @@
 use mathlib.Core.Path.{sym, ap, _∙_}
 use Rattle.forest.specs.Walk.{lettersJudged}
 use Rattle.tables.proofs.Rows.{within-none}
-use Rattle.walk.specs.Letters.{foundAt}
+use Rattle.walk.specs.Calls.{foundAt}
 use Rattle.walk.proofs.Places.{refused-walks}
 use borrow.Author.Needs.{needs}
 use Rattle.walk.proofs.walk_bytes.Statement.{statement}

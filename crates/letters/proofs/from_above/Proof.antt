@@ -2,11 +2,11 @@
 use Rattle.forest.specs.Walk.{cellsIn}
 use Rattle.model.specs.Walk.{move, fromNode}
 use Rattle.cursor.specs.Moves.{outcome}
-use Rattle.walk.specs.Letters.{moveOf}
-use Rattle.walk.proofs.Standing.{table-held, walked-in}
+use Rattle.letters.specs.Letters.{moveOf}
+use Rattle.letters.proofs.Standing.{table-held, walked-in}
 use borrow.Author.Needs.{needs}
-use Rattle.walk.proofs.from_above.Statement.{statement}
-use Rattle.walk.proofs.from_above.Tie as tie
+use Rattle.letters.proofs.from_above.Statement.{statement}
+use Rattle.letters.proofs.from_above.Tie as tie
 
 enum-known-letter : tie.Need-enum-known-letter
 enum-known-letter c = search needs

@@ -26,7 +26,7 @@ use Rattle.model.proofs.Fit.{Fit}
 use Rattle.model.proofs.Rules.{Agrees, rules-fit, rules-inside}
 use Rattle.model.proofs.Ranged.{Every, Numbers, node-number, cell-numbers}
 use Rattle.model.proofs.Walk.{movedAt, Same, moved-same}
-use Rattle.walk.specs.Standing.{Valid}
+use Rattle.letters.specs.Standing.{Valid}
 
 module _ {R : List Rule} {rank : ℕ → ℕ} (S : Sound R rank) {r : ℕ} (C : Closed R r) (F : Facts) (agrees : (k : ℕ) → k < length R → Agrees F R k) where
   pub good : Good Sort.row (expression R r)

@@ -20,8 +20,8 @@ use Rattle.tables.specs.Table.{rows, known}
 use Rattle.tables.proofs.Rows.{within-none, within-both}
 use Rattle.cursor.specs.declared.Landing.{Landing}
 use Rattle.cursor.specs.Settled.{cursorLength}
-use Rattle.walk.specs.Standing.{Stands, Stepped, Ran, Answerable}
-use Rattle.walk.proofs.Standing.{stands-few, stands-after}
+use Rattle.letters.specs.Standing.{Stands, Stepped, Ran, Answerable}
+use Rattle.letters.proofs.Standing.{stands-few, stands-after}
 
 pub length-wordsBytes : (vs : List ℕ) → length (wordsBytes vs) ≡ 2 * length vs
 unfolding wordsBytes

@@ -2,8 +2,7 @@
 -- forest, or above it. What a letter does, and what a string of letters does, as the model has it.
 use Prim.Native.Nat.{ℕ, _+_, _*_, _≤_}
 use mathlib.Core.Path.{_≡_}
-use mathlib.Core.Bool.{Bool, true}
-use mathlib.Core.List.{List, [], _∷_, map}
+use mathlib.Core.List.{List, map}
 use mathlib.Core.Option.{Option}
 use lib.ListN.{length}
 use Rattle.plan.specs.declared.Rule.{Rule}
@@ -11,13 +10,11 @@ use Rattle.plan.specs.Rule.{wordLength}
 use Rattle.plan.specs.Sound.{Sound, Closed}
 use Rattle.seal.specs.Seal.{inFront}
 use Rattle.forest.specs.Expression.{expression}
-use Rattle.forest.specs.Place.{Cells}
 use Rattle.forest.specs.Letter.{Letter}
 use Rattle.forest.specs.Walk.{cellLength, cellsIn, lettersOf, answerWord, wordsBytes}
 use Rattle.forest.proofs.Position.{Located}
-use Rattle.model.specs.Facts.{Facts, factsOf}
+use Rattle.model.specs.Facts.{factsOf}
 use Rattle.model.specs.Model.{Node}
-use Rattle.model.specs.Stored.{accepts}
 use Rattle.model.specs.Walk.{answer, answers, moved, after}
 use Rattle.model.proofs.Walk.{Same}
 use Rattle.tables.specs.Rows.{Within}
@@ -59,11 +56,6 @@ pub record Ran (r : ℕ) (t letters : List ℕ) (k p : ℕ) (s s′ given given�
   pub answered : given′ ≡ inFront (wordsBytes (map answerWord (answers (known t) r (lettersOf letters) (p, cellsIn s k)))) given
   pub within : Within cellLength (cursorLength (rows t)) s s′
   pub few : cellLength * (used + 1) ≤ cursorLength (rows t)
-
--- cells are a place: above the forest, or a node's
-unfoldable pub placed : Facts → ℕ → Cells → Bool
-placed F r [] = true
-placed F r (c ∷ cs) = accepts F r (c ∷ cs)
 
 -- a word of answers for each letter
 abbrev pub Answerable : List ℕ → List ℕ → Type 0

@@ -4,12 +4,12 @@ use native.Mathlib.Omega.{arith}
 use mathlib.Core.Path.{_≡_, sym, ap, _∙_}
 use lib.ListN.{length}
 use denote.Ref.{now}
-use Rattle.walk.specs.Letters.{moveOf, readAs}
-use Rattle.walk.proofs.Standing.{answer-small}
-use Rattle.walk.proofs.Letters.{Partway, partway-none, partway-more, ran-all, ran-other}
+use Rattle.letters.specs.Letters.{moveOf, readAs}
+use Rattle.letters.proofs.Standing.{answer-small}
+use Rattle.letters.proofs.Letters.{Partway, partway-none, partway-more, ran-all, ran-other}
 use borrow.Author.Needs.{needs}
-use Rattle.walk.proofs.run.Statement.{statement}
-use Rattle.walk.proofs.run.Tie as tie
+use Rattle.letters.proofs.run.Statement.{statement}
+use Rattle.letters.proofs.run.Tie as tie
 
 abbrev Inv-loop : tie.InvT-loop
 Inv-loop table cursor₀ letters answers₀ r k p used₀ rule₀ i₀ cursor answers used rule i = (i ≤ length letters) × Partway r table letters k p cursor₀ answers₀ i used rule cursor answers

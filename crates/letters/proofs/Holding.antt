@@ -16,7 +16,7 @@ use Rattle.model.proofs.Ranged.{Numbers}
 use Rattle.tables.specs.Table.{rows, In, known}
 use Rattle.cursor.specs.Known.{Names, Closed, Closes}
 use Rattle.cursor.specs.Moves.{Each, Fits}
-use Rattle.walk.proofs.Inside.{representative-below, toward-below, last-below}
+use Rattle.letters.proofs.Inside.{representative-below, toward-below, last-below}
 
 -- a run's kind is no row's
 run-no-row : (s : Side) → cellRun s ≡ cellRow → ⊥

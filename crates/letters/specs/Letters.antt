@@ -1,11 +1,9 @@
 -- The code's letters as the definitions have them.
-use Prim.Native.Nat.{ℕ}
 use mathlib.Core.Option.{Option, none, some}
 use Rattle.forest.specs.Letter as spec
 use Rattle.tables.specs.Table.{sideOf}
-use Rattle.walk.specs.declared.Letter.{Letter}
-use Rattle.walk.specs.declared.Read.{Read}
-use Rattle.walk.specs.declared.Found.{Found}
+use Rattle.letters.specs.declared.Letter.{Letter}
+use Rattle.letters.specs.declared.Read.{Read}
 
 -- a letter
 unfoldable pub moveOf : Letter → spec.Letter
@@ -19,7 +17,3 @@ unfoldable pub readAs : Read → Option spec.Letter
 unfolding moveOf
 readAs (Read.Move l) = some (moveOf l)
 readAs Read.Other = none
-
-unfoldable pub foundAt : Found → Option ℕ
-foundAt (Found.At i) = some i
-foundAt Found.Nothing = none

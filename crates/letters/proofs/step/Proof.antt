@@ -1,9 +1,9 @@
 -- A letter is decided on the cells as they are, and what it leads to is settled. Assumes nothing.
-use Rattle.walk.specs.Letters.{moveOf}
-use Rattle.walk.proofs.Standing.{move-room, move-kept, stepped}
+use Rattle.letters.specs.Letters.{moveOf}
+use Rattle.letters.proofs.Standing.{move-room, move-kept, stepped}
 use borrow.Author.Needs.{needs}
-use Rattle.walk.proofs.step.Statement.{statement}
-use Rattle.walk.proofs.step.Tie as tie
+use Rattle.letters.proofs.step.Statement.{statement}
+use Rattle.letters.proofs.step.Tie as tie
 
 decide-requires : tie.Need-decide-requires
 decide-requires c κs = search needs

@@ -8,11 +8,11 @@ use Rattle.model.specs.Model.{Node}
 use Rattle.model.specs.Walk.{move, fromNode}
 use Rattle.tables.specs.Table.{known}
 use Rattle.cursor.proofs.Stack.{cells-none}
-use Rattle.walk.specs.Letters.{moveOf}
-use Rattle.walk.proofs.Standing.{table-held, walked-in, held, at-rule, from-cells}
+use Rattle.letters.specs.Letters.{moveOf}
+use Rattle.letters.proofs.Standing.{table-held, walked-in, held, at-rule, from-cells}
 use borrow.Author.Needs.{needs}
-use Rattle.walk.proofs.decide.Statement.{statement}
-use Rattle.walk.proofs.decide.Tie as tie
+use Rattle.letters.proofs.decide.Statement.{statement}
+use Rattle.letters.proofs.decide.Tie as tie
 
 from-above-requires : tie.Need-from-above-requires
 from-above-requires c κs = search needs

@@ -3,7 +3,6 @@
 use Prim.Native.Nat.{ℕ, zero, suc, _+_, _*_, _≤_, _<_}
 use native.Mathlib.Omega.{arith}
 use mathlib.Core.Path.{_≡_, refl, sym, ap, subst, _∙_}
-use mathlib.Core.Bool.{true}
 use mathlib.Core.List.{List, [], _∷_, cons≢nil}
 use mathlib.Core.Option.{Option, none, some, Option·map, Option·getD}
 use native.Mathlib.Decide.{decLt}
@@ -17,7 +16,6 @@ use Rattle.forest.specs.Letter.{Letter}
 use Rattle.forest.specs.Walk.{cellLength, cursorWords, cellsIn, nowhere, answerWord}
 use Rattle.model.specs.Facts.{Facts, factsOf}
 use Rattle.model.specs.Model.{Node}
-use Rattle.model.specs.Stored.{accepts}
 use Rattle.model.specs.Walk.{label, fromNode, move, moved, answer}
 use Rattle.model.proofs.Rules.{Agrees, facts-agree}
 use Rattle.model.proofs.Ranged.{Numbers}
@@ -29,12 +27,12 @@ use Rattle.cursor.specs.declared.Landing.{Landing}
 use Rattle.cursor.specs.Known.{Closes}
 use Rattle.cursor.specs.Moves.{Lies, Held, Kept, Node-has, Each, Fits}
 use Rattle.cursor.specs.Settled.{cursorLength, Room, Left, landing, Settled, Wrote}
-use Rattle.cursor.proofs.Stack.{cells-none, cells-top}
+use Rattle.cursor.proofs.Stack.{cells-top}
 use Rattle.cursor.proofs.Writes.{length-cells}
 use Rattle.cursor.proofs.Kept.{child-kept, sibling-kept, parent-kept, root-kept}
-use Rattle.walk.specs.Standing.{Valid, placed, rulesKept, Table, Stands, Stepped}
-use Rattle.walk.proofs.Valid.{valid-moved, valid-short, valid-numbers, valid-rule}
-use Rattle.walk.proofs.Holding.{numbers-fit, table-closes}
+use Rattle.letters.specs.Standing.{Valid, rulesKept, Table, Stands, Stepped}
+use Rattle.letters.proofs.Valid.{valid-moved, valid-short, valid-numbers, valid-rule}
+use Rattle.letters.proofs.Holding.{numbers-fit, table-closes}
 
 labelled-small : (x : Rule) → T (labelled x) → label x < 65536
 unfolding labelled label
@@ -109,15 +107,6 @@ answer-small {r} {t} T {l} {k} {p} {s} z = rw (z .answered) (word-small T (move 
 
 no-cells : (s : List ℕ) (k : ℕ) → cellsIn s k ≡ [] → k ≡ 0
 no-cells s k e = sym (length-cells s k) ∙ ap length e
-
--- cells that are a place
-pub placed-above : (F : Facts) (r : ℕ) (s : List ℕ) (k : ℕ) → k ≡ 0 → true ≡ placed F r (cellsIn s k)
-unfolding placed
-placed-above F r s k e = rw (cells-none s k e)
-
-pub placed-node : (F : Facts) (r : ℕ) (s : List ℕ) (k : ℕ) → 0 < k → accepts F r (cellsIn s k) ≡ placed F r (cellsIn s k)
-unfolding placed
-placed-node F r s k h = rw (cells-top s k h)
 
 -- a letter other than a and z moves only from a node
 pub from-cells : (s : List ℕ) (k : ℕ) (y : Option Node) → (k ≡ 0 → ⊥) → y ≡ fromNode (cellsIn s k) y

@@ -2,10 +2,10 @@
 use mathlib.Core.Path.{sym}
 use Rattle.forest.specs.Letter.{letterOf}
 use Rattle.tables.specs.Table.{sideOf}
-use Rattle.walk.specs.Letters.{readAs}
-use Rattle.walk.proofs.Bytes.{no-letter}
-use Rattle.walk.proofs.letter_of.Statement.{statement}
-use Rattle.walk.proofs.letter_of.Tie as tie
+use Rattle.letters.specs.Letters.{readAs}
+use Rattle.letters.proofs.Bytes.{no-letter}
+use Rattle.letters.proofs.letter_of.Statement.{statement}
+use Rattle.letters.proofs.letter_of.Tie as tie
 
 returns : tie.Need-returns
 unfolding readAs letterOf sideOf
