@@ -11,16 +11,17 @@ use lib.Dec.{leb}
 use lib.ListN.{length, getD, set, take, length-replicate, replicate-append-replicate, drop-of-length-le}
 use lib.Seq.{take-at}
 use Rattle.words.specs.Number.{number, base, put}
-use Rattle.plan.specs.declared.Record.{Record}
-use Rattle.plan.specs.declared.Rule.{Rule}
-use Rattle.plan.specs.declared.Decoded.{Decoded}
+use Rattle.rule.specs.declared.Record.{Record}
+use Rattle.rule.specs.declared.Rule.{Rule}
+use Rattle.rule.specs.declared.Decoded.{Decoded}
 use Rattle.plan.specs.declared.Refusal.{Refusal}
 use Rattle.plan.specs.declared.Judged.{Judged}
 use Rattle.plan.specs.declared.Checked.{Checked}
-use Rattle.plan.specs.Rule.{recordLength, wordLength, recordAt, decode, encode, every, sorts, closed}
-use Rattle.plan.specs.Check.{trailerLength, mostRules, recordsFrom, ruleJudged, rulesJudged, andThen, judged, accepted, inLimits, checkedUpTo, checked}
+use Rattle.rule.specs.Rule.{recordLength, wordLength, recordAt, decode, encode, every, sorts, closed}
+use Rattle.rule.specs.Records.{recordsFrom}
+use Rattle.plan.specs.Check.{trailerLength, mostRules, ruleJudged, rulesJudged, andThen, judged, accepted, inLimits, checkedUpTo, checked}
 use Rattle.seal.specs.Seal.{trailerBytes}
-use Rattle.plan.proofs.Records.{records-length, kind-at}
+use Rattle.rule.proofs.Records.{records-length, kind-at}
 use Rattle.plan.proofs.Checking.{rule-decoded, names-whole, start-closed, check-trailer}
 use Rattle.plan.proofs.Sound.{Plan, accepted-plan}
 use Rattle.seal.proofs.TrailerBytes.{written-checked}

@@ -5,7 +5,7 @@ ghost use mathlib.Core.Path.{_≡_};
 ghost use lib.ListN.{length};
 ghost use Rattle.plan.specs.declared.Refusal.{Refusal};
 ghost use Rattle.plan.specs.declared.Checked.{Checked};
-ghost use Rattle.plan.specs.Rule.{recordLength};
+ghost use Rattle.rule.specs.Rule.{recordLength};
 ghost use Rattle.plan.specs.Check.{trailerLength};
 ghost use Rattle.cases.specs.Cases.{zeros, emptyRules};
 
@@ -67,7 +67,7 @@ fn empty_rules(plan: &mut [u8], n: u16) -> Checked
     requires { ⌜ (1 ≤ n) × (recordLength * n + trailerLength ≤ length (now plan)) × (now plan ≡ zeros (recordLength * n + trailerLength)) ⌝ }
     ensures { λ r. ⌜ r ≡ emptyRules n ⌝ }
 {
-    let distance = plan::Record::LENGTH * (n as usize);
+    let distance = rule::Record::LENGTH * (n as usize);
     words::write16(plan, distance, n);
     words::write16(plan, distance + plan::Trailer::START, 0);
     words::write32(plan, distance + plan::Trailer::DISTANCE, distance as u32);

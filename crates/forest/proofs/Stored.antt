@@ -10,7 +10,7 @@ use lib.ListN.{length, take, drop, replicate, length-append, length-drop, length
 use lib.Seq.{take-at, drop-at, take-append-le, drop-append-le, length-take-le}
 use Rattle.words.specs.Number.{number, bytes, base}
 use Rattle.words.proofs.Laws.{number-bytes, length-bytes}
-use Rattle.plan.specs.Rule.{wordLength}
+use Rattle.rule.specs.Rule.{wordLength}
 use Rattle.seal.specs.Seal.{inFront}
 use Rattle.forest.specs.Place.{Cell, Cells}
 use Rattle.forest.specs.Walk.{cellLength, cursorWords, cellAt, cellsIn, usedCells, cellBytes, cellsBytes, padded, storedCursor}

@@ -8,7 +8,7 @@ use Rattle.words.specs.Number.{wordCount}
 use Rattle.plan.specs.declared.Refusal.{Refusal}
 use Rattle.plan.specs.declared.Checked.{Checked}
 use Rattle.plan.specs.declared.Written.{Written}
-use Rattle.plan.specs.Rule.{wordLength}
+use Rattle.rule.specs.Rule.{wordLength}
 use Rattle.plan.specs.Check.{checked, rulesOf}
 use Rattle.seal.specs.Seal.{outputAfter}
 use Rattle.forest.specs.declared.Measured.{Measured}

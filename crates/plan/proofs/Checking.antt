@@ -11,15 +11,16 @@ use lib.ListN.{length, getD, drop, drop-of-length-le}
 use lib.Dec.{T, leb, ltb, eqb, eqb→eq, leb→le}
 use mir.Facts.{and-yes}
 use lib.Seq.{drop-cons}
-use Rattle.plan.specs.declared.Record.{Record}
-use Rattle.plan.specs.declared.Rule.{Rule}
-use Rattle.plan.specs.declared.Decoded.{Decoded}
+use Rattle.rule.specs.declared.Record.{Record}
+use Rattle.rule.specs.declared.Rule.{Rule}
+use Rattle.rule.specs.declared.Decoded.{Decoded}
 use Rattle.plan.specs.declared.Refusal.{Refusal}
 use Rattle.plan.specs.declared.Judged.{Judged}
 use Rattle.plan.specs.declared.Checked.{Checked}
-use Rattle.plan.specs.Rule.{recordLength, recordAt, decode, every, sorts, closed}
-use Rattle.plan.specs.Check.{trailerLength, trailerAt, countOf, startOf, distanceOf, marked, recordsFrom, firstAt, recordsOf, kindAt, namesJudged, ruleJudged, rulesJudged, andThen, startJudged, judged, accepted, inLimits, checkedUpTo}
-use Rattle.plan.proofs.Records.{records-at, records-length}
+use Rattle.rule.specs.Rule.{recordLength, recordAt, decode, every, sorts, closed}
+use Rattle.rule.specs.Records.{recordsFrom, kindAt}
+use Rattle.plan.specs.Check.{trailerLength, trailerAt, countOf, startOf, distanceOf, marked, firstAt, recordsOf, namesJudged, ruleJudged, rulesJudged, andThen, startJudged, judged, accepted, inLimits, checkedUpTo}
+use Rattle.rule.proofs.Records.{records-at, records-length}
 
 -- a rule is judged by what its bytes decode to
 pub rule-decoded : (s : List ℕ) (first n i : ℕ) (w : Record) (d : Decoded) → i < n → w ≡ recordAt s (first + recordLength * i) → d ≡ decode w

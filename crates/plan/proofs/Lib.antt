@@ -1,4 +1,2 @@
-pub mod Records
 pub mod Checking
-pub mod Decode
 pub mod Sound

@@ -1,17 +1,18 @@
 -- Document 01, "A plan's bytes" (the trailer) and "Check".
 use Prim.Native.Nat.{ℕ, zero, suc, _+_, _-_, _*_}
 use mathlib.Core.Bool.{Bool, true, false, not, cond, _&&_, _||_}
-use mathlib.Core.List.{List, [], _∷_, map}
-use lib.ListN.{length, getD, take, drop}
+use mathlib.Core.List.{List, [], _∷_}
+use lib.ListN.{length, drop}
 use lib.Dec.{leb, ltb, eqb}
 use Rattle.words.specs.Number.{number}
-use Rattle.plan.specs.declared.Record.{Record}
-use Rattle.plan.specs.declared.Rule.{Rule}
-use Rattle.plan.specs.declared.Decoded.{Decoded}
+use Rattle.rule.specs.declared.Record.{Record}
+use Rattle.rule.specs.declared.Rule.{Rule}
+use Rattle.rule.specs.declared.Decoded.{Decoded}
 use Rattle.plan.specs.declared.Refusal.{Refusal}
 use Rattle.plan.specs.declared.Judged.{Judged}
 use Rattle.plan.specs.declared.Checked.{Checked}
-use Rattle.plan.specs.Rule.{recordLength, recordAt, decode, encode, ruleOf, every, sorts, closed}
+use Rattle.rule.specs.Rule.{recordLength, decode, every, sorts, closed}
+use Rattle.rule.specs.Records.{recordsFrom, rulesIn, recordIn, kindAt}
 
 -- "a trailer of 10 bytes that points back: n (16 bits), start rule (16 bits), distance .. (32 bits), and the two mark bytes"
 abbrev pub trailerLength : ℕ
@@ -51,12 +52,6 @@ unfoldable pub marked : List ℕ → Bool
 unfolding trailerAt same
 marked s = same (drop (trailerAt s + 8) s) magic
 
--- the records of n rules from an offset on
-unfoldable pub recordsFrom : List ℕ → ℕ → ℕ → List Record
-unfolding recordAt
-recordsFrom s at zero = []
-recordsFrom s at (suc n) = recordAt s at ∷ recordsFrom s (at + recordLength) n
-
 -- the first rule's offset, and the plan's records and rules
 unfoldable pub firstAt : List ℕ → ℕ
 unfolding trailerAt distanceOf
@@ -66,25 +61,9 @@ unfoldable pub recordsOf : List ℕ → List Record
 unfolding recordsFrom firstAt countOf
 recordsOf s = recordsFrom s (firstAt s) (countOf s)
 
-unfoldable pub rulesIn : List Record → List Rule
-unfolding decode ruleOf
-rulesIn ws = map (λ (w : Record). ruleOf (decode w)) ws
-
 unfoldable pub rulesOf : List ℕ → List Rule
 unfolding recordsOf rulesIn
 rulesOf s = rulesIn (recordsOf s)
-
--- the kind of the record with a number
-noRecord : Record
-noRecord = record { kind = 0; one = 0; two = 0; three = 0 }
-
-unfoldable pub recordIn : List Record → ℕ → Record
-unfolding noRecord
-recordIn ws i = getD ws i noRecord
-
-unfoldable pub kindAt : List Record → ℕ → ℕ
-unfolding recordIn
-kindAt ws i = (recordIn ws i) .kind
 
 -- "the first of: 4: kind above 5, label above 255, unused word not 0; 5: names a rule not lower; 6: names one of the wrong sort"
 unfoldable pub namesJudged : List Record → ℕ → Decoded → Judged

@@ -9,11 +9,12 @@ use native.Mathlib.Omega.{arith}
 use lib.ListN.{length, take, drop, set, length-append, length-drop}
 use lib.Seq.{sets-eq, take-at, drop-append-add, drop-drop}
 use Rattle.words.specs.Number.{put}
-use Rattle.plan.specs.declared.Record.{Record}
-use Rattle.plan.specs.Rule.{recordLength, recordAt, recordBytes}
-use Rattle.plan.specs.Check.{trailerLength, recordsFrom}
+use Rattle.rule.specs.declared.Record.{Record}
+use Rattle.rule.specs.Rule.{recordLength, recordAt, recordBytes}
+use Rattle.rule.specs.Records.{recordsFrom}
+use Rattle.plan.specs.Check.{trailerLength}
 use Rattle.seal.specs.Seal.{recordsBytes, trailerBytes, inFront}
-use Rattle.plan.proofs.Records.{records-length}
+use Rattle.rule.proofs.Records.{records-length}
 use Rattle.seal.proofs.RecordBytes.{length-recordBytes, length-recordsBytes}
 
 pub inFront-none : (out : List ℕ) → inFront [] out ≡ out

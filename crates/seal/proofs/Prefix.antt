@@ -12,14 +12,15 @@ use lib.Seq.{drop-append-add}
 use borrow.Author.Tests.{le-leb, leb-true}
 use Rattle.words.specs.Number.{number}
 use Rattle.words.proofs.Laws.{number-after}
-use Rattle.plan.specs.declared.Record.{Record}
+use Rattle.rule.specs.declared.Record.{Record}
 use Rattle.plan.specs.declared.Refusal.{Refusal}
 use Rattle.plan.specs.declared.Checked.{Checked}
-use Rattle.plan.specs.Rule.{recordLength}
-use Rattle.plan.specs.Check.{trailerLength, magic, mostRules, trailerAt, countOf, startOf, distanceOf, same, marked, firstAt, recordsFrom, recordsOf, rulesIn, rulesOf, inLimits, checkedUpTo, checked}
+use Rattle.rule.specs.Rule.{recordLength}
+use Rattle.rule.specs.Records.{recordsFrom, rulesIn}
+use Rattle.plan.specs.Check.{trailerLength, magic, mostRules, trailerAt, countOf, startOf, distanceOf, same, marked, firstAt, recordsOf, rulesOf, inLimits, checkedUpTo, checked}
 use Rattle.seal.specs.Seal.{recordsBytes, wordsRoomed, wordsAfter, unsealed, unsealedOutput}
 use Rattle.plan.proofs.Sound.{accepted-plan, answer, checked-answer}
-use Rattle.plan.proofs.Records.{records-after}
+use Rattle.rule.proofs.Records.{records-after}
 
 module _ (p s : List ℕ) (long : trailerLength ≤ length s) where
   prefix-trailerAt : trailerAt (p ++ s) ≡ length p + trailerAt s

@@ -8,11 +8,11 @@ use lib.ListN.{length, getD, take, drop, length-append}
 use lib.Seq.{take-add, drop-drop, getD-take}
 use Rattle.words.specs.Number.{number, bytes, base}
 use Rattle.words.proofs.Laws.{bytes-number}
-use Rattle.plan.specs.declared.Record.{Record}
-use Rattle.plan.specs.Rule.{recordLength, recordAt, recordBytes}
-use Rattle.plan.specs.Check.{recordsFrom}
+use Rattle.rule.specs.declared.Record.{Record}
+use Rattle.rule.specs.Rule.{recordLength, recordAt, recordBytes}
+use Rattle.rule.specs.Records.{recordsFrom}
 use Rattle.seal.specs.Seal.{recordsBytes}
-use Rattle.plan.proofs.Records.{records-agree}
+use Rattle.rule.proofs.Records.{records-agree}
 
 -- every element is a byte
 abbrev pub Bytes : List ℕ → Type 0

@@ -12,11 +12,12 @@ use borrow.Author.Tests.{le-leb, eq-eqb, leb-true}
 use Rattle.words.specs.Number.{number, bytes, base, wordCount}
 use Rattle.plan.specs.declared.Checked.{Checked}
 use Rattle.plan.specs.declared.Written.{Written}
-use Rattle.plan.specs.Rule.{recordLength, recordWords}
-use Rattle.plan.specs.Check.{trailerLength, magic, mostRules, trailerAt, countOf, startOf, distanceOf, same, marked, firstAt, recordsFrom, recordsOf, accepted, inLimits, checkedUpTo, checked}
+use Rattle.rule.specs.Rule.{recordLength, recordWords}
+use Rattle.rule.specs.Records.{recordsFrom}
+use Rattle.plan.specs.Check.{trailerLength, magic, mostRules, trailerAt, countOf, startOf, distanceOf, same, marked, firstAt, recordsOf, accepted, inLimits, checkedUpTo, checked}
 use Rattle.seal.specs.Seal.{recordsBytes, trailerBytes, planBytes, givenCount, given, roomed, sealedUpTo, sealed, inFront, outputAfter, sealedOutput, wordsRoomed, unsealed, wordsAfter, unsealedOutput}
 use Rattle.plan.proofs.Sound.{Plan, checked-plan}
-use Rattle.plan.proofs.Records.{records-length}
+use Rattle.rule.proofs.Records.{records-length}
 use Rattle.seal.proofs.RecordBytes.{Bytes, records-take, records-bytes}
 use Rattle.seal.proofs.TrailerBytes.{length-trailerBytes, written-records, written-checked, last-parts, same-lists}
 use Rattle.seal.proofs.Sealed.{Sealed, sealed-facts, sealAnswer, sealed-answer}

@@ -10,16 +10,17 @@ use lib.Dec.{leb, eqb}
 use lib.ListN.{length, take, drop}
 use borrow.Author.Tests.{le-leb, lt-leb, eq-eqb, ne-eqb, leb-true, eqb-true}
 use Rattle.words.specs.Number.{wordCount}
-use Rattle.plan.specs.declared.Record.{Record}
-use Rattle.plan.specs.declared.Decoded.{Decoded}
+use Rattle.rule.specs.declared.Record.{Record}
+use Rattle.rule.specs.declared.Decoded.{Decoded}
 use Rattle.plan.specs.declared.Refusal.{Refusal}
 use Rattle.plan.specs.declared.Judged.{Judged}
 use Rattle.plan.specs.declared.Written.{Written}
-use Rattle.plan.specs.Rule.{recordLength, recordWords, decode, recordAt}
-use Rattle.plan.specs.Check.{trailerLength, recordsFrom, recordIn, judged, inLimits}
+use Rattle.rule.specs.Rule.{recordLength, recordWords, decode, recordAt}
+use Rattle.rule.specs.Records.{recordsFrom, recordIn}
+use Rattle.plan.specs.Check.{trailerLength, judged, inLimits}
 use Rattle.seal.specs.Seal.{recordsBytes, trailerBytes, planBytes, givenCount, given, roomed, sealedUpTo, inFront}
 use Rattle.plan.proofs.Sound.{fine-fit}
-use Rattle.plan.proofs.Records.{records-length, records-at}
+use Rattle.rule.proofs.Records.{records-length, records-at}
 use Rattle.seal.proofs.RecordBytes.{length-recordsBytes}
 use Rattle.seal.proofs.Front.{inFront-more}
 use Rattle.seal.proofs.TrailerBytes.{length-trailerBytes}

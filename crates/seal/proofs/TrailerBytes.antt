@@ -12,8 +12,9 @@ use lib.Seq.{drop-append-add, take-append-seam, take-all}
 use borrow.Author.Tests.{le-leb, eq-eqb, eqb-true}
 use Rattle.words.specs.Number.{number, bytes, base}
 use Rattle.words.proofs.Laws.{number-after, number-bytes}
-use Rattle.plan.specs.Rule.{recordLength}
-use Rattle.plan.specs.Check.{trailerLength, magic, trailerAt, countOf, startOf, distanceOf, same, marked, firstAt, recordsFrom, recordsOf, judged, accepted, inLimits, checkedUpTo}
+use Rattle.rule.specs.Rule.{recordLength}
+use Rattle.rule.specs.Records.{recordsFrom}
+use Rattle.plan.specs.Check.{trailerLength, magic, trailerAt, countOf, startOf, distanceOf, same, marked, firstAt, recordsOf, judged, accepted, inLimits, checkedUpTo}
 use Rattle.seal.specs.Seal.{trailerBytes}
 use Rattle.plan.proofs.Sound.{answer, checked-answer}
 use Rattle.seal.proofs.RecordBytes.{Bytes, records-take, read-part}

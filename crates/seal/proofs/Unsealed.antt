@@ -6,11 +6,12 @@ use mathlib.Core.Path.{_≡_, ap, _∙_}
 use lib.ListN.{length}
 use borrow.Author.Tests.{le-leb, lt-leb}
 use Rattle.words.specs.Number.{wordCount}
-use Rattle.plan.specs.declared.Record.{Record}
+use Rattle.rule.specs.declared.Record.{Record}
 use Rattle.plan.specs.declared.Refusal.{Refusal}
 use Rattle.plan.specs.declared.Checked.{Checked}
-use Rattle.plan.specs.Rule.{recordLength, recordWords}
-use Rattle.plan.specs.Check.{trailerLength, mostRules, recordsFrom, recordsOf, checked}
+use Rattle.rule.specs.Rule.{recordLength, recordWords}
+use Rattle.rule.specs.Records.{recordsFrom}
+use Rattle.plan.specs.Check.{trailerLength, mostRules, recordsOf, checked}
 use Rattle.seal.specs.Seal.{recordsBytes, inFront, wordsRoomed, unsealed, wordsAfter, unsealedOutput}
 use Rattle.plan.proofs.Sound.{checked-plan, plan-long, plan-first, plan-records}
 

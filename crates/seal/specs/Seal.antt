@@ -5,13 +5,14 @@ use mathlib.Core.List.{List, [], _∷_, _++_}
 use lib.ListN.{length, drop}
 use lib.Dec.{leb, eqb}
 use Rattle.words.specs.Number.{bytes, wordCount}
-use Rattle.plan.specs.declared.Record.{Record}
+use Rattle.rule.specs.declared.Record.{Record}
 use Rattle.plan.specs.declared.Refusal.{Refusal}
 use Rattle.plan.specs.declared.Judged.{Judged}
 use Rattle.plan.specs.declared.Checked.{Checked}
 use Rattle.plan.specs.declared.Written.{Written}
-use Rattle.plan.specs.Rule.{recordLength, recordWords, recordBytes}
-use Rattle.plan.specs.Check.{trailerLength, magic, mostRules, recordsFrom, recordsOf, judged, inLimits, checked}
+use Rattle.rule.specs.Rule.{recordLength, recordWords, recordBytes}
+use Rattle.rule.specs.Records.{recordsFrom}
+use Rattle.plan.specs.Check.{trailerLength, magic, mostRules, recordsOf, judged, inLimits, checked}
 
 -- the bytes of a plan without prefix (prefix is document 01's cover): its rules, then the trailer
 unfoldable pub recordsBytes : List Record → List ℕ

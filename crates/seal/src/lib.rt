@@ -1,21 +1,22 @@
 // Document 01, "Seal" and "Unseal".
 use plan::Checked;
-use plan::Decoded;
 use plan::Judged;
-use plan::Record;
 use plan::Refusal;
-use plan::Rule;
 use plan::Trailer;
 use plan::Written;
 use plan::check;
 use plan::judge;
+use rule::Decoded;
+use rule::Record;
+use rule::Rule;
 ghost use Prim.Native.Nat.{ℕ, _+_, _*_, _≤_, _<_};
 ghost use mathlib.Core.Path.{_≡_};
 ghost use mathlib.Core.List.{List, _++_};
 ghost use lib.ListN.{length, take, drop};
-ghost use Rattle.plan.specs.declared.Decoded.{Decoded};
-ghost use Rattle.plan.specs.Rule.{recordLength, decode, recordAt, recordBytes};
-ghost use Rattle.plan.specs.Check.{trailerLength, recordsFrom};
+ghost use Rattle.rule.specs.declared.Decoded.{Decoded};
+ghost use Rattle.rule.specs.Rule.{recordLength, decode, recordAt, recordBytes};
+ghost use Rattle.rule.specs.Records.{recordsFrom};
+ghost use Rattle.plan.specs.Check.{trailerLength};
 ghost use Rattle.seal.specs.Seal.{recordsBytes, trailerBytes, planBytes, given, sealedUpTo, sealed, sealedOutput, inFront, outputAfter, unsealed, unsealedOutput};
 
 // Seal: the rule words as a plan without prefix.

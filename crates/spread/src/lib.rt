@@ -18,8 +18,8 @@ use counts::Tally;
 use counts::Weight;
 use plan::Checked;
 use plan::Refusal;
-use plan::Rule;
 use plan::Written;
+use rule::Rule;
 use tables::Row;
 
 // What a step writes.

@@ -4,7 +4,8 @@ use Prim.Native.Nat.{_-_, _≤_}
 use mathlib.Core.Path.{_≡_, sym, _∙_}
 use native.Mathlib.Omega.{arith}
 use borrow.Author.Needs.{needs}
-use Rattle.plan.specs.Check.{recordsFrom, rulesJudged, startJudged, judged}
+use Rattle.rule.specs.Records.{recordsFrom}
+use Rattle.plan.specs.Check.{rulesJudged, startJudged, judged}
 use Rattle.plan.proofs.Checking.{rules-fine, rules-refused, rules-none, rules-all}
 use Rattle.plan.proofs.judge.Statement.{statement}
 use Rattle.plan.proofs.judge.Tie as tie

@@ -2,7 +2,8 @@
 use mathlib.Core.Path.{_≡_, sym, ap, _∙_}
 use denote.Ref.{now}
 use borrow.Author.Needs.{needs}
-use Rattle.plan.specs.Check.{recordsFrom, namesJudged, ruleJudged}
+use Rattle.rule.specs.Records.{recordsFrom}
+use Rattle.plan.specs.Check.{namesJudged, ruleJudged}
 use Rattle.plan.proofs.Checking.{rule-decoded, names-malformed, names-whole}
 use Rattle.plan.proofs.judge_rule.Statement.{statement}
 use Rattle.plan.proofs.judge_rule.Tie as tie

@@ -3,7 +3,7 @@ use mathlib.Core.Path.{sym, ap, _∙_}
 use denote.Ref.{now}
 use borrow.Author.Tests.{not-true, not-false}
 use borrow.Author.Needs.{needs}
-use Rattle.plan.specs.Rule.{closed}
+use Rattle.rule.specs.Rule.{closed}
 use Rattle.plan.proofs.Checking.{start-not-below, start-closed}
 use Rattle.plan.proofs.judge_start.Statement.{statement}
 use Rattle.plan.proofs.judge_start.Tie as tie

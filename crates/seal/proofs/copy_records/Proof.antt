@@ -5,8 +5,8 @@ use mathlib.Core.List.{List, _++_}
 use native.Mathlib.Omega.{arith}
 use lib.ListN.{length, take, drop}
 use denote.Ref.{now}
-use Rattle.plan.specs.declared.Record.{Record}
-use Rattle.plan.specs.Rule.{recordLength, recordBytes}
+use Rattle.rule.specs.declared.Record.{Record}
+use Rattle.rule.specs.Rule.{recordLength, recordBytes}
 use Rattle.seal.proofs.Front.{copied, copied-none, copied-more}
 use Rattle.seal.proofs.copy_records.Statement.{statement}
 use Rattle.seal.proofs.copy_records.Tie as tie

@@ -9,7 +9,7 @@ use Rattle.plan.specs.Check.{trailerLength}
 use denote.Ref.{now}
 use borrow.Author.Needs.{needs}
 use Rattle.plan.specs.declared.Written.{Written}
-use Rattle.plan.specs.Rule.{recordLength, recordWords}
+use Rattle.rule.specs.Rule.{recordLength, recordWords}
 use Rattle.seal.specs.Seal.{trailerBytes, planBytes, givenCount, given, sealedUpTo, outputAfter}
 use Rattle.seal.proofs.Sealed.{Sealed, sealed-facts, seal-few, seal-given, seal-room, seal-decodes, seal-written}
 use Rattle.seal.proofs.seal_up_to.Statement.{statement}

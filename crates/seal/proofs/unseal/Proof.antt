@@ -6,7 +6,7 @@ use lib.ListN.{length}
 use denote.Ref.{now}
 use borrow.Author.Needs.{needs}
 use Rattle.plan.specs.declared.Checked.{Checked}
-use Rattle.plan.specs.Rule.{recordLength}
+use Rattle.rule.specs.Rule.{recordLength}
 use Rattle.plan.specs.Check.{trailerLength, checked}
 use Rattle.seal.proofs.Unsealed.{unsealed-refused, unsealed-no-room, unsealed-roomed, unsealed-long}
 use Rattle.seal.proofs.unseal.Statement.{statement}

@@ -7,7 +7,7 @@ use lib.ListN.{length-set, set}
 use denote.Ref.{now}
 use borrow.Author.Needs.{needs}
 use Rattle.words.specs.Number.{put}
-use Rattle.plan.specs.Rule.{recordLength}
+use Rattle.rule.specs.Rule.{recordLength}
 use Rattle.seal.proofs.Front.{put-trailer}
 use Rattle.seal.proofs.write_trailer.Statement.{statement}
 use Rattle.seal.proofs.write_trailer.Tie as tie

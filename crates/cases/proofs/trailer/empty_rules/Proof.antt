@@ -8,7 +8,7 @@ use lib.ListN.{length-set, set}
 use denote.Ref.{now}
 use borrow.Author.Needs.{needs}
 use Rattle.words.specs.Number.{put}
-use Rattle.plan.specs.Rule.{recordLength}
+use Rattle.rule.specs.Rule.{recordLength}
 use Rattle.plan.specs.Check.{checked}
 use Rattle.cases.proofs.EmptyRules.{stored-checked}
 use Rattle.cases.proofs.trailer.empty_rules.Statement.{statement}
