@@ -9,7 +9,7 @@ use lib.ListN.{length, drop, replicate}
 use lib.Dec.{leb}
 use borrow.Author.Tests.{leb-true}
 use Rattle.words.specs.Number.{wordCount}
-use Rattle.plan.specs.declared.Refusal.{Refusal}
+use Rattle.refusal.specs.declared.Refusal.{Refusal}
 use Rattle.plan.specs.declared.Checked.{Checked}
 use Rattle.rule.specs.Rule.{wordLength, recordLength}
 use Rattle.rule.specs.Records.{recordsFrom, rulesIn}

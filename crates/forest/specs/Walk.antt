@@ -7,7 +7,7 @@ use lib.ListN.{length, replicate}
 use lib.Dec.{leb, eqb}
 use Rattle.words.specs.Number.{number, bytes, wordCount}
 use Rattle.rule.specs.declared.Rule.{Rule}
-use Rattle.plan.specs.declared.Refusal.{Refusal}
+use Rattle.refusal.specs.declared.Refusal.{Refusal}
 use Rattle.plan.specs.declared.Checked.{Checked}
 use Rattle.rule.specs.Rule.{wordLength}
 use Rattle.plan.specs.Check.{checked, rulesOf}

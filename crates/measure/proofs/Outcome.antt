@@ -6,7 +6,7 @@ use mathlib.Core.Bool.{Bool, true, false}
 use mathlib.Core.List.{List}
 use lib.ListN.{length}
 use lib.Dec.{T}
-use Rattle.plan.specs.declared.Refusal.{Refusal}
+use Rattle.refusal.specs.declared.Refusal.{Refusal}
 use Rattle.plan.specs.declared.Checked.{Checked}
 use Rattle.rule.specs.Rule.{recordLength, wordLength}
 use Rattle.rule.specs.Records.{recordsFrom, rulesIn}

@@ -1,2 +1,4 @@
 pub mod Checking
+pub mod TrailerBytes
 pub mod Sound
+pub mod Prefix

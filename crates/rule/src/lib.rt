@@ -1,11 +1,10 @@
-// The rule of a plan (document 01, "A plan's bytes"): its record of four words, the table of kinds, and what a rule names.
+// The rule of a plan (document 01, "A plan's bytes"): its record of four words, and the table of kinds.
 ghost use mathlib.Core.Path.{_≡_};
 ghost use mathlib.Core.List.{_++_};
-ghost use Prim.Native.Nat.{_+_, _*_, _≤_, _<_};
+ghost use Prim.Native.Nat.{_+_, _≤_, _<_};
 ghost use lib.ListN.{length, take, drop};
-ghost use lib.Dec.{T, ltb};
-ghost use Rattle.rule.specs.Rule.{recordLength, kindNode, recordAt, recordBytes, decode, encode, whole, closed, holed, tree, every, sorts, labelled};
-ghost use Rattle.rule.specs.Records.{recordsFrom, kindAt};
+ghost use lib.Dec.{T};
+ghost use Rattle.rule.specs.Rule.{recordLength, kindNode, recordAt, recordBytes, decode, encode, whole, labelled};
 
 // The four 16-bit words of a rule.
 pub struct Record {
@@ -32,15 +31,19 @@ pub enum Decoded {
 }
 
 impl Record {
-    // Bytes of a record, words of a record, bytes of a word.
+    // Bytes and words of a record, and where its later words begin.
     pub const LENGTH: usize = 8;
 
     pub const WORDS: usize = 4;
 
-    pub const WORD_LENGTH: usize = 2;
+    const ONE: usize = 2;
+
+    const TWO: usize = 4;
+
+    const THREE: usize = 6;
 
     // What an unused word holds.
-    pub const UNUSED: u16 = 0;
+    const UNUSED: u16 = 0;
 
     // The record of four words.
     fn of(kind: u16, one: u16, two: u16, three: u16) -> Record
@@ -61,9 +64,9 @@ impl Record {
     {
         Record {
             kind: words::read16(s, at),
-            one: words::read16(s, at + Record::WORD_LENGTH),
-            two: words::read16(s, at + 2 * Record::WORD_LENGTH),
-            three: words::read16(s, at + 3 * Record::WORD_LENGTH),
+            one: words::read16(s, at + Record::ONE),
+            two: words::read16(s, at + Record::TWO),
+            three: words::read16(s, at + Record::THREE),
         }
     }
 
@@ -73,9 +76,9 @@ impl Record {
         ensures { λ r. ⌜ now (s .exit) ≡ take at (now (s .entry)) ++ (recordBytes self ++ drop (at + recordLength) (now (s .entry))) ⌝ }
     {
         words::write16(s, at, self.kind);
-        words::write16(s, at + Record::WORD_LENGTH, self.one);
-        words::write16(s, at + 2 * Record::WORD_LENGTH, self.two);
-        words::write16(s, at + 3 * Record::WORD_LENGTH, self.three);
+        words::write16(s, at + Record::ONE, self.one);
+        words::write16(s, at + Record::TWO, self.two);
+        words::write16(s, at + Record::THREE, self.three);
     }
 }
 
@@ -106,7 +109,7 @@ impl Rule {
 
     pub const JOIN: u16 = 5;
 
-    pub const LARGEST_LABEL: u32 = 255;
+    const LARGEST_LABEL: u32 = 255;
 
     // The rule that four words mean: the table of kinds.
     pub fn decode(w: Record) -> Decoded
@@ -197,78 +200,5 @@ impl Rule {
             Rule::Part { label, left, right } => Record::of(Rule::PART, label as u16, left, right),
             Rule::Join { outer, inner } => Record::of(Rule::JOIN, outer, inner, none),
         }
-    }
-
-    // The sorts, by kind: closed, holed, and a tree.
-    pub fn closed(kind: u16) -> bool
-        ensures { λ r. ⌜ r ≡ closed kind ⌝ }
-    {
-        (kind == Rule::EMPTY) | (kind == Rule::PAIR) | (kind == Rule::NODE) | (kind == Rule::FILL)
-    }
-
-    pub fn holed(kind: u16) -> bool
-        ensures { λ r. ⌜ r ≡ holed kind ⌝ }
-    {
-        (kind == Rule::PART) | (kind == Rule::JOIN)
-    }
-
-    pub fn tree(kind: u16) -> bool
-        ensures { λ r. ⌜ r ≡ tree kind ⌝ }
-    {
-        (kind == Rule::NODE) | (kind == Rule::FILL)
-    }
-
-    // Is every rule that this one names below i?
-    pub fn lower(self, i: usize) -> bool
-        ensures { λ r. ⌜ r ≡ every (λ x. ltb x i) self ⌝ }
-    {
-        match self {
-            Rule::Empty => true,
-            Rule::Pair { first, second } => ((first as usize) < i) & ((second as usize) < i),
-            Rule::Node { label: _, under } => (under as usize) < i,
-            Rule::Fill { outer, inner } => ((outer as usize) < i) & ((inner as usize) < i),
-            Rule::Part {
-                label: _,
-                left,
-                right,
-            } => ((left as usize) < i) & ((right as usize) < i),
-            Rule::Join { outer, inner } => ((outer as usize) < i) & ((inner as usize) < i),
-        }
-    }
-
-    // Are the rules that this one names of the right sort? The records begin at first, and there are n.
-    pub fn sorted(self, s: &[u8], first: usize, n: u16) -> bool
-        requires { ⌜ first + recordLength * n ≤ length (now s) ⌝ }
-        ensures { λ r. ⌜ r ≡ sorts (kindAt (recordsFrom (now (s .entry)) first n)) self ⌝ }
-    {
-        match self {
-            Rule::Empty => true,
-            Rule::Pair {
-                first: b,
-                second: c,
-            } => Rule::closed(kind_at(s, first, n, b)) & Rule::closed(kind_at(s, first, n, c)),
-            Rule::Node { label: _, under: c } => Rule::closed(kind_at(s, first, n, c)),
-            Rule::Fill { outer: b, inner: c } => Rule::holed(kind_at(s, first, n, b))
-                & Rule::tree(kind_at(s, first, n, c)),
-            Rule::Part {
-                label: _,
-                left: b,
-                right: c,
-            } => Rule::closed(kind_at(s, first, n, b)) & Rule::closed(kind_at(s, first, n, c)),
-            Rule::Join { outer: b, inner: c } => Rule::holed(kind_at(s, first, n, b))
-                & Rule::holed(kind_at(s, first, n, c)),
-        }
-    }
-}
-
-// The kind of rule x, of n rules whose records begin at first; empty where there is no such rule.
-pub fn kind_at(s: &[u8], first: usize, n: u16, x: u16) -> u16
-    requires { ⌜ first + recordLength * n ≤ length (now s) ⌝ }
-    ensures { λ r. ⌜ r ≡ kindAt (recordsFrom (now (s .entry)) first n) x ⌝ }
-{
-    if x < n {
-        words::read16(s, first + Record::LENGTH * (x as usize))
-    } else {
-        Rule::EMPTY
     }
 }

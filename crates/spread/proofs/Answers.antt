@@ -8,7 +8,7 @@ use mathlib.Core.List.{List}
 use lib.ListN.{length}
 use lib.Dec.{leb}
 use borrow.Author.Tests.{leb-true, leb-false, le-leb, lt-leb}
-use Rattle.plan.specs.declared.Refusal.{Refusal}
+use Rattle.refusal.specs.declared.Refusal.{Refusal}
 use Rattle.rule.specs.declared.Rule.{Rule}
 use Rattle.plan.specs.declared.Written.{Written}
 use Rattle.rule.specs.Rule.{wordLength}

@@ -17,8 +17,8 @@ use counts::Count;
 use counts::Tally;
 use counts::Weight;
 use plan::Checked;
-use plan::Refusal;
 use plan::Written;
+use refusal::Refusal;
 use rule::Rule;
 use tables::Row;
 

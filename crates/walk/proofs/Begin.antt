@@ -7,7 +7,7 @@ use mathlib.Core.List.{List, [], _∷_, map}
 use mathlib.Core.Option.{Option, none, some}
 use lib.ListN.{length}
 use Rattle.rule.specs.declared.Rule.{Rule}
-use Rattle.plan.specs.declared.Refusal.{Refusal}
+use Rattle.refusal.specs.declared.Refusal.{Refusal}
 use Rattle.rule.specs.Sound.{Sound, Closed}
 use Rattle.seal.specs.Seal.{inFront}
 use Rattle.forest.specs.Expression.{expression, ruleNumber}

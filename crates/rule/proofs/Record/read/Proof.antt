@@ -13,17 +13,11 @@ add-read16 c = search needs
 read16-requires-2 : tie.Need-read16-requires-2
 read16-requires-2 c κs = search needs
 
-mul-read16 : tie.Need-mul-read16
-mul-read16 c = search needs
-
 add-read16-2 : tie.Need-add-read16-2
 add-read16-2 c = search needs
 
 read16-requires-3 : tie.Need-read16-requires-3
 read16-requires-3 c κs = search needs
-
-mul-read16-2 : tie.Need-mul-read16-2
-mul-read16-2 c = search needs
 
 add-read16-3 : tie.Need-add-read16-3
 add-read16-3 c = search needs
@@ -48,10 +42,8 @@ read-spec =
     read16-requires
     add-read16
     read16-requires-2
-    mul-read16
     add-read16-2
     read16-requires-3
-    mul-read16-2
     add-read16-3
     read16-requires-4
     returns)

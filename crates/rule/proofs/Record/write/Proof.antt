@@ -19,17 +19,11 @@ add-write16 c = search needs
 write16-requires-2 : tie.Need-write16-requires-2
 write16-requires-2 c κs = search needs
 
-mul-write16 : tie.Need-mul-write16
-mul-write16 c = search needs
-
 add-write16-2 : tie.Need-add-write16-2
 add-write16-2 c = search needs
 
 write16-requires-3 : tie.Need-write16-requires-3
 write16-requires-3 c κs = search needs
-
-mul-write16-2 : tie.Need-mul-write16-2
-mul-write16-2 c = search needs
 
 add-write16-3 : tie.Need-add-write16-3
 add-write16-3 c = search needs
@@ -62,10 +56,8 @@ write-spec =
     write16-requires
     add-write16
     write16-requires-2
-    mul-write16
     add-write16-2
     write16-requires-3
-    mul-write16-2
     add-write16-3
     write16-requires-4
     same-length
