@@ -2,9 +2,9 @@
 -- Assumes nothing.
 use Prim.Native.Nat.{ℕ}
 use mathlib.Core.Path.{_≡_, refl, subst}
-use Rattle.plan.specs.declared.Refusal.{Refusal}
+use Rattle.refusal.specs.declared.Refusal.{Refusal}
 use Rattle.plan.specs.declared.Checked.{Checked}
-use Rattle.plan.specs.Refusal.{numberOf, positionOf}
+use Rattle.refusal.specs.Refusal.{numberOf, positionOf}
 use Rattle.cases.specs.Cases.{Refuses}
 
 -- an accepted answer has one n and one start

@@ -8,23 +8,24 @@ use mathlib.Core.List.{List, _++_, append-nil}
 use native.Mathlib.Omega.{arith}
 use borrow.Author.Tests.{le-leb, lt-leb, leb-true, leb-false}
 use lib.Dec.{leb}
-use lib.ListN.{length, getD, set, take, length-replicate, replicate-append-replicate, drop-of-length-le}
+use lib.ListN.{length, getD, take, drop, length-replicate, replicate-append-replicate, drop-of-length-le}
 use lib.Seq.{take-at}
-use Rattle.words.specs.Number.{number, base, put}
-use Rattle.plan.specs.declared.Record.{Record}
-use Rattle.plan.specs.declared.Rule.{Rule}
-use Rattle.plan.specs.declared.Decoded.{Decoded}
-use Rattle.plan.specs.declared.Refusal.{Refusal}
-use Rattle.plan.specs.declared.Judged.{Judged}
+use Rattle.words.specs.Number.{number, base}
+use Rattle.rule.specs.declared.Record.{Record}
+use Rattle.rule.specs.declared.Rule.{Rule}
+use Rattle.rule.specs.declared.Decoded.{Decoded}
+use Rattle.refusal.specs.declared.Refusal.{Refusal}
+use Rattle.judge.specs.declared.Judged.{Judged}
 use Rattle.plan.specs.declared.Checked.{Checked}
-use Rattle.plan.specs.Rule.{recordLength, wordLength, recordAt, decode, encode, every, sorts, closed}
-use Rattle.plan.specs.Check.{trailerLength, mostRules, recordsFrom, ruleJudged, rulesJudged, andThen, judged, accepted, inLimits, checkedUpTo, checked}
-use Rattle.seal.specs.Seal.{trailerBytes}
-use Rattle.plan.proofs.Records.{records-length, kind-at}
-use Rattle.plan.proofs.Checking.{rule-decoded, names-whole, start-closed, check-trailer}
+use Rattle.rule.specs.Rule.{recordLength, wordLength, recordAt, decode, encode, every, sorts, closed}
+use Rattle.rule.specs.Records.{recordsFrom}
+use Rattle.judge.specs.Judge.{ruleJudged, rulesJudged, andThen, judged}
+use Rattle.plan.specs.Check.{trailerLength, trailerBytes, mostRules, accepted, inLimits, checkedUpTo, checked}
+use Rattle.rule.proofs.Records.{records-length, kind-at}
+use Rattle.judge.proofs.Judging.{rule-decoded, names-whole, start-closed}
+use Rattle.plan.proofs.Checking.{check-trailer}
 use Rattle.plan.proofs.Sound.{Plan, accepted-plan}
-use Rattle.seal.proofs.TrailerBytes.{written-checked}
-use Rattle.seal.proofs.Front.{put-trailer}
+use Rattle.plan.proofs.TrailerBytes.{written-checked}
 use Rattle.cases.specs.Cases.{zeros, emptyRules}
 
 -- zeros read as zeros, and past their end too
@@ -95,25 +96,22 @@ module _ (n : ℕ) (some : 1 ≤ n) where
     unfolding checked
     empty-checked = by-limit (leb n mostRules) (λ u. kept mostRules (leb-true n mostRules u)) (λ u. exceeded mostRules (leb-false n mostRules u))
 
-  -- the trailer's numbers stored into zeros make that plan
+  -- zeros whose end is a trailer are that plan
   zeros-trailer : (s : List ℕ) → s ≡ zeros (recordLength * n + trailerLength)
-      → let at = recordLength * n in
-      set (set (put 4 (put 2 (put 2 s at n) (at + 2) 0) (at + 4) at) (at + 8) 0x6d) (at + 8 + 1) 0x70 ≡ plan
+      → take (recordLength * n) s ++ (trailerBytes n 0 ++ drop (recordLength * n + trailerLength) s) ≡ plan
   unfolding plan
   zeros-trailer s e =
       let at = recordLength * n in
       let long : length s ≡ at + trailerLength = ap length e ∙ length-replicate (at + trailerLength) 0 in
       let parts : s ≡ rules ++ zeros trailerLength = e ∙ sym (replicate-append-replicate at trailerLength 0) in
-      put-trailer s at n 0 (omega arith)
-      ∙ ap₂ _++_
+      ap₂ _++_
       (ap (take at) parts ∙ take-at rules (zeros trailerLength) at (length-replicate at 0))
       (ap (λ (l : List ℕ). trailerBytes n 0 ++ l) (drop-of-length-le s {i = at + trailerLength} (omega arith)) ∙ append-nil (trailerBytes n 0))
 
--- check's answer to zeros with a trailer stored into them
-pub stored-checked : (n : ℕ) → 1 ≤ n → n < base ^ 2 → (s : List ℕ) → s ≡ zeros (recordLength * n + trailerLength)
-    → let at = recordLength * n in
-    checked (set (set (put 4 (put 2 (put 2 s at n) (at + 2) 0) (at + 4) at) (at + 8) 0x6d) (at + 8 + 1) 0x70) ≡ emptyRules n
-stored-checked n some small s e = ap checked (zeros-trailer n some s e) ∙ empty-checked n some small
+-- check's answer to zeros whose end is a trailer
+pub written-checked-zeros : (n : ℕ) → 1 ≤ n → n < base ^ 2 → (s : List ℕ) → s ≡ zeros (recordLength * n + trailerLength)
+    → checked (take (recordLength * n) s ++ (trailerBytes n 0 ++ drop (recordLength * n + trailerLength) s)) ≡ emptyRules n
+written-checked-zeros n some small s e = ap checked (zeros-trailer n some s e) ∙ empty-checked n some small
 
 -- zeros of a plan's length are what `empty_rules` asks for
 pub zeros-given : (n : ℕ) → 1 ≤ n

@@ -2,7 +2,8 @@
 use Prim.Native.Nat.{ℕ}
 use mathlib.Core.Path.{_≡_}
 use mathlib.Core.List.{List}
-use Rattle.seal.specs.Seal.{sealedOutput, unsealedOutput}
+use Rattle.seal.specs.Seal.{sealedOutput}
+use Rattle.unseal.specs.Unseal.{unsealedOutput}
 use Rattle.cases.specs.Cases.{zeros, sample}
 
 pub resealed : (s : List ℕ) → s ≡ sample → sealedOutput (unsealedOutput s (zeros 64)) 7 (zeros 74) ≡ s

@@ -5,9 +5,9 @@ use mathlib.Core.Path.{_≡_}
 use mathlib.Core.List.{List, [], _∷_}
 use lib.Dec.{leb}
 use lib.ListN.{replicate}
-use Rattle.plan.specs.declared.Refusal.{Refusal}
+use Rattle.refusal.specs.declared.Refusal.{Refusal}
 use Rattle.plan.specs.declared.Checked.{Checked}
-use Rattle.plan.specs.Refusal.{numberOf, positionOf}
+use Rattle.refusal.specs.Refusal.{numberOf, positionOf}
 use Rattle.plan.specs.Check.{mostRules}
 
 -- the answer is a refusal with document 01's number and position

@@ -1,7 +1,7 @@
 // Cases of one faulty rule, and of the start.
 use plan::Checked;
 ghost use mathlib.Core.Path.{_≡_};
-ghost use Rattle.plan.specs.declared.Refusal.{Refusal};
+ghost use Rattle.refusal.specs.declared.Refusal.{Refusal};
 ghost use Rattle.plan.specs.declared.Checked.{Checked};
 
 // Rule 0 has kind 6.

@@ -2,7 +2,7 @@
 // 6 = 5 filled by 1; 7 pair 6 3; start 7.
 use plan::Checked;
 use seal::seal;
-use seal::unseal;
+use unseal::unseal;
 ghost use mathlib.Core.Path.{_≡_};
 ghost use mathlib.Core.Bool.{true};
 ghost use Rattle.plan.specs.declared.Checked.{Checked};

@@ -1,11 +1,12 @@
 // Cases of the trailer. A plan of empty rules is zeros but for its trailer.
 use plan::Checked;
+use plan::Trailer;
 ghost use Prim.Native.Nat.{_+_, _*_, _≤_};
 ghost use mathlib.Core.Path.{_≡_};
 ghost use lib.ListN.{length};
-ghost use Rattle.plan.specs.declared.Refusal.{Refusal};
+ghost use Rattle.refusal.specs.declared.Refusal.{Refusal};
 ghost use Rattle.plan.specs.declared.Checked.{Checked};
-ghost use Rattle.plan.specs.Rule.{recordLength};
+ghost use Rattle.rule.specs.Rule.{recordLength};
 ghost use Rattle.plan.specs.Check.{trailerLength};
 ghost use Rattle.cases.specs.Cases.{zeros, emptyRules};
 
@@ -67,12 +68,6 @@ fn empty_rules(plan: &mut [u8], n: u16) -> Checked
     requires { ⌜ (1 ≤ n) × (recordLength * n + trailerLength ≤ length (now plan)) × (now plan ≡ zeros (recordLength * n + trailerLength)) ⌝ }
     ensures { λ r. ⌜ r ≡ emptyRules n ⌝ }
 {
-    let distance = plan::Record::LENGTH * (n as usize);
-    words::write16(plan, distance, n);
-    words::write16(plan, distance + plan::Trailer::START, 0);
-    words::write32(plan, distance + plan::Trailer::DISTANCE, distance as u32);
-    let magic = plan::Trailer::MAGIC;
-    plan[distance + plan::Trailer::MARK] = magic[0];
-    plan[distance + plan::Trailer::MARK + 1] = magic[1];
+    Trailer::write(plan, n, 0);
     plan::check(plan)
 }

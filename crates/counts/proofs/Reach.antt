@@ -5,8 +5,8 @@ use mathlib.Core.Path.{_≡_}
 use mathlib.Core.List.{List}
 use lib.ListN.{length}
 use lib.Dec.{T, ltb, ltb→lt}
-use Rattle.plan.specs.declared.Rule.{Rule}
-use Rattle.plan.specs.Rule.{every}
+use Rattle.rule.specs.declared.Rule.{Rule}
+use Rattle.rule.specs.Rule.{every}
 use Rattle.forest.proofs.Unfold.{Names, every-named}
 use Rattle.tables.specs.Rows.{rowLength, ruleIn}
 use Rattle.counts.specs.Count.{countLength}

@@ -9,11 +9,12 @@ use lib.ListN.{length, drop, replicate}
 use lib.Dec.{leb}
 use borrow.Author.Tests.{leb-true}
 use Rattle.words.specs.Number.{wordCount}
-use Rattle.plan.specs.declared.Refusal.{Refusal}
+use Rattle.refusal.specs.declared.Refusal.{Refusal}
 use Rattle.plan.specs.declared.Checked.{Checked}
-use Rattle.plan.specs.Rule.{wordLength, recordLength}
-use Rattle.plan.specs.Check.{checked, recordsFrom, recordsOf, rulesIn, rulesOf, trailerLength, mostRules, firstAt}
-use Rattle.plan.specs.Sound.{rule, Sound, Closed}
+use Rattle.rule.specs.Rule.{wordLength, recordLength}
+use Rattle.rule.specs.Records.{recordsFrom, rulesIn}
+use Rattle.plan.specs.Check.{checked, recordsOf, rulesOf, trailerLength, mostRules, firstAt}
+use Rattle.rule.specs.Sound.{rule, Sound, Closed}
 use Rattle.plan.proofs.Sound.{Plan, checked-plan, plan-long, plan-first, plan-records}
 use Rattle.forest.specs.Expression.{expression}
 use Rattle.forest.specs.Outcome.{workWords, enoughWork, cleared, workAfter, measuredWork}

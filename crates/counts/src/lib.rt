@@ -3,16 +3,17 @@ ghost use mathlib.Core.Path.{_≡_};
 ghost use Prim.Native.Nat.{_+_, _-_, _*_, _^_, _≤_, _<_, max};
 ghost use lib.ListN.{length};
 ghost use Rattle.words.specs.Number.{number, put};
-ghost use Rattle.plan.specs.Rule.{recordLength, wordLength};
-ghost use Rattle.plan.specs.Check.{trailerLength, recordsFrom, rulesIn};
+ghost use Rattle.rule.specs.Rule.{recordLength, wordLength};
+ghost use Rattle.rule.specs.Records.{recordsFrom, rulesIn};
+ghost use Rattle.plan.specs.Check.{trailerLength};
 ghost use Rattle.forest.specs.Outcome.{workWords, enoughWork, cleared};
 ghost use Rattle.tables.specs.Rows.{rowLength, field, putField, ruleIn, Loaded};
 ghost use Rattle.counts.specs.Count.{capped, numberOf, countLength};
 ghost use Rattle.counts.specs.Tally.{Reach, Between, Readable, RowTallied, Ready, Passable, Tallied, Counted, weightOf, ownOf, sumOf, treesOf, depthOf, levelsOf, tallyOf};
 ghost use Rattle.counts.specs.Total.{Startable, Totalled};
-use plan::Record;
-use plan::Rule;
 use plan::Trailer;
+use rule::Record;
+use rule::Rule;
 use tables::Row;
 
 // Which weight a label has.

@@ -9,7 +9,7 @@ use Rattle.forest.specs.Place.{Cell, Side}
 use Rattle.forest.specs.Walk.{cellAt, cellsIn}
 use Rattle.model.specs.Facts.{Facts}
 use Rattle.model.specs.Model.{along, oneAbove, outer, outerOf}
-use Rattle.plan.specs.declared.Rule.{Rule}
+use Rattle.rule.specs.declared.Rule.{Rule}
 use Rattle.tables.specs.Table.{In}
 use Rattle.cursor.specs.Known.{Names, Closed}
 use Rattle.cursor.specs.Moves.{Each, Fits, Held, Turns, aboveTop}

@@ -9,7 +9,7 @@ use mathlib.Core.List.{[], _∷_}
 use mathlib.Core.Option.{Option, none, some, Option·map}
 use lib.Dec.{eqb, leb}
 use borrow.Author.Tests.{eqb-true}
-use Rattle.plan.specs.declared.Rule.{Rule}
+use Rattle.rule.specs.declared.Rule.{Rule}
 use Rattle.forest.specs.Place.{Cell, Cells, Side, cellRow, cellSpine, cellRun, rowOfNode, rowOfPart, step}
 use Rattle.forest.proofs.Position.{other, pick, orElse}
 use Rattle.model.specs.Facts.{Facts}

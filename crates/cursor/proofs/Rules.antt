@@ -7,8 +7,8 @@ use mathlib.Core.List.{List, [], _∷_}
 use mathlib.Core.Option.{Option, none}
 use types.Run.{OneOf, miss}
 use denote.Enum.Declared.{tagOf}
-use Rattle.plan.specs.declared.Rule.{Rule}
-use Rattle.plan.proofs.Rule.{the-type}
+use Rattle.rule.specs.declared.Rule.{Rule}
+use Rattle.rule.proofs.Rule.{the-type}
 use Rattle.forest.specs.Place.{Cells, Side}
 use Rattle.model.specs.Facts.{Facts}
 use Rattle.model.specs.Stored.{rowUnder, spineAt, isNode}

@@ -8,7 +8,7 @@ use mathlib.Core.List.{List, [], _∷_}
 use mathlib.Core.Option.{Option, none, some}
 use lib.Dec.{eqb, ltb}
 use borrow.Author.Tests.{eqb-true, eq-eqb, ne-eqb}
-use Rattle.plan.specs.declared.Rule.{Rule}
+use Rattle.rule.specs.declared.Rule.{Rule}
 use Rattle.forest.specs.Place.{Cell, Cells, Side, cellRow, cellSpine, cellRun, rowOfNode, rowOfPart}
 use Rattle.model.specs.Facts.{Facts}
 use Rattle.model.specs.Model.{along, outer, innerOf}

@@ -4,7 +4,7 @@ use mathlib.Core.Bool.{cond}
 use mathlib.Core.List.{List}
 use lib.Dec.{eqb}
 use Rattle.words.specs.Number.{put}
-use Rattle.plan.specs.Rule.{wordLength}
+use Rattle.rule.specs.Rule.{wordLength}
 use Rattle.forest.specs.Place.{Side, Cell, cellRun}
 use Rattle.forest.specs.Walk.{cellLength}
 use Rattle.model.specs.Facts.{Facts}

@@ -1,7 +1,7 @@
 -- What the moves ask of the table: what its rows name has rows.
 use Prim.Native.Nat.{ℕ}
 use mathlib.Core.List.{List}
-use Rattle.plan.specs.declared.Rule.{Rule}
+use Rattle.rule.specs.declared.Rule.{Rule}
 use Rattle.forest.specs.Place.{Side}
 use Rattle.model.specs.Facts.{Facts}
 use Rattle.tables.specs.Table.{In, known}

@@ -6,7 +6,7 @@ use mathlib.Core.List.{List, _++_}
 use mathlib.Core.Option.{Option, none, some}
 use lib.ListN.{length, take, drop, replicate}
 use lib.Dec.{eqb}
-use Rattle.plan.specs.Rule.{wordLength}
+use Rattle.rule.specs.Rule.{wordLength}
 use Rattle.tables.specs.Rows.{Within}
 use Rattle.forest.specs.Place.{Cells}
 use Rattle.forest.specs.Walk.{cellLength, cellsIn, cursorWords, nowhere}

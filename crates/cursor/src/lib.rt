@@ -16,7 +16,7 @@ ghost use Rattle.cursor.specs.Cells.{words, cell, putCell, noCell, runCe
 ghost use Rattle.cursor.specs.Moves.{Lies, Held, Kept, add, stepCells, stemCells, changed, stemNode, changeNode, reached, outcome, Turns, aboveTop};
 ghost use Rattle.cursor.specs.Settled.{Wrote, high, stemHigh, changeHigh, Room, Settled, cursorLength, clearedPast};
 ghost use Rattle.cursor.specs.States.{maybe, stateOf, MaybeHas, StateHas, afterSpine};
-use plan::Rule;
+use rule::Rule;
 use tables::Row;
 use tables::Side;
 

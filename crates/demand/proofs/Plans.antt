@@ -8,10 +8,10 @@ use mathlib.Core.List.{List, [], _∷_}
 use mathlib.Core.Option.{Option, none, some, Option·map, Option·none-ne-some, Option·some-injective}
 use lib.ListN.{length, drop}
 use lib.Dec.{eqb}
-use Rattle.plan.specs.declared.Rule.{Rule}
+use Rattle.rule.specs.declared.Rule.{Rule}
 use Rattle.plan.specs.declared.Checked.{Checked}
-use Rattle.plan.specs.Rule.{largestLabel}
-use Rattle.plan.specs.Sound.{Sound, Closed}
+use Rattle.rule.specs.Rule.{largestLabel}
+use Rattle.rule.specs.Sound.{Sound, Closed}
 use Rattle.plan.specs.Check.{checked, checkedUpTo, mostRules, rulesOf}
 use Rattle.plan.proofs.Sound.{Plan, accepted-plan}
 use Rattle.forest.specs.Expression.{Expression, expression, ruleNumber}

@@ -8,7 +8,7 @@ use mathlib.Core.Option.{Option, none, some, Option·none-ne-some}
 use lib.ListN.{length, drop, length-append, length-map}
 use Rattle.words.specs.Number.{number, bytes}
 use Rattle.words.proofs.Laws.{number-bytes, length-bytes}
-use Rattle.plan.specs.Rule.{wordLength}
+use Rattle.rule.specs.Rule.{wordLength}
 use Rattle.seal.specs.Seal.{inFront}
 use Rattle.forest.specs.Forest.{Forest}
 use Rattle.forest.specs.Letter.{Letter, letterOf}

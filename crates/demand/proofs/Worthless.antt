@@ -7,7 +7,7 @@ use mathlib.Core.List.{List, [], _∷_, _++_, map}
 use mathlib.Core.Bool.{Bool, true, false, true≢false}
 use lib.ListN.{length, getD, take, drop, replicate}
 use Rattle.words.specs.Number.{number, bytes}
-use Rattle.plan.specs.declared.Refusal.{Refusal}
+use Rattle.refusal.specs.declared.Refusal.{Refusal}
 use Rattle.plan.specs.Check.{checked, rulesOf}
 use Rattle.seal.specs.Seal.{inFront}
 use Rattle.forest.specs.declared.Walked.{Walked}

@@ -7,8 +7,8 @@ use mathlib.Core.Bool.{Bool, true, false, cond}
 use mathlib.Core.List.{List, [], _∷_}
 use lib.ListN.{length}
 use lib.Dec.{eqb}
-use Rattle.plan.specs.declared.Rule.{Rule}
-use Rattle.plan.specs.Sound.{rule, Sound}
+use Rattle.rule.specs.declared.Rule.{Rule}
+use Rattle.rule.specs.Sound.{rule, Sound}
 use Rattle.forest.specs.Expression.{Expression, rhs, expression, ruleNumber}
 use Rattle.forest.specs.Forest.{Forest, append}
 use Rattle.forest.specs.Place.{Cell, Cells, Placed, Side, cellRun, cellRow, cellSpine, rowOfPart, rowOfNode, isEmpty, representative, step, placed, placedOf, placedForest}

@@ -4,9 +4,9 @@ use Prim.Native.Nat.{ℕ, _≤_, _<_}
 use mathlib.Core.List.{List}
 use lib.ListN.{length}
 use lib.Dec.{T, leb→le}
-use Rattle.plan.specs.declared.Rule.{Rule}
-use Rattle.plan.specs.Rule.{labelled, largestLabel}
-use Rattle.plan.specs.Sound.{rule, Sound}
+use Rattle.rule.specs.declared.Rule.{Rule}
+use Rattle.rule.specs.Rule.{labelled, largestLabel}
+use Rattle.rule.specs.Sound.{rule, Sound}
 use Rattle.forest.specs.Expression.{Expression, rhs, expression}
 use Rattle.forest.specs.Algebra.{Hedge, x, _·_, _⟨_⟩, single, value}
 use Rattle.forest.specs.Forest.{trees, forest}

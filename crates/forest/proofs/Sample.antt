@@ -6,9 +6,9 @@ use mathlib.Core.Bool.{Bool, true, _&&_}
 use mathlib.Core.List.{List, [], _∷_}
 use lib.ListN.{length}
 use lib.Dec.{T, ltb}
-use Rattle.plan.specs.declared.Rule.{Rule}
-use Rattle.plan.specs.Rule.{every, sorts, closed, labelled}
-use Rattle.plan.specs.Sound.{rule, kindIn, Sound, Closed}
+use Rattle.rule.specs.declared.Rule.{Rule}
+use Rattle.rule.specs.Rule.{every, sorts, closed, labelled}
+use Rattle.rule.specs.Sound.{rule, kindIn, Sound, Closed}
 use Rattle.forest.proofs.Unfold.{T-left, T-right}
 
 -- "0 empty; 1 node 97 over 0; 2 node 98 over 0; 3 pair 1 2; 4 node 99 over 3, hole, 2; 5 = 4 filled by 4; 6 = 5 filled by 1;

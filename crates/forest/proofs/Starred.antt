@@ -7,12 +7,12 @@ use mathlib.Core.Path.{_≡_, refl}
 use mathlib.Core.List.{List, [], _∷_, map, reverse}
 use lib.ListN.{length, replicate, take}
 use Rattle.words.specs.Number.{number, bytes}
-use Rattle.plan.specs.declared.Rule.{Rule}
-use Rattle.plan.specs.declared.Refusal.{Refusal}
+use Rattle.rule.specs.declared.Rule.{Rule}
+use Rattle.refusal.specs.declared.Refusal.{Refusal}
 use Rattle.plan.specs.declared.Checked.{Checked}
 use Rattle.plan.specs.declared.Written.{Written}
-use Rattle.plan.specs.Rule.{encode}
-use Rattle.plan.specs.Refusal.{numberOf, positionOf}
+use Rattle.rule.specs.Rule.{encode}
+use Rattle.refusal.specs.Refusal.{numberOf, positionOf}
 use Rattle.plan.specs.Check.{checked, rulesOf}
 use Rattle.seal.specs.Seal.{planBytes, inFront}
 use Rattle.forest.specs.declared.Measured.{Measured}

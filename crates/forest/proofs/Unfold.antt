@@ -8,9 +8,9 @@ use mathlib.Core.Bool.{Bool, true, false, _&&_}
 use mathlib.Core.List.{List}
 use lib.ListN.{length}
 use lib.Dec.{T, ltb, ltb→lt}
-use Rattle.plan.specs.declared.Rule.{Rule}
-use Rattle.plan.specs.Rule.{encode, every, sorts, closed, holed, tree}
-use Rattle.plan.specs.Sound.{rule, kindIn, Sound, Closed}
+use Rattle.rule.specs.declared.Rule.{Rule}
+use Rattle.rule.specs.Rule.{encode, every, sorts, closed, holed, tree}
+use Rattle.rule.specs.Sound.{rule, kindIn, Sound, Closed}
 use Rattle.forest.specs.Expression.{Expression, rhs, unfolded, expression, ruleNumber}
 use Rattle.forest.proofs.Good.{Sort, Good, Known}
 

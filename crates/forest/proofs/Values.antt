@@ -7,8 +7,8 @@ use native.Mathlib.Omega.{arith}
 use mathlib.Core.Path.{_≡_, refl, sym, _∙_, ap, ap₂}
 use mathlib.Core.List.{List}
 use lib.ListN.{length}
-use Rattle.plan.specs.declared.Rule.{Rule}
-use Rattle.plan.specs.Sound.{Sound, Closed}
+use Rattle.rule.specs.declared.Rule.{Rule}
+use Rattle.rule.specs.Sound.{Sound, Closed}
 use Rattle.forest.specs.Expression.{Expression, expression}
 use Rattle.forest.specs.Algebra.{Hedge, x, _·_, _⟨_⟩, single, value, holes}
 use Rattle.forest.specs.Forest.{Forest, trees, forest}

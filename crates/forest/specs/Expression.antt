@@ -3,8 +3,8 @@
 use Prim.Native.Nat.{ℕ, zero, suc}
 use mathlib.Core.List.{List}
 use lib.ListN.{length}
-use Rattle.plan.specs.declared.Rule.{Rule}
-use Rattle.plan.specs.Sound.{rule}
+use Rattle.rule.specs.declared.Rule.{Rule}
+use Rattle.rule.specs.Sound.{rule}
 
 -- document 003, section 2.3, the normal form: ε, BC, a⟨C⟩, B⟨C⟩ for closed rules; a⟨LxR⟩, B⟨C⟩ for holed ones
 pub data Expression : Type 0 where

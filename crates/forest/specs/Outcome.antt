@@ -5,10 +5,10 @@ use mathlib.Core.List.{List, _++_}
 use lib.ListN.{length, drop, replicate}
 use lib.Dec.{leb, ltb}
 use Rattle.words.specs.Number.{wordCount}
-use Rattle.plan.specs.declared.Refusal.{Refusal}
+use Rattle.refusal.specs.declared.Refusal.{Refusal}
 use Rattle.plan.specs.declared.Checked.{Checked}
 use Rattle.plan.specs.declared.Written.{Written}
-use Rattle.plan.specs.Rule.{wordLength}
+use Rattle.rule.specs.Rule.{wordLength}
 use Rattle.plan.specs.Check.{checked, rulesOf}
 use Rattle.seal.specs.Seal.{outputAfter}
 use Rattle.forest.specs.declared.Measured.{Measured}

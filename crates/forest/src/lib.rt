@@ -1,5 +1,5 @@
 // What a plan means (specs/), and the answers of the operations on its forest.
-use plan::Refusal;
+use refusal::Refusal;
 
 // What measure answers: trees, entries (all nodes) and levels, or the refusal.
 pub enum Measured {

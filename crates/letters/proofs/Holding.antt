@@ -6,9 +6,9 @@ use mathlib.Core.Path.{_≡_, refl, sym, ap, subst}
 use mathlib.Core.List.{List, [], _∷_}
 use lib.ListN.{length}
 use lib.Dec.{T, ltb, ltb→lt}
-use Rattle.plan.specs.declared.Rule.{Rule}
-use Rattle.plan.specs.Rule.{every}
-use Rattle.plan.specs.Sound.{rule, Sound}
+use Rattle.rule.specs.declared.Rule.{Rule}
+use Rattle.rule.specs.Rule.{every}
+use Rattle.rule.specs.Sound.{rule, Sound}
 use Rattle.forest.specs.Place.{Cell, Cells, Side, cellRow, cellSpine, cellRun}
 use Rattle.forest.proofs.Unfold.{T-left, T-right}
 use Rattle.model.specs.Facts.{Facts, factsOf}

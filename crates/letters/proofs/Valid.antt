@@ -6,8 +6,8 @@ use mathlib.Core.Path.{_≡_, refl, sym, ap, _∙_, subst}
 use mathlib.Core.List.{List, [], _∷_}
 use mathlib.Core.Option.{Option, none, some, Option·map}
 use lib.ListN.{length}
-use Rattle.plan.specs.declared.Rule.{Rule}
-use Rattle.plan.specs.Sound.{Sound, Closed}
+use Rattle.rule.specs.declared.Rule.{Rule}
+use Rattle.rule.specs.Sound.{Sound, Closed}
 use Rattle.forest.specs.Expression.{Expression, expression, ruleNumber}
 use Rattle.forest.specs.Place.{Cells, Placed, placedOf, placedForest}
 use Rattle.forest.specs.Letter.{Letter}

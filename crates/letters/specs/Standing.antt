@@ -5,9 +5,9 @@ use mathlib.Core.Path.{_≡_}
 use mathlib.Core.List.{List, map}
 use mathlib.Core.Option.{Option}
 use lib.ListN.{length}
-use Rattle.plan.specs.declared.Rule.{Rule}
-use Rattle.plan.specs.Rule.{wordLength}
-use Rattle.plan.specs.Sound.{Sound, Closed}
+use Rattle.rule.specs.declared.Rule.{Rule}
+use Rattle.rule.specs.Rule.{wordLength}
+use Rattle.rule.specs.Sound.{Sound, Closed}
 use Rattle.seal.specs.Seal.{inFront}
 use Rattle.forest.specs.Expression.{expression}
 use Rattle.forest.specs.Letter.{Letter}

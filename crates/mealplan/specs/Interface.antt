@@ -3,7 +3,7 @@
 use Prim.Native.Nat.{ℕ}
 use Rattle.plan.specs.declared.Checked.{Checked}
 use Rattle.plan.specs.declared.Written.{Written}
-use Rattle.plan.specs.Refusal.{numberOf, positionOf}
+use Rattle.refusal.specs.Refusal.{numberOf, positionOf}
 use Rattle.forest.specs.declared.Measured.{Measured}
 use Rattle.forest.specs.declared.Walked.{Walked}
 

@@ -6,7 +6,8 @@ use plan::Checked;
 use plan::Written;
 ghost use mathlib.Core.Path.{_≡_};
 ghost use Rattle.plan.specs.Check.{checked};
-ghost use Rattle.seal.specs.Seal.{sealed, sealedOutput, unsealed, unsealedOutput};
+ghost use Rattle.seal.specs.Seal.{sealed, sealedOutput};
+ghost use Rattle.unseal.specs.Unseal.{unsealed, unsealedOutput};
 ghost use Rattle.forest.specs.Outcome.{measured, measuredWork, spread, spreadOutput};
 ghost use Rattle.demand.specs.Calls.{walkOf};
 ghost use Rattle.walk.specs.Calls.{lends};
@@ -83,7 +84,7 @@ pub extern "C" fn plan_unseal(
 ) -> u32
     ensures { λ r. ⌜ (r ≡ checkedResult (unsealed (now (plan .entry)) (now (out .entry)))) × (now (out .exit) ≡ unsealedOutput (now (plan .entry)) (now (out .entry))) × (now (n .exit) ≡ countAfter (unsealed (now (plan .entry)) (now (out .entry))) (now (n .entry))) × (now (start .exit) ≡ startAfter (unsealed (now (plan .entry)) (now (out .entry))) (now (start .entry))) × (now (position .exit) ≡ checkedPosition (unsealed (now (plan .entry)) (now (out .entry)))) ⌝ }
 {
-    give_checked(seal::unseal(plan, out), n, start, position)
+    give_checked(unseal::unseal(plan, out), n, start, position)
 }
 
 // What a measured answer leaves behind the pointers, and the result.

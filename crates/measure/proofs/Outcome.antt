@@ -6,10 +6,11 @@ use mathlib.Core.Bool.{Bool, true, false}
 use mathlib.Core.List.{List}
 use lib.ListN.{length}
 use lib.Dec.{T}
-use Rattle.plan.specs.declared.Refusal.{Refusal}
+use Rattle.refusal.specs.declared.Refusal.{Refusal}
 use Rattle.plan.specs.declared.Checked.{Checked}
-use Rattle.plan.specs.Rule.{recordLength, wordLength}
-use Rattle.plan.specs.Check.{checked, recordsFrom, rulesIn, rulesOf, trailerLength}
+use Rattle.rule.specs.Rule.{recordLength, wordLength}
+use Rattle.rule.specs.Records.{recordsFrom, rulesIn}
+use Rattle.plan.specs.Check.{checked, rulesOf, trailerLength}
 use Rattle.forest.specs.declared.Measured.{Measured}
 use Rattle.forest.specs.Expression.{expression}
 use Rattle.forest.specs.Forest.{forest}

@@ -8,7 +8,7 @@ use counts::Tally;
 use counts::Weight;
 use forest::Measured;
 use plan::Checked;
-use plan::Refusal;
+use refusal::Refusal;
 
 // The answer for rule r of the rules in the rows. Trees and levels are at most as many as nodes, and so are entries.
 fn answer(work: &mut [u8], n: u16, r: u16) -> Measured

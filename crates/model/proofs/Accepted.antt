@@ -8,7 +8,7 @@ use mathlib.Core.Bool.{Bool, true, false, cond, not, _&&_}
 use mathlib.Core.List.{[], _∷_, reverse, reverseAux}
 use mathlib.Core.Option.{Option, none, some, Option·map}
 use lib.Dec.{eqb, ltb, lt→ltb}
-use Rattle.plan.specs.declared.Rule.{Rule}
+use Rattle.rule.specs.declared.Rule.{Rule}
 use Rattle.forest.specs.Expression.{Expression, ruleNumber}
 use Rattle.forest.specs.Place.{Cells, Side, cellRow, cellSpine, cellRun, rowOfNode, rowOfPart, isEmpty, representative, step}
 use Rattle.forest.proofs.Good.{Sort}

@@ -6,8 +6,8 @@ use Prim.Native.Nat.{ℕ, suc}
 use native.Mathlib.Omega.{arith}
 use mathlib.Core.Path.{_≡_, refl, sym, ap, _∙_}
 use mathlib.Core.Bool.{false}
-use Rattle.plan.specs.declared.Rule.{Rule}
-use Rattle.plan.specs.Sound.{rule}
+use Rattle.rule.specs.declared.Rule.{Rule}
+use Rattle.rule.specs.Sound.{rule}
 use Rattle.forest.specs.Expression.{Expression, ruleNumber}
 use Rattle.forest.specs.Place.{Side, isEmpty, representative}
 use Rattle.forest.proofs.Good.{Sort}

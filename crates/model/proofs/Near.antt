@@ -10,7 +10,7 @@ use mathlib.Core.Option.{Option, none, some, Option·map, Option·getD}
 use lib.ListN.{length, drop, length-drop}
 use lib.Seq.{drop-drop}
 use lib.Dec.{eqb, leb}
-use Rattle.plan.specs.declared.Rule.{Rule}
+use Rattle.rule.specs.declared.Rule.{Rule}
 use Rattle.forest.specs.Place.{Cells, Side, cellRow, cellSpine, cellRun, rowOfNode, rowOfPart, step, firstCells}
 use Rattle.forest.specs.Letter.{Letter, isRoot}
 use Rattle.forest.proofs.Position.{other, pick, orElse}

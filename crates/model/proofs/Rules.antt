@@ -7,9 +7,9 @@ use mathlib.Core.Bool.{Bool, true, false, _&&_}
 use mathlib.Core.List.{List}
 use lib.ListN.{length}
 use lib.Dec.{T, ltb, ltb→lt}
-use Rattle.plan.specs.declared.Rule.{Rule}
-use Rattle.plan.specs.Rule.{every}
-use Rattle.plan.specs.Sound.{rule, Sound}
+use Rattle.rule.specs.declared.Rule.{Rule}
+use Rattle.rule.specs.Rule.{every}
+use Rattle.rule.specs.Sound.{rule, Sound}
 use Rattle.forest.specs.Expression.{Expression, expression, ruleNumber, rhs}
 use Rattle.forest.specs.Place.{Side, isEmpty, representative}
 use Rattle.forest.proofs.Good.{Sort, Good, Known}

@@ -3,8 +3,8 @@
 use Prim.Native.Nat.{ℕ, suc}
 use mathlib.Core.Bool.{Bool, cond}
 use mathlib.Core.List.{List}
-use Rattle.plan.specs.declared.Rule.{Rule}
-use Rattle.plan.specs.Sound.{rule}
+use Rattle.rule.specs.declared.Rule.{Rule}
+use Rattle.rule.specs.Sound.{rule}
 use Rattle.forest.specs.Expression.{Expression, expression, ruleNumber}
 use Rattle.forest.specs.Place.{Side, isEmpty, representative}
 use Rattle.forest.proofs.Position.{pick}

@@ -4,7 +4,7 @@ use mathlib.Core.Bool.{Bool, true, false, cond}
 use mathlib.Core.List.{[], _∷_}
 use mathlib.Core.Option.{Option, none, some, Option·map}
 use lib.Dec.{eqb}
-use Rattle.plan.specs.declared.Rule.{Rule}
+use Rattle.rule.specs.declared.Rule.{Rule}
 use Rattle.forest.specs.Place.{Cells, Side, cellRow, cellSpine, rowOfNode, rowOfPart}
 use Rattle.forest.proofs.Position.{other, pick, orElse}
 use Rattle.model.specs.Facts.{Facts}

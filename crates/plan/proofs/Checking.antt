@@ -1,79 +1,21 @@
--- Laws of check's answer, each for one step of the code: what one rule's test comes to, one turn of the loop over rules, and what is left
--- of the answer once the trailer is read. Each holds by the clauses of the definition that it is about.
--- Assumes nothing.
+-- Laws of check's answer, each for one step of the code: the mark, the distance, and what is left of the answer once the trailer is
+-- read. Each holds by the clauses of the definition that it is about. Assumes nothing.
 use Prim.Native.Nat.{ℕ, suc, _+_, _-_, _*_, _≤_, _<_}
-use mathlib.Core.Path.{_≡_, refl, sym, ap, _∙_}
+use mathlib.Core.Path.{_≡_, refl, ap, _∙_}
 use mathlib.Core.Bool.{Bool, true, false, cond, _&&_, and-true}
 use mathlib.Core.List.{List}
 use native.Mathlib.Omega.{arith}
-use borrow.Author.Tests.{le-leb, lt-leb, le-ltb, lt-ltb}
-use lib.ListN.{length, getD, drop, drop-of-length-le}
-use lib.Dec.{T, leb, ltb, eqb, eqb→eq, leb→le}
+use borrow.Author.Tests.{le-leb, lt-leb}
+use lib.ListN.{length, getD, drop-of-length-le}
+use lib.Dec.{T, leb, eqb, eqb→eq, leb→le}
 use mir.Facts.{and-yes}
 use lib.Seq.{drop-cons}
-use Rattle.plan.specs.declared.Record.{Record}
-use Rattle.plan.specs.declared.Rule.{Rule}
-use Rattle.plan.specs.declared.Decoded.{Decoded}
-use Rattle.plan.specs.declared.Refusal.{Refusal}
-use Rattle.plan.specs.declared.Judged.{Judged}
+use Rattle.refusal.specs.declared.Refusal.{Refusal}
+use Rattle.rule.specs.Rule.{recordLength}
+use Rattle.rule.specs.Records.{recordsFrom}
+use Rattle.judge.specs.Judge.{judged}
 use Rattle.plan.specs.declared.Checked.{Checked}
-use Rattle.plan.specs.Rule.{recordLength, recordAt, decode, every, sorts, closed}
-use Rattle.plan.specs.Check.{trailerLength, trailerAt, countOf, startOf, distanceOf, marked, recordsFrom, firstAt, recordsOf, kindAt, namesJudged, ruleJudged, rulesJudged, andThen, startJudged, judged, accepted, inLimits, checkedUpTo}
-use Rattle.plan.proofs.Records.{records-at, records-length}
-
--- a rule is judged by what its bytes decode to
-pub rule-decoded : (s : List ℕ) (first n i : ℕ) (w : Record) (d : Decoded) → i < n → w ≡ recordAt s (first + recordLength * i) → d ≡ decode w
-    → ruleJudged (recordsFrom s first n) i ≡ namesJudged (recordsFrom s first n) i d
-unfolding ruleJudged
-rule-decoded s first n i w d below read decoded =
-    ap (λ (v : Record). namesJudged (recordsFrom s first n) i (decode v)) (records-at s first n i below ∙ sym read)
-    ∙ ap (namesJudged (recordsFrom s first n) i) (sym decoded)
-
-pub names-malformed : (ws : List Record) (i : ℕ) → namesJudged ws i Decoded.Malformed ≡ Judged.Refused (Refusal.Malformed i)
-unfolding namesJudged
-names-malformed ws i = refl
-
-pub names-whole : (ws : List Record) (i : ℕ) (r : Rule)
-    → namesJudged ws i (Decoded.Whole r)
-    ≡ cond (every (λ x. ltb x i) r) (cond (sorts (kindAt ws) r) Judged.Fine (Judged.Refused (Refusal.WrongSort i))) (Judged.Refused (Refusal.NotLower i))
-unfolding namesJudged
-names-whole ws i r = refl
-
--- the loop over rules: a rule that is fine leaves the answer to the rules after it, the first refusal is the answer
-module _ (ws : List Record) (last : Judged) (n i : ℕ) (below : i < n) where
-  rules-next : rulesJudged ws last i (n - i) ≡ andThen (ruleJudged ws i) (rulesJudged ws last (i + 1) (n - (i + 1)))
-  unfolding rulesJudged
-  rules-next =
-      let more : n - i ≡ suc (n - (i + 1)) = omega arith in
-      let next : suc i ≡ i + 1 = omega arith in
-      rw (more, next)
-
-  pub rules-fine : ruleJudged ws i ≡ Judged.Fine → rulesJudged ws last i (n - i) ≡ rulesJudged ws last (i + 1) (n - (i + 1))
-  unfolding andThen
-  rules-fine fine = rules-next ∙ rw fine
-
-  pub rules-refused : (r : Refusal) → ruleJudged ws i ≡ Judged.Refused r → rulesJudged ws last i (n - i) ≡ Judged.Refused r
-  unfolding andThen
-  rules-refused r refused = rules-next ∙ rw refused
-
-pub rules-none : (ws : List Record) (last : Judged) (n : ℕ) → rulesJudged ws last n (n - n) ≡ last
-unfolding rulesJudged
-rules-none ws last n = let none : n - n ≡ 0 = omega arith in rw none
-
-pub rules-all : (s : List ℕ) (first n start : ℕ)
-    → judged (recordsFrom s first n) start ≡ rulesJudged (recordsFrom s first n) (startJudged (recordsFrom s first n) start) 0 (n - 0)
-unfolding judged
-rules-all s first n start = let all : n - 0 ≡ n = omega arith in rw (records-length s first n, all)
-
--- the start rule
-pub start-not-below : (s : List ℕ) (first n start : ℕ) → n ≤ start → startJudged (recordsFrom s first n) start ≡ Judged.Refused Refusal.Start
-unfolding startJudged
-start-not-below s first n start high = rw (records-length s first n, le-ltb start n high)
-
-pub start-closed : (s : List ℕ) (first n start : ℕ) (b : Bool) → start < n → closed (kindAt (recordsFrom s first n) start) ≡ b
-    → startJudged (recordsFrom s first n) start ≡ cond b Judged.Fine (Judged.Refused Refusal.Start)
-unfolding startJudged
-start-closed s first n start b low sort = rw (records-length s first n, lt-ltb start n low, sort)
+use Rattle.plan.specs.Check.{trailerLength, trailerAt, countOf, startOf, distanceOf, marked, firstAt, recordsOf, accepted, inLimits, checkedUpTo}
 
 -- the two mark bytes
 pub marked-bytes : (s : List ℕ) → trailerLength ≤ length s

@@ -1,4 +1,4 @@
-pub mod Records
 pub mod Checking
-pub mod Decode
+pub mod TrailerBytes
 pub mod Sound
+pub mod Prefix

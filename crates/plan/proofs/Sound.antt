@@ -1,33 +1,30 @@
--- What an accepted plan has. Check's answer is the last of a row of tests, so each of them passed; the rules were judged one
--- by one, so each decodes, names lower rules and has the right sorts; and a record has its rule's kind. Assumes nothing.
-use Prim.Native.Nat.{ℕ, zero, suc, _+_, _-_, _*_, _≤_, _<_}
+-- What an accepted plan has. Check's answer is the last of a row of tests, so each of them passed; the rules were judged fine, so they
+-- are sound, and each record means the rule with its number. Assumes nothing.
+use Prim.Native.Nat.{ℕ, _+_, _-_, _*_, _≤_, _<_}
 use mathlib.Core.Bool.{Bool, true, false, cond, _&&_, and-eq-true-iff}
 use mathlib.Core.List.{List}
-use mathlib.Core.Path.{_≡_, refl, sym, ap, subst, fun-ext, _∙_}
-use mathlib.Core.Logic.{⊎-elim}
-use native.Mathlib.Nat.{eq-or-lt-of-le}
-use native.Mathlib.Decide.{decLt}
+use mathlib.Core.Path.{_≡_, refl, sym, ap, _∙_}
 use native.Mathlib.Omega.{arith}
-use lib.Dec.{T, leb, ltb, eqb, ltb→lt, lt→ltb}
-use lib.ListN.{length, length-map, List·getD-map, List·getD-eq-default}
-use borrow.Author.Tests.{leb-true, eqb-true, ltb-true}
-use Rattle.plan.specs.declared.Record.{Record}
-use Rattle.plan.specs.declared.Rule.{Rule}
-use Rattle.plan.specs.declared.Decoded.{Decoded}
-use Rattle.plan.specs.declared.Refusal.{Refusal}
-use Rattle.plan.specs.declared.Judged.{Judged}
+use lib.Dec.{leb, eqb}
+use lib.ListN.{length}
+use borrow.Author.Tests.{leb-true, eqb-true}
+use Rattle.refusal.specs.declared.Refusal.{Refusal}
+use Rattle.rule.specs.declared.Record.{Record}
+use Rattle.rule.specs.declared.Rule.{Rule}
+use Rattle.rule.specs.declared.Decoded.{Decoded}
+use Rattle.rule.specs.Rule.{recordLength, recordAt, decode, encode}
+use Rattle.rule.specs.Records.{recordsFrom, recordIn}
+use Rattle.rule.specs.Sound.{rule, Sound, Closed}
+use Rattle.rule.proofs.Decode.{encode-decode}
+use Rattle.rule.proofs.Records.{records-length, records-at}
+use Rattle.rule.proofs.Rules.{length-rulesIn, rule-decoded}
+use Rattle.judge.specs.declared.Judged.{Judged}
+use Rattle.judge.specs.Judge.{judged}
+use Rattle.judge.proofs.Fit.{fine-fit}
 use Rattle.plan.specs.declared.Checked.{Checked}
-use Rattle.plan.specs.Rule.{recordLength, recordAt, decode, encode, ruleOf, every, sorts, closed}
-use Rattle.plan.specs.Sound.{rule, kindIn, Sound, Closed}
-use Rattle.plan.specs.Check.{trailerLength, mostRules, trailerAt, countOf, startOf, distanceOf, firstAt, recordsFrom, recordsOf, rulesIn, rulesOf, recordIn, kindAt, namesJudged, ruleJudged, andThen, rulesJudged, startJudged, judged, accepted, inLimits, marked, checkedUpTo, checked}
-use Rattle.plan.proofs.Decode.{encode-decode, decode-kind, decode-labelled}
-use Rattle.plan.proofs.Records.{records-length, records-at}
+use Rattle.plan.specs.Check.{trailerLength, mostRules, trailerAt, countOf, startOf, distanceOf, firstAt, recordsOf, rulesOf, accepted, inLimits, marked, checkedUpTo, checked}
 
 -- ---- tests that passed
-fine-passed : (b : Bool) (x : Judged) (e : Refusal) → cond b x (Judged.Refused e) ≡ Judged.Fine → (b ≡ true) × (x ≡ Judged.Fine)
-fine-passed true x e h = (refl, h)
-fine-passed false x e h = let z : _≡_ {A = ℕ} 0 1 = cc in absurd (omega arith)
-
 accepted-passed : (b : Bool) (x : Checked) (e : Refusal) (n start : ℕ)
     → cond b x (Checked.Refused e) ≡ Checked.Accepted n start
     → (b ≡ true) × (x ≡ Checked.Accepted n start)
@@ -40,121 +37,6 @@ accepted-fine : (m from : ℕ) (j : Judged) (n start : ℕ)
 unfolding accepted
 accepted-fine m from Judged.Fine n start h = (cc, cc, refl)
 accepted-fine m from (Judged.Refused e) n start h = let z : _≡_ {A = ℕ} 0 1 = cc in absurd (omega arith)
-
-andThen-fine : (a b : Judged) → andThen a b ≡ Judged.Fine → (a ≡ Judged.Fine) × (b ≡ Judged.Fine)
-unfolding andThen
-andThen-fine Judged.Fine b h = (refl, h)
-andThen-fine (Judged.Refused e) b h = let z : _≡_ {A = ℕ} 0 1 = cc in absurd (omega arith)
-
-is-test : {b : Bool} → b ≡ true → T b
-is-test e = subst T (sym e) tt
-
-two : (a b c d : Bool) → (T a → T c) → (T b → T d) → T (a && b) → T (c && d)
-two true b true d f g h = g h
-two true b false d f g h = absurd (f tt)
-two false b true d f g h = absurd h
-two false b false d f g h = h
-
--- ---- the judgement of each rule
-pub record Named (ws : List Record) (i : ℕ) (d : Decoded) : Type 0 where
-  pub means : Rule
-  pub decodes : d ≡ Decoded.Whole means
-  pub lower : T (every (λ x. ltb x i) means)
-  pub sorted : T (sorts (kindAt ws) means)
-
-named : (ws : List Record) (i : ℕ) (d : Decoded) → namesJudged ws i d ≡ Judged.Fine → Named ws i d
-unfolding namesJudged
-named ws i Decoded.Malformed h = let z : _≡_ {A = ℕ} 0 1 = cc in absurd (omega arith)
-named ws i (Decoded.Whole r) h =
-    let p = fine-passed (every (λ x. ltb x i) r) (cond (sorts (kindAt ws) r) Judged.Fine (Judged.Refused (Refusal.WrongSort i))) (Refusal.NotLower i) h in
-    let q = fine-passed (sorts (kindAt ws) r) Judged.Fine (Refusal.WrongSort i) (p .1) in
-    record { means = r; decodes = refl; lower = is-test (p .0); sorted = is-test (q .0) }
-
--- m rules from i on, and what follows them
-rules-fine : (ws : List Record) (last : Judged) (m i : ℕ)
-    → rulesJudged ws last i m ≡ Judged.Fine
-    → ((k : ℕ) → i ≤ k → k < i + m → ruleJudged ws k ≡ Judged.Fine) × (last ≡ Judged.Fine)
-unfolding rulesJudged
-rules-fine ws last zero i h = (λ k l u. absurd (omega arith), h)
-rules-fine ws last (suc m) i h =
-    let p = andThen-fine (ruleJudged ws i) (rulesJudged ws last (suc i) m) h in
-    let q = rules-fine ws last m (suc i) (p .1) in
-    (λ k l u. ⊎-elim (λ e. rw e at (p .0)) (λ g. q .0 k g (omega arith)) (eq-or-lt-of-le l), q .1)
-
--- ---- the rules of the records
-rule-in : (ws : List Record) (i : ℕ) → rule (rulesIn ws) i ≡ ruleOf (decode (recordIn ws i))
-unfolding rule rulesIn recordIn decode ruleOf
-rule-in ws i = List·getD-map (λ (w : Record). ruleOf (decode w)) ws i (record { kind = 0; one = 0; two = 0; three = 0 })
-
-length-rulesIn : (ws : List Record) → length (rulesIn ws) ≡ length ws
-unfolding rulesIn
-length-rulesIn ws = length-map ws (λ (w : Record). ruleOf (decode w))
-
-pub rule-decoded : (ws : List Record) (i : ℕ) (r : Rule) → decode (recordIn ws i) ≡ Decoded.Whole r → rule (rulesIn ws) i ≡ r
-unfolding ruleOf
-rule-decoded ws i r h = rule-in ws i ∙ ap ruleOf h
-
--- past the end a record counts as the empty rule's
-past : (ws : List Record) (i : ℕ) → length ws ≤ i → decode (recordIn ws i) ≡ Decoded.Whole Rule.Empty
-unfolding recordIn decode
-past ws i h = rw (List·getD-eq-default ws (record { kind = 0; one = 0; two = 0; three = 0 }) h)
-
-kind-decoded : (ws : List Record) (i : ℕ) (r : Rule) → decode (recordIn ws i) ≡ Decoded.Whole r → kindIn (rulesIn ws) i ≡ kindAt ws i
-unfolding kindIn kindAt
-kind-decoded ws i r h = ap (λ (x : Rule). (encode x) .kind) (rule-decoded ws i r h) ∙ decode-kind (recordIn ws i) r h
-
--- where every record decodes, the records' kinds are the rules' kinds
-kinds : (ws : List Record) → ((i : ℕ) → i < length ws → Named ws i (decode (recordIn ws i))) → kindAt ws ≡ kindIn (rulesIn ws)
-kinds ws each =
-    fun-ext λ i. elim (decLt i (length ws)) [
-      | yes l ↦ sym (kind-decoded ws i ((each i l) .means) ((each i l) .decodes))
-      | no g ↦ sym (kind-decoded ws i Rule.Empty (past ws i (omega (arith, g))))
-    ]
-
-every-weaker : (p q : ℕ → Bool) → ((x : ℕ) → T (p x) → T (q x)) → (r : Rule) → T (every p r) → T (every q r)
-unfolding every
-every-weaker p q f Rule.Empty h = tt
-every-weaker p q f (Rule.Pair b c) h = two (p b) (p c) (q b) (q c) (f b) (f c) h
-every-weaker p q f (Rule.Node a c) h = f c h
-every-weaker p q f (Rule.Fill b c) h = two (p b) (p c) (q b) (q c) (f b) (f c) h
-every-weaker p q f (Rule.Part a b c) h = two (p b) (p c) (q b) (q c) (f b) (f c) h
-every-weaker p q f (Rule.Join b c) h = two (p b) (p c) (q b) (q c) (f b) (f c) h
-
--- ---- what records that are judged fine have, and what an accepted plan has
-pub record Fit (ws : List Record) (start : ℕ) : Type 0 where
-  pub each : (i : ℕ) → i < length ws → Named ws i (decode (recordIn ws i))
-  pub sound : Sound (rulesIn ws) (λ r. r)
-  pub ends : Closed (rulesIn ws) start
-
-fit-sound : (ws : List Record) → ((i : ℕ) → i < length ws → Named ws i (decode (recordIn ws i))) → Sound (rulesIn ws) (λ r. r)
-fit-sound ws each =
-    let e = length-rulesIn ws in
-    let at : (i : ℕ) → i < length (rulesIn ws) → Named ws i (decode (recordIn ws i)) = λ i l. each i (omega arith) in
-    let is : (i : ℕ) (l : i < length (rulesIn ws)) → rule (rulesIn ws) i ≡ (at i l) .means = λ i l. rule-decoded ws i ((at i l) .means) ((at i l) .decodes) in
-    record {
-      in-range = λ i l. rw (is i l) (every-weaker (λ x. ltb x i) (λ x. ltb x (length (rulesIn ws))) (λ x u. lt→ltb x (length (rulesIn ws)) (omega (arith, ltb→lt x i u))) ((at i l) .means) ((at i l) .lower));
-      falls = λ i l. rw (is i l) ((at i l) .lower);
-      ranked = λ i l. l;
-      sorted = λ i l. rw (is i l, ← kinds ws each) ((at i l) .sorted);
-      labels = λ i l. rw (is i l) (decode-labelled (recordIn ws i) ((at i l) .means) ((at i l) .decodes));
-    }
-
-fit-start : (ws : List Record) (start : ℕ) → ((i : ℕ) → i < length ws → Named ws i (decode (recordIn ws i))) → startJudged ws start ≡ Judged.Fine → Closed (rulesIn ws) start
-unfolding startJudged
-fit-start ws start each h =
-    let p = fine-passed (ltb start (length ws) && closed (kindAt ws start)) Judged.Fine Refusal.Start h in
-    let q = and-eq-true-iff (ltb start (length ws)) (closed (kindAt ws start)) .0 (p .0) in
-    record {
-      below = omega (arith, length-rulesIn ws, ltb-true start (length ws) (q .0));
-      closed-kind = rw (← kinds ws each) (is-test (q .1));
-    }
-
-pub fine-fit : (ws : List Record) (start : ℕ) → judged ws start ≡ Judged.Fine → Fit ws start
-unfolding judged ruleJudged
-fine-fit ws start h =
-    let p = rules-fine ws (startJudged ws start) (length ws) 0 h in
-    let each : (i : ℕ) → i < length ws → Named ws i (decode (recordIn ws i)) = λ i l. named ws i (decode (recordIn ws i)) (p .0 i (omega arith) (omega arith)) in
-    record { each = each; sound = fit-sound ws each; ends = fit-start ws start each (p .1) }
 
 -- check's answer as a function of what it looks at: whether the trailer fits, the mark, the trailer's numbers, whether the
 -- distance stays within, and the records

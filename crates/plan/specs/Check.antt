@@ -1,17 +1,18 @@
 -- Document 01, "A plan's bytes" (the trailer) and "Check".
-use Prim.Native.Nat.{ℕ, zero, suc, _+_, _-_, _*_}
-use mathlib.Core.Bool.{Bool, true, false, not, cond, _&&_, _||_}
-use mathlib.Core.List.{List, [], _∷_, map}
-use lib.ListN.{length, getD, take, drop}
-use lib.Dec.{leb, ltb, eqb}
-use Rattle.words.specs.Number.{number}
-use Rattle.plan.specs.declared.Record.{Record}
-use Rattle.plan.specs.declared.Rule.{Rule}
-use Rattle.plan.specs.declared.Decoded.{Decoded}
-use Rattle.plan.specs.declared.Refusal.{Refusal}
-use Rattle.plan.specs.declared.Judged.{Judged}
+use Prim.Native.Nat.{ℕ, _+_, _-_, _*_}
+use mathlib.Core.Bool.{Bool, true, false, cond, _&&_}
+use mathlib.Core.List.{List, [], _∷_, _++_}
+use lib.ListN.{length, drop}
+use lib.Dec.{leb, eqb}
+use Rattle.words.specs.Number.{number, bytes}
+use Rattle.rule.specs.declared.Record.{Record}
+use Rattle.rule.specs.declared.Rule.{Rule}
+use Rattle.refusal.specs.declared.Refusal.{Refusal}
+use Rattle.judge.specs.declared.Judged.{Judged}
 use Rattle.plan.specs.declared.Checked.{Checked}
-use Rattle.plan.specs.Rule.{recordLength, recordAt, decode, encode, ruleOf, every, sorts, closed}
+use Rattle.rule.specs.Rule.{recordLength}
+use Rattle.rule.specs.Records.{recordsFrom, rulesIn}
+use Rattle.judge.specs.Judge.{judged}
 
 -- "a trailer of 10 bytes that points back: n (16 bits), start rule (16 bits), distance .. (32 bits), and the two mark bytes"
 abbrev pub trailerLength : ℕ
@@ -24,6 +25,11 @@ magic = 0x6d ∷ 0x70 ∷ []
 -- "n is 1 to 1,024"
 abbrev pub mostRules : ℕ
 mostRules = 1024
+
+-- the trailer of n rules that stand right before it
+unfoldable pub trailerBytes : ℕ → ℕ → List ℕ
+unfolding bytes
+trailerBytes n start = bytes 2 n ++ (bytes 2 start ++ (bytes 4 (recordLength * n) ++ magic))
 
 -- where the trailer begins, and its fields
 unfoldable pub trailerAt : List ℕ → ℕ
@@ -51,12 +57,6 @@ unfoldable pub marked : List ℕ → Bool
 unfolding trailerAt same
 marked s = same (drop (trailerAt s + 8) s) magic
 
--- the records of n rules from an offset on
-unfoldable pub recordsFrom : List ℕ → ℕ → ℕ → List Record
-unfolding recordAt
-recordsFrom s at zero = []
-recordsFrom s at (suc n) = recordAt s at ∷ recordsFrom s (at + recordLength) n
-
 -- the first rule's offset, and the plan's records and rules
 unfoldable pub firstAt : List ℕ → ℕ
 unfolding trailerAt distanceOf
@@ -66,60 +66,11 @@ unfoldable pub recordsOf : List ℕ → List Record
 unfolding recordsFrom firstAt countOf
 recordsOf s = recordsFrom s (firstAt s) (countOf s)
 
-unfoldable pub rulesIn : List Record → List Rule
-unfolding decode ruleOf
-rulesIn ws = map (λ (w : Record). ruleOf (decode w)) ws
-
 unfoldable pub rulesOf : List ℕ → List Rule
 unfolding recordsOf rulesIn
 rulesOf s = rulesIn (recordsOf s)
 
--- the kind of the record with a number
-noRecord : Record
-noRecord = record { kind = 0; one = 0; two = 0; three = 0 }
-
-unfoldable pub recordIn : List Record → ℕ → Record
-unfolding noRecord
-recordIn ws i = getD ws i noRecord
-
-unfoldable pub kindAt : List Record → ℕ → ℕ
-unfolding recordIn
-kindAt ws i = (recordIn ws i) .kind
-
--- "the first of: 4: kind above 5, label above 255, unused word not 0; 5: names a rule not lower; 6: names one of the wrong sort"
-unfoldable pub namesJudged : List Record → ℕ → Decoded → Judged
-unfolding every sorts kindAt
-namesJudged ws i Decoded.Malformed = Judged.Refused (Refusal.Malformed i)
-namesJudged ws i (Decoded.Whole r) =
-    cond (every (λ x. ltb x i) r)
-    (cond (sorts (kindAt ws) r) Judged.Fine (Judged.Refused (Refusal.WrongSort i)))
-    (Judged.Refused (Refusal.NotLower i))
-
-unfoldable pub ruleJudged : List Record → ℕ → Judged
-unfolding namesJudged decode recordIn
-ruleJudged ws i = namesJudged ws i (decode (recordIn ws i))
-
--- the first of two judgements that is a refusal
-unfoldable pub andThen : Judged → Judged → Judged
-andThen Judged.Fine later = later
-andThen (Judged.Refused r) later = Judged.Refused r
-
--- "Then rules from 0 up, the first faulty one": m rules from i on, and after them last
-unfoldable pub rulesJudged : List Record → Judged → ℕ → ℕ → Judged
-unfolding ruleJudged andThen
-rulesJudged ws last i zero = last
-rulesJudged ws last i (suc m) = andThen (ruleJudged ws i) (rulesJudged ws last (suc i) m)
-
--- "Last 7: start isn't below n or isn't closed."
-unfoldable pub startJudged : List Record → ℕ → Judged
-unfolding kindAt closed
-startJudged ws start = cond (ltb start (length ws) && closed (kindAt ws start)) Judged.Fine (Judged.Refused Refusal.Start)
-
--- refusals 4 to 7, which check and seal share
-unfoldable pub judged : List Record → ℕ → Judged
-unfolding rulesJudged startJudged
-judged ws start = rulesJudged ws (startJudged ws start) 0 (length ws)
-
+-- n and start, if the rules are fine
 unfoldable pub accepted : ℕ → ℕ → Judged → Checked
 accepted n start Judged.Fine = Checked.Accepted n start
 accepted n start (Judged.Refused r) = Checked.Refused r

@@ -1,4 +1,1 @@
-pub mod Rule
-pub mod Sound
 pub mod Check
-pub mod Refusal

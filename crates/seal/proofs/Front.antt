@@ -4,17 +4,16 @@ use Prim.Native.Nat.{ℕ, zero, suc, _+_, _*_, _≤_}
 use mathlib.Core.List.{List, [], _∷_, _++_, append-assoc, append-nil}
 use mathlib.Core.Path.{_≡_, refl, sym, ap, _∙_}
 use native.Mathlib.Nat.{add-zero}
-use native.Mathlib.Numerals.{add-one, add-two, add-four, add-eight}
+use native.Mathlib.Numerals.{add-one}
 use native.Mathlib.Omega.{arith}
-use lib.ListN.{length, take, drop, set, length-append, length-drop}
-use lib.Seq.{sets-eq, take-at, drop-append-add, drop-drop}
-use Rattle.words.specs.Number.{put}
-use Rattle.plan.specs.declared.Record.{Record}
-use Rattle.plan.specs.Rule.{recordLength, recordAt, recordBytes}
-use Rattle.plan.specs.Check.{trailerLength, recordsFrom}
-use Rattle.seal.specs.Seal.{recordsBytes, trailerBytes, inFront}
-use Rattle.plan.proofs.Records.{records-length}
-use Rattle.seal.proofs.RecordBytes.{length-recordBytes, length-recordsBytes}
+use lib.ListN.{length, take, drop, length-append, length-drop}
+use lib.Seq.{take-at, drop-append-add, drop-drop}
+use Rattle.rule.specs.declared.Record.{Record}
+use Rattle.rule.specs.Rule.{recordLength, recordAt, recordBytes}
+use Rattle.rule.specs.Records.{recordsFrom, recordsBytes}
+use Rattle.seal.specs.Seal.{inFront}
+use Rattle.rule.proofs.Records.{records-length}
+use Rattle.rule.proofs.RecordBytes.{length-recordBytes, length-recordsBytes}
 
 pub inFront-none : (out : List ℕ) → inFront [] out ≡ out
 unfolding inFront
@@ -77,12 +76,3 @@ copied-more s at i out from e =
     rw (e, add-one)
     (inFront-more (recordsBytes (recordsFrom s at i)) out (recordBytes w) (recordLength * i) recordLength (length-read s at i) (length-recordBytes w)
     ∙ ap (λ (l : List ℕ). inFront l out) (sym (recordsBytes-more s at i)))
-
--- ---- a trailer, number by number
-pub put-trailer : (s : List ℕ) (at n start : ℕ) → at + trailerLength ≤ length s
-    → set (set (put 4 (put 2 (put 2 s at n) (at + 2) start) (at + 4) (recordLength * n)) (at + 8) 0x6d) (at + 8 + 1) 0x70
-    ≡ take at s ++ (trailerBytes n start ++ drop (at + trailerLength) s)
-unfolding put trailerBytes
-put-trailer s at n start h =
-    rw (add-one (at + 8), add-two at, add-four at, add-eight at)
-    (sets-eq (trailerBytes n start) s at h ∙ append-assoc (take at s) (trailerBytes n start) (drop (at + trailerLength) s))

@@ -8,21 +8,23 @@ use native.Mathlib.Nat.{zero-add}
 use native.Mathlib.Omega.{arith}
 use lib.Dec.{leb, eqb}
 use lib.ListN.{length, take, drop}
-use borrow.Author.Tests.{le-leb, lt-leb, eq-eqb, ne-eqb, leb-true, eqb-true}
+use borrow.Author.Tests.{le-leb, lt-leb, leb-true, eqb-true}
 use Rattle.words.specs.Number.{wordCount}
-use Rattle.plan.specs.declared.Record.{Record}
-use Rattle.plan.specs.declared.Decoded.{Decoded}
-use Rattle.plan.specs.declared.Refusal.{Refusal}
-use Rattle.plan.specs.declared.Judged.{Judged}
+use Rattle.rule.specs.declared.Record.{Record}
+use Rattle.rule.specs.declared.Decoded.{Decoded}
+use Rattle.refusal.specs.declared.Refusal.{Refusal}
+use Rattle.judge.specs.declared.Judged.{Judged}
 use Rattle.plan.specs.declared.Written.{Written}
-use Rattle.plan.specs.Rule.{recordLength, recordWords, decode, recordAt}
-use Rattle.plan.specs.Check.{trailerLength, recordsFrom, recordIn, judged, inLimits}
-use Rattle.seal.specs.Seal.{recordsBytes, trailerBytes, planBytes, givenCount, given, roomed, sealedUpTo, inFront}
-use Rattle.plan.proofs.Sound.{fine-fit}
-use Rattle.plan.proofs.Records.{records-length, records-at}
-use Rattle.seal.proofs.RecordBytes.{length-recordsBytes}
+use Rattle.rule.specs.Rule.{recordLength, recordWords, decode, recordAt}
+use Rattle.rule.specs.Records.{recordsFrom, recordsBytes, recordIn}
+use Rattle.judge.specs.Judge.{judged}
+use Rattle.plan.specs.Check.{trailerLength, trailerBytes, inLimits}
+use Rattle.seal.specs.Seal.{planBytes, givenCount, given, roomed, sealedUpTo, inFront}
+use Rattle.judge.proofs.Fit.{fine-fit}
+use Rattle.rule.proofs.Records.{records-length, records-at}
+use Rattle.rule.proofs.RecordBytes.{length-recordsBytes}
 use Rattle.seal.proofs.Front.{inFront-more}
-use Rattle.seal.proofs.TrailerBytes.{length-trailerBytes}
+use Rattle.plan.proofs.TrailerBytes.{length-trailerBytes}
 
 unfoldable pub sealAnswer : ℕ → Bool → ℕ → Judged → List ℕ → Written
 sealAnswer most whole n j out = cond (whole && inLimits most n) (roomed (recordLength * n + trailerLength) out j) (Written.Refused Refusal.Count)
@@ -65,48 +67,40 @@ module _ (most : ℕ) (words : List ℕ) (start : ℕ) (out : List ℕ) (count :
   abbrev asked : Judged
   asked = judged (recordsFrom words 0 (count / recordWords)) start
 
+  abbrev need : ℕ
+  need = recordLength * (count / recordWords) + trailerLength
+
   answered : sealedUpTo most words start out ≡ sealAnswer most (eqb (count % recordWords) 0) (count / recordWords) asked out
   unfolding given givenCount
   answered = sealed-answer most words start out ∙ ap (λ (k : ℕ). sealAnswer most (eqb (k % recordWords) 0) (k / recordWords) (judged (recordsFrom words 0 (k / recordWords)) start) out) (sym e)
 
-  pub not-fours : (count % recordWords ≡ 0 → ⊥) → sealedUpTo most words start out ≡ Written.Refused Refusal.Count
+  pub not-counted : (eqb (count % recordWords) 0 && inLimits most (count / recordWords)) ≡ false → sealedUpTo most words start out ≡ Written.Refused Refusal.Count
   unfolding sealAnswer
-  not-fours h = answered ∙ rw (ne-eqb (count % recordWords) 0 h)
+  not-counted h = answered ∙ rw h
 
-  module _ (fours : count % recordWords ≡ 0) where
-    answered-fours : sealedUpTo most words start out ≡ sealAnswer most true (count / recordWords) asked out
-    answered-fours = answered ∙ ap (λ (b : Bool). sealAnswer most b (count / recordWords) asked out) (eq-eqb (count % recordWords) 0 fours)
+  module _ (counted : (eqb (count % recordWords) 0 && inLimits most (count / recordWords)) ≡ true) where
+    answered-counted : (j : Judged) → asked ≡ j → sealedUpTo most words start out ≡ roomed need out j
+    unfolding sealAnswer
+    answered-counted j h = answered ∙ rw (counted, h)
 
-    pub too-few : count / recordWords < 1 → sealedUpTo most words start out ≡ Written.Refused Refusal.Count
-    unfolding sealAnswer inLimits
-    too-few h = answered-fours ∙ rw (lt-leb 1 (count / recordWords) h)
+    pub counted-few : count / recordWords ≤ most
+    unfolding inLimits
+    counted-few =
+        let n = count / recordWords in
+        let limits = and-eq-true-iff (eqb (count % recordWords) 0) (inLimits most n) .0 counted .1 in
+        leb-true n most (and-eq-true-iff (leb 1 n) (leb n most) .0 limits .1)
 
-    module _ (some : 1 ≤ count / recordWords) where
-      pub too-many : most < count / recordWords → sealedUpTo most words start out ≡ Written.Refused Refusal.Count
-      unfolding sealAnswer inLimits
-      too-many h = answered-fours ∙ rw (le-leb 1 (count / recordWords) some, lt-leb (count / recordWords) most h)
+    pub not-fine : (r : Refusal) → asked ≡ Judged.Refused r → sealedUpTo most words start out ≡ Written.Refused r
+    unfolding roomed
+    not-fine r j = answered-counted (Judged.Refused r) j
 
-      module _ (few : count / recordWords ≤ most) where
-        answered-limits : sealedUpTo most words start out ≡ roomed (recordLength * (count / recordWords) + trailerLength) out asked
-        unfolding sealAnswer inLimits
-        answered-limits = answered-fours ∙ rw (le-leb 1 (count / recordWords) some, le-leb (count / recordWords) most few)
+    pub no-room : asked ≡ Judged.Fine → length out < need → sealedUpTo most words start out ≡ Written.Refused Refusal.Room
+    unfolding roomed
+    no-room fine h = answered-counted Judged.Fine fine ∙ rw (lt-leb need (length out) h)
 
-        pub not-fine : (r : Refusal) → asked ≡ Judged.Refused r → sealedUpTo most words start out ≡ Written.Refused r
-        unfolding roomed
-        not-fine r j = answered-limits ∙ ap (roomed (recordLength * (count / recordWords) + trailerLength) out) j
-
-        module _ (fine : asked ≡ Judged.Fine) where
-          answered-fine : sealedUpTo most words start out ≡ roomed (recordLength * (count / recordWords) + trailerLength) out Judged.Fine
-          answered-fine = answered-limits ∙ ap (roomed (recordLength * (count / recordWords) + trailerLength) out) fine
-
-          pub no-room : length out < recordLength * (count / recordWords) + trailerLength → sealedUpTo most words start out ≡ Written.Refused Refusal.Room
-          unfolding roomed
-          no-room h = answered-fine ∙ rw (lt-leb (recordLength * (count / recordWords) + trailerLength) (length out) h)
-
-          pub room-enough : recordLength * (count / recordWords) + trailerLength ≤ length out
-              → sealedUpTo most words start out ≡ Written.Length (recordLength * (count / recordWords) + trailerLength)
-          unfolding roomed
-          room-enough h = answered-fine ∙ rw (le-leb (recordLength * (count / recordWords) + trailerLength) (length out) h)
+    pub room-enough : asked ≡ Judged.Fine → need ≤ length out → sealedUpTo most words start out ≡ Written.Length need
+    unfolding roomed
+    room-enough fine h = answered-counted Judged.Fine fine ∙ rw (le-leb need (length out) h)
 
 -- ---- what an accepting answer of length m lets seal write: n rules and a trailer
 module _ (most : ℕ) (words : List ℕ) (start : ℕ) (out : List ℕ) (m : ℕ) (q : Sealed most words start out m) (n : ℕ) (e : n ≡ givenCount words) where

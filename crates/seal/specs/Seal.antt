@@ -1,28 +1,20 @@
--- Document 01, "Seal" and "Unseal".
+-- Document 01, "Seal".
 use Prim.Native.Nat.{ℕ, _+_, _*_, _/_, _%_}
 use mathlib.Core.Bool.{cond, _&&_}
-use mathlib.Core.List.{List, [], _∷_, _++_}
+use mathlib.Core.List.{List, _++_}
 use lib.ListN.{length, drop}
 use lib.Dec.{leb, eqb}
-use Rattle.words.specs.Number.{bytes, wordCount}
-use Rattle.plan.specs.declared.Record.{Record}
-use Rattle.plan.specs.declared.Refusal.{Refusal}
-use Rattle.plan.specs.declared.Judged.{Judged}
-use Rattle.plan.specs.declared.Checked.{Checked}
+use Rattle.words.specs.Number.{wordCount}
+use Rattle.rule.specs.declared.Record.{Record}
+use Rattle.refusal.specs.declared.Refusal.{Refusal}
+use Rattle.judge.specs.declared.Judged.{Judged}
 use Rattle.plan.specs.declared.Written.{Written}
-use Rattle.plan.specs.Rule.{recordLength, recordWords, recordBytes}
-use Rattle.plan.specs.Check.{trailerLength, magic, mostRules, recordsFrom, recordsOf, judged, inLimits, checked}
+use Rattle.rule.specs.Rule.{recordLength, recordWords}
+use Rattle.rule.specs.Records.{recordsFrom, recordsBytes}
+use Rattle.judge.specs.Judge.{judged}
+use Rattle.plan.specs.Check.{trailerLength, trailerBytes, mostRules, inLimits}
 
 -- the bytes of a plan without prefix (prefix is document 01's cover): its rules, then the trailer
-unfoldable pub recordsBytes : List Record → List ℕ
-unfolding recordBytes
-recordsBytes [] = []
-recordsBytes (w ∷ ws) = recordBytes w ++ recordsBytes ws
-
-unfoldable pub trailerBytes : ℕ → ℕ → List ℕ
-unfolding bytes
-trailerBytes n start = bytes 2 n ++ (bytes 2 start ++ (bytes 4 (recordLength * n) ++ magic))
-
 unfoldable pub planBytes : List Record → ℕ → List ℕ
 unfolding recordsBytes trailerBytes
 planBytes ws start = recordsBytes ws ++ trailerBytes (length ws) start
@@ -65,23 +57,3 @@ outputAfter (Written.Refused r) bs out = out
 unfoldable pub sealedOutput : List ℕ → ℕ → List ℕ → List ℕ
 unfolding sealed given planBytes outputAfter
 sealedOutput words start out = outputAfter (sealed words start out) (planBytes (given words) start) out
-
--- "As check; 11: output shorter than 4 × n words."
-unfoldable pub wordsRoomed : List ℕ → Checked → Checked
-wordsRoomed out (Checked.Accepted n start) =
-    cond (leb (recordWords * n) (wordCount out)) (Checked.Accepted n start) (Checked.Refused Refusal.Room)
-wordsRoomed out (Checked.Refused r) = Checked.Refused r
-
-unfoldable pub unsealed : List ℕ → List ℕ → Checked
-unfolding checked wordsRoomed
-unsealed s out = wordsRoomed out (checked s)
-
--- "It writes the words and gives n and start; later words stay, and refused, it writes nothing."
-unfoldable pub wordsAfter : Checked → List ℕ → List ℕ → List ℕ
-unfolding inFront
-wordsAfter (Checked.Accepted n start) bs out = inFront bs out
-wordsAfter (Checked.Refused r) bs out = out
-
-unfoldable pub unsealedOutput : List ℕ → List ℕ → List ℕ
-unfolding unsealed recordsBytes recordsOf wordsAfter
-unsealedOutput s out = wordsAfter (unsealed s out) (recordsBytes (recordsOf s)) out

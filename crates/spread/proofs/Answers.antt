@@ -8,11 +8,11 @@ use mathlib.Core.List.{List}
 use lib.ListN.{length}
 use lib.Dec.{leb}
 use borrow.Author.Tests.{leb-true, leb-false, le-leb, lt-leb}
-use Rattle.plan.specs.declared.Refusal.{Refusal}
-use Rattle.plan.specs.declared.Rule.{Rule}
+use Rattle.refusal.specs.declared.Refusal.{Refusal}
+use Rattle.rule.specs.declared.Rule.{Rule}
 use Rattle.plan.specs.declared.Written.{Written}
-use Rattle.plan.specs.Rule.{wordLength}
-use Rattle.plan.specs.Sound.{rule, Sound, Closed}
+use Rattle.rule.specs.Rule.{wordLength}
+use Rattle.rule.specs.Sound.{rule, Sound, Closed}
 use Rattle.seal.specs.Seal.{inFront, outputAfter}
 use Rattle.forest.specs.Expression.{Expression, expression}
 use Rattle.forest.specs.Algebra.{value}

@@ -5,8 +5,8 @@ use native.Mathlib.Omega.{arith}
 use mathlib.Core.Path.{_≡_, refl, sym, ap, subst, _∙_}
 use mathlib.Core.List.{List, [], _∷_, _++_, append-nil}
 use lib.ListN.{length}
-use Rattle.plan.specs.Rule.{wordLength}
-use Rattle.plan.specs.Sound.{Sound}
+use Rattle.rule.specs.Rule.{wordLength}
+use Rattle.rule.specs.Sound.{Sound}
 use Rattle.forest.specs.Expression.{Expression, expression}
 use Rattle.forest.proofs.Unfold.{height, height-expression}
 use Rattle.tables.specs.Rows.{Within}

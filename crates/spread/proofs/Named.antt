@@ -5,8 +5,8 @@ use mathlib.Core.Path.{_≡_}
 use mathlib.Core.List.{List}
 use lib.ListN.{length}
 use lib.Dec.{T, leb→le}
-use Rattle.plan.specs.declared.Rule.{Rule}
-use Rattle.plan.specs.Rule.{labelled}
+use Rattle.rule.specs.declared.Rule.{Rule}
+use Rattle.rule.specs.Rule.{labelled}
 use Rattle.forest.proofs.Unfold.{Names}
 use Rattle.tables.specs.Rows.{rowLength}
 use Rattle.counts.proofs.Reach.{named-lower}

@@ -10,7 +10,7 @@ use mathlib.Core.List.{List, [], _∷_, _++_, append-assoc, append-nil}
 use lib.Dec.{eqb}
 use lib.ListN.{length}
 use borrow.Author.Tests.{eqb-true, eqb-false, eq-eqb, ne-eqb}
-use Rattle.plan.specs.declared.Rule.{Rule}
+use Rattle.rule.specs.declared.Rule.{Rule}
 use Rattle.forest.specs.Expression.{Expression, rhs}
 use Rattle.forest.proofs.Unfold.{Names, height, pair-one, pair-two, node-one, fill-one, fill-two, part-one, part-two, join-one, join-two}
 use Rattle.counts.specs.Says.{whole, before, after, opening, closing, says}

@@ -9,8 +9,8 @@ use mathlib.Core.List.{List}
 use lib.ListN.{length}
 use lib.Dec.{eqb}
 use Rattle.words.specs.Number.{base}
-use Rattle.plan.specs.declared.Rule.{Rule}
-use Rattle.plan.specs.Rule.{wordLength}
+use Rattle.rule.specs.declared.Rule.{Rule}
+use Rattle.rule.specs.Rule.{wordLength}
 use Rattle.forest.proofs.Unfold.{Names, pair-one, pair-two}
 use Rattle.tables.specs.Rows.{rowLength, field, putField, ruleIn}
 use Rattle.tables.proofs.Rows.{field-same, field-other}

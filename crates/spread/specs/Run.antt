@@ -5,10 +5,10 @@ use mathlib.Core.List.{List, [], _∷_}
 use lib.ListN.{length}
 use lib.Dec.{T, ltb}
 use Rattle.words.specs.Number.{base}
-use Rattle.plan.specs.declared.Rule.{Rule}
-use Rattle.plan.specs.Rule.{every, labelled, wordLength}
+use Rattle.rule.specs.declared.Rule.{Rule}
+use Rattle.rule.specs.Rule.{every, labelled, wordLength}
 use Rattle.plan.specs.declared.Written.{Written}
-use Rattle.plan.specs.Sound.{Sound, Closed}
+use Rattle.rule.specs.Sound.{Sound, Closed}
 use Rattle.seal.specs.Seal.{inFront, outputAfter}
 use Rattle.forest.specs.Expression.{Expression, expression}
 use Rattle.forest.specs.Forest.{forest, text}

@@ -5,8 +5,8 @@ use mathlib.Core.List.{List, [], _∷_, _++_}
 use lib.ListN.{length, take, drop}
 use lib.Dec.{T, ltb}
 use Rattle.words.specs.Number.{number}
-use Rattle.plan.specs.declared.Rule.{Rule}
-use Rattle.plan.specs.Rule.{every, labelled, wordLength}
+use Rattle.rule.specs.declared.Rule.{Rule}
+use Rattle.rule.specs.Rule.{every, labelled, wordLength}
 use Rattle.tables.specs.Rows.{rowLength, field, ruleIn, Within}
 use Rattle.spread.specs.declared.Step.{Step}
 use Rattle.spread.specs.declared.State.{State}

@@ -17,9 +17,9 @@ use counts::Count;
 use counts::Tally;
 use counts::Weight;
 use plan::Checked;
-use plan::Refusal;
-use plan::Rule;
 use plan::Written;
+use refusal::Refusal;
+use rule::Rule;
 use tables::Row;
 
 // What a step writes.

@@ -10,7 +10,7 @@ use lib.ListN.{length}
 use lib.Dec.{eqb}
 use borrow.Author.Tests.{lt-ltb}
 use Rattle.words.specs.Number.{base}
-use Rattle.plan.specs.declared.Rule.{Rule}
+use Rattle.rule.specs.declared.Rule.{Rule}
 use Rattle.forest.specs.Place.{Side}
 use Rattle.tables.specs.declared.Link.{Link}
 use Rattle.tables.specs.declared.Entry.{Entry}

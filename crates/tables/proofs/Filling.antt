@@ -7,8 +7,8 @@ use mathlib.Core.Path.{_≡_, refl, sym, ap, _∙_}
 use mathlib.Core.List.{List}
 use lib.ListN.{length}
 use lib.Seq.{ext-getD}
-use Rattle.plan.specs.declared.Rule.{Rule}
-use Rattle.plan.specs.Sound.{rule, Sound}
+use Rattle.rule.specs.declared.Rule.{Rule}
+use Rattle.rule.specs.Sound.{rule, Sound}
 use Rattle.forest.proofs.Unfold.{Names, named-falls}
 use Rattle.tables.specs.declared.Entry.{Entry}
 use Rattle.tables.specs.Rows.{rowLength, ownEnd, ruleIn, Holds, Within}

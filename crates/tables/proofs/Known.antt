@@ -9,8 +9,8 @@ use lib.ListN.{length, take, List·getD-eq-default}
 use lib.Seq.{length-take-le}
 use borrow.Author.Tests.{le-ltb}
 use Rattle.words.proofs.Laws.{number-take}
-use Rattle.plan.specs.declared.Rule.{Rule}
-use Rattle.plan.specs.Sound.{rule, Sound}
+use Rattle.rule.specs.declared.Rule.{Rule}
+use Rattle.rule.specs.Sound.{rule, Sound}
 use Rattle.forest.specs.Expression.{Expression, rhs, unfolded, expression}
 use Rattle.forest.specs.Place.{Side, isEmpty, representative}
 use Rattle.forest.proofs.Unfold.{named-below}

@@ -9,10 +9,10 @@ use lib.ListN.{length, getD, take, drop}
 use lib.Seq.{getD-take, getD-drop, take-take, drop-drop}
 use Rattle.words.specs.Number.{base}
 use Rattle.words.proofs.Laws.{number-agrees, length-put, put-same, put-other, put-take, put-drop}
-use Rattle.plan.specs.declared.Rule.{Rule}
-use Rattle.plan.specs.Rule.{recordLength, recordAt, decode, ruleOf}
-use Rattle.plan.specs.Check.{recordsFrom, rulesIn}
-use Rattle.plan.specs.Sound.{rule}
+use Rattle.rule.specs.declared.Rule.{Rule}
+use Rattle.rule.specs.Rule.{recordLength, recordAt, decode, ruleOf}
+use Rattle.rule.specs.Records.{recordsFrom, rulesIn}
+use Rattle.rule.specs.Sound.{rule}
 use Rattle.tables.specs.declared.Row.{Row}
 use Rattle.tables.specs.Rows.{rowLength, field, putField, ownEnd, atKind, atLabel, atOne, atTwo, rowOf, ruleFrom, rowIn, putRow, ruleIn, Holds, Within, Beyond, Stored, Loaded}
 

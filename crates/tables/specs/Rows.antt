@@ -6,9 +6,9 @@ use mathlib.Core.List.{List}
 use lib.ListN.{length, take, drop}
 use lib.Dec.{eqb}
 use Rattle.words.specs.Number.{number, put}
-use Rattle.plan.specs.declared.Rule.{Rule}
-use Rattle.plan.specs.Rule.{kindEmpty, kindPair, kindNode, kindFill, kindPart, kindJoin}
-use Rattle.plan.specs.Sound.{rule}
+use Rattle.rule.specs.declared.Rule.{Rule}
+use Rattle.rule.specs.Rule.{kindEmpty, kindPair, kindNode, kindFill, kindPart, kindJoin}
+use Rattle.rule.specs.Sound.{rule}
 use Rattle.tables.specs.declared.Row.{Row}
 
 -- the bytes of a row; what is left of the work's 64 bytes a rule holds stacks

@@ -6,7 +6,7 @@ use mathlib.Core.Bool.{Bool, true, false, cond}
 use mathlib.Core.List.{List, [], _∷_}
 use lib.ListN.{length}
 use lib.Dec.{eqb, ltb}
-use Rattle.plan.specs.declared.Rule.{Rule}
+use Rattle.rule.specs.declared.Rule.{Rule}
 use Rattle.forest.specs.Place.{Side}
 use Rattle.model.specs.Facts.{Facts, factsOf}
 use Rattle.model.specs.Run.{along}

@@ -3,18 +3,18 @@ ghost use mathlib.Core.Path.{_≡_};
 ghost use Prim.Native.Nat.{_+_, _-_, _*_, _≤_, _<_};
 ghost use lib.ListN.{length};
 ghost use Rattle.forest.proofs.Position.{pick};
-ghost use Rattle.plan.specs.Rule.{recordLength, ruleOf};
-ghost use Rattle.plan.specs.Check.{recordsFrom, rulesIn};
+ghost use Rattle.rule.specs.Rule.{recordLength, ruleOf};
+ghost use Rattle.rule.specs.Records.{recordsFrom, rulesIn};
 ghost use Rattle.forest.specs.Outcome.{cleared};
 ghost use Rattle.tables.specs.Rows.{rowLength, ownEnd, field, putField, rowOf, ruleFrom, rowIn, putRow, ruleIn, Stored, Loaded};
-ghost use Rattle.plan.specs.Sound.{Sound};
+ghost use Rattle.rule.specs.Sound.{Sound};
 ghost use Rattle.model.specs.Run.{along, oneAbove};
 ghost use Rattle.model.specs.Stored.{reaches};
 ghost use Rattle.tables.specs.Table.{sideOf, atLink, linkLength, LinkAt, flag, linkIn, putLink, putEntry, known, kept, Built, In, Climbs};
 ghost use Rattle.tables.specs.Build.{jumpFrom, linkFrom, linkOwn, linkPair, linkOf, emptyOf, representativeOf, entryOf, Steps, Pairs, Ready};
-use plan::Decoded;
-use plan::Record;
-use plan::Rule;
+use rule::Decoded;
+use rule::Record;
+use rule::Rule;
 
 // What a row keeps of its rule: the kind, the label and the rules named.
 pub struct Row {

@@ -6,9 +6,9 @@ use mathlib.Core.Bool.{Bool, true, false, cond, true≢false}
 use mathlib.Core.List.{List, [], _∷_, map}
 use mathlib.Core.Option.{Option, none, some}
 use lib.ListN.{length}
-use Rattle.plan.specs.declared.Rule.{Rule}
-use Rattle.plan.specs.declared.Refusal.{Refusal}
-use Rattle.plan.specs.Sound.{Sound, Closed}
+use Rattle.rule.specs.declared.Rule.{Rule}
+use Rattle.refusal.specs.declared.Refusal.{Refusal}
+use Rattle.rule.specs.Sound.{Sound, Closed}
 use Rattle.seal.specs.Seal.{inFront}
 use Rattle.forest.specs.Expression.{expression, ruleNumber}
 use Rattle.forest.specs.Forest.{Forest, forest, relabel}

@@ -5,11 +5,12 @@ use mathlib.Core.Path.{_≡_, sym, ap, _∙_}
 use mathlib.Core.List.{List}
 use lib.ListN.{length, take}
 use lib.Seq.{length-take-le}
-use Rattle.plan.specs.declared.Rule.{Rule}
+use Rattle.rule.specs.declared.Rule.{Rule}
 use Rattle.plan.specs.declared.Checked.{Checked}
-use Rattle.plan.specs.Rule.{recordLength}
-use Rattle.plan.specs.Check.{checked, recordsFrom, rulesIn, rulesOf, trailerLength, mostRules}
-use Rattle.plan.specs.Sound.{Sound, Closed}
+use Rattle.rule.specs.Rule.{recordLength}
+use Rattle.rule.specs.Records.{recordsFrom, rulesIn}
+use Rattle.plan.specs.Check.{checked, rulesOf, trailerLength, mostRules}
+use Rattle.rule.specs.Sound.{Sound, Closed}
 use Rattle.plan.proofs.Sound.{Plan, checked-plan, plan-long}
 use Rattle.forest.specs.Walk.{Begun, placeJudged}
 use Rattle.forest.specs.declared.Walked.{Walked}

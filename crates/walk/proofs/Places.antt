@@ -8,9 +8,9 @@ use mathlib.Core.List.{List, _++_, map}
 use lib.ListN.{length, drop}
 use lib.Dec.{eqb, leb}
 use borrow.Author.Tests.{leb-true}
-use Rattle.plan.specs.declared.Rule.{Rule}
-use Rattle.plan.specs.declared.Refusal.{Refusal}
-use Rattle.plan.specs.Rule.{wordLength}
+use Rattle.rule.specs.declared.Rule.{Rule}
+use Rattle.refusal.specs.declared.Refusal.{Refusal}
+use Rattle.rule.specs.Rule.{wordLength}
 use Rattle.seal.specs.Seal.{inFront}
 use Rattle.forest.specs.declared.Walked.{Walked}
 use Rattle.forest.specs.Place.{Cells}

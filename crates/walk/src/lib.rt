@@ -3,7 +3,7 @@ use cursor::Cell;
 use forest::Walked;
 use letters::Read;
 use plan::Checked;
-use plan::Refusal;
+use refusal::Refusal;
 use tables::Row;
 ghost use mathlib.Core.Path.{_≡_};
 ghost use Prim.Native.Nat.{_*_, _≤_};

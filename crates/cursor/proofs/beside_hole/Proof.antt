@@ -1,7 +1,7 @@
 -- Only a part has a hole; its row on that side is entered from the other. Assumes nothing.
 use mathlib.Core.Path.{sym, ap, _∙_}
 use denote.Ref.{now}
-use Rattle.plan.specs.declared.Rule.{Rule}
+use Rattle.rule.specs.declared.Rule.{Rule}
 use Rattle.forest.proofs.Position.{other, pick}
 use Rattle.model.specs.Model.{enter, besideHole}
 use Rattle.tables.specs.Table.{known, In, sideOf}

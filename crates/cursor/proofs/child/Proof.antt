@@ -2,7 +2,7 @@
 use Prim.Native.Nat.{ℕ}
 use mathlib.Core.Path.{sym, ap, _∙_}
 use denote.Ref.{now}
-use Rattle.plan.specs.declared.Rule.{Rule}
+use Rattle.rule.specs.declared.Rule.{Rule}
 use Rattle.forest.specs.Place.{rowOfNode, rowOfPart}
 use Rattle.forest.specs.Walk.{cellsIn}
 use Rattle.forest.proofs.Position.{orElse}

@@ -1,7 +1,7 @@
 -- Each arm of the match is a clause of the definition. Assumes nothing.
 use mathlib.Core.Path.{sym, ap, _∙_}
 use denote.Ref.{now}
-use Rattle.plan.specs.declared.Rule.{Rule}
+use Rattle.rule.specs.declared.Rule.{Rule}
 use Rattle.model.specs.Stored.{isNode, endsWell}
 use Rattle.tables.specs.Table.{known, In}
 use Rattle.cursor.specs.declared.State.{State as CodeState}

@@ -2,7 +2,7 @@
 use mathlib.Core.Path.{sym, ap, _∙_}
 use borrow.Author.Tests.{eq-eqb, ne-eqb}
 use denote.Ref.{now}
-use Rattle.plan.specs.declared.Rule.{Rule}
+use Rattle.rule.specs.declared.Rule.{Rule}
 use Rattle.model.specs.Stored.{rowUnder, rowIn}
 use Rattle.tables.specs.Table.{known, In}
 use Rattle.cursor.specs.declared.State.{State as CodeState}

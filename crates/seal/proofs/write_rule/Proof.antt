@@ -6,10 +6,10 @@ use mathlib.Core.List.{_++_}
 use lib.ListN.{take, drop}
 use denote.Ref.{now}
 use borrow.Author.Needs.{needs}
-use Rattle.plan.specs.declared.Record.{Record}
-use Rattle.plan.specs.declared.Decoded.{Decoded}
-use Rattle.plan.specs.Rule.{recordLength, decode, recordAt, recordBytes}
-use Rattle.plan.proofs.Decode.{encode-decode, decode-labelled}
+use Rattle.rule.specs.declared.Record.{Record}
+use Rattle.rule.specs.declared.Decoded.{Decoded}
+use Rattle.rule.specs.Rule.{recordLength, decode, recordAt, recordBytes}
+use Rattle.rule.proofs.Decode.{encode-decode, decode-labelled}
 use Rattle.seal.proofs.write_rule.Statement.{statement}
 use Rattle.seal.proofs.write_rule.Tie as tie
 

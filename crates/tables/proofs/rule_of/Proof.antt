@@ -1,5 +1,5 @@
 -- Each arm of the match is a case of `ruleOf`. Assumes nothing.
-use Rattle.plan.specs.Rule.{ruleOf}
+use Rattle.rule.specs.Rule.{ruleOf}
 use borrow.Author.Needs.{needs}
 use Rattle.tables.proofs.rule_of.Statement.{statement}
 use Rattle.tables.proofs.rule_of.Tie as tie

@@ -3,7 +3,7 @@ use Prim.Native.Nat.{ℕ}
 use mathlib.Core.Path.{ap, _∙_}
 use mathlib.Core.List.{List}
 use borrow.Author.Needs.{needs}
-use Rattle.seal.specs.Seal.{unsealed}
+use Rattle.unseal.specs.Unseal.{unsealed}
 use Rattle.cases.specs.Cases.{zeros}
 use Rattle.cases.proofs.sample.unsealed.Statement.{statement}
 use Rattle.cases.proofs.sample.unsealed.Tie as tie

@@ -1,0 +1,77 @@
+-- What records have that are judged fine. The judgement is the last of a row of tests, so each of them passed: each record decodes, names
+-- lower rules and has the right sorts, and so the rules are sound. Assumes nothing.
+use Prim.Native.Nat.{ℕ, zero, suc, _+_, _≤_, _<_}
+use mathlib.Core.Bool.{Bool, true, false, cond, _&&_, and-eq-true-iff}
+use mathlib.Core.List.{List}
+use mathlib.Core.Path.{_≡_, refl, sym, subst}
+use mathlib.Core.Logic.{⊎-elim}
+use native.Mathlib.Nat.{eq-or-lt-of-le}
+use native.Mathlib.Omega.{arith}
+use lib.Dec.{T, ltb}
+use lib.ListN.{length}
+use borrow.Author.Tests.{ltb-true}
+use Rattle.refusal.specs.declared.Refusal.{Refusal}
+use Rattle.rule.specs.declared.Record.{Record}
+use Rattle.rule.specs.declared.Decoded.{Decoded}
+use Rattle.rule.specs.Rule.{decode, every, sorts, closed}
+use Rattle.rule.specs.Records.{rulesIn, recordIn, kindAt}
+use Rattle.rule.specs.Sound.{Sound, Closed}
+use Rattle.rule.proofs.Rules.{Named, length-rulesIn, kinds, named-sound}
+use Rattle.judge.specs.declared.Judged.{Judged}
+use Rattle.judge.specs.Judge.{namesJudged, ruleJudged, andThen, rulesJudged, startJudged, judged}
+
+-- ---- tests that passed
+fine-passed : (b : Bool) (x : Judged) (e : Refusal) → cond b x (Judged.Refused e) ≡ Judged.Fine → (b ≡ true) × (x ≡ Judged.Fine)
+fine-passed true x e h = (refl, h)
+fine-passed false x e h = let z : _≡_ {A = ℕ} 0 1 = cc in absurd (omega arith)
+
+andThen-fine : (a b : Judged) → andThen a b ≡ Judged.Fine → (a ≡ Judged.Fine) × (b ≡ Judged.Fine)
+unfolding andThen
+andThen-fine Judged.Fine b h = (refl, h)
+andThen-fine (Judged.Refused e) b h = let z : _≡_ {A = ℕ} 0 1 = cc in absurd (omega arith)
+
+is-test : {b : Bool} → b ≡ true → T b
+is-test e = subst T (sym e) tt
+
+-- the judgement of each rule
+named : (ws : List Record) (i : ℕ) (d : Decoded) → namesJudged ws i d ≡ Judged.Fine → Named ws i d
+unfolding namesJudged
+named ws i Decoded.Malformed h = let z : _≡_ {A = ℕ} 0 1 = cc in absurd (omega arith)
+named ws i (Decoded.Whole r) h =
+    let p = fine-passed (every (λ x. ltb x i) r) (cond (sorts (kindAt ws) r) Judged.Fine (Judged.Refused (Refusal.WrongSort i))) (Refusal.NotLower i) h in
+    let q = fine-passed (sorts (kindAt ws) r) Judged.Fine (Refusal.WrongSort i) (p .1) in
+    record { means = r; decodes = refl; lower = is-test (p .0); sorted = is-test (q .0) }
+
+-- m rules from i on, and what follows them
+rules-fine : (ws : List Record) (last : Judged) (m i : ℕ)
+    → rulesJudged ws last i m ≡ Judged.Fine
+    → ((k : ℕ) → i ≤ k → k < i + m → ruleJudged ws k ≡ Judged.Fine) × (last ≡ Judged.Fine)
+unfolding rulesJudged
+rules-fine ws last zero i h = (λ k l u. absurd (omega arith), h)
+rules-fine ws last (suc m) i h =
+    let p = andThen-fine (ruleJudged ws i) (rulesJudged ws last (suc i) m) h in
+    let q = rules-fine ws last m (suc i) (p .1) in
+    (λ k l u. ⊎-elim (λ e. rw e at (p .0)) (λ g. q .0 k g (omega arith)) (eq-or-lt-of-le l), q .1)
+
+-- ---- what passed
+pub record Fit (ws : List Record) (start : ℕ) : Type 0 where
+  pub each : (i : ℕ) → i < length ws → Named ws i (decode (recordIn ws i))
+  pub sound : Sound (rulesIn ws) (λ r. r)
+  pub ends : Closed (rulesIn ws) start
+
+fit-start : (ws : List Record) (start : ℕ) → ((i : ℕ) → i < length ws → Named ws i (decode (recordIn ws i))) → startJudged ws start ≡ Judged.Fine → Closed (rulesIn ws) start
+unfolding startJudged
+fit-start ws start each h =
+    let p = fine-passed (ltb start (length ws) && closed (kindAt ws start)) Judged.Fine Refusal.Start h in
+    let q = and-eq-true-iff (ltb start (length ws)) (closed (kindAt ws start)) .0 (p .0) in
+    record {
+      below = omega (arith, length-rulesIn ws, ltb-true start (length ws) (q .0));
+      closed-kind = rw (← kinds ws each) (is-test (q .1));
+    }
+
+pub fine-fit : (ws : List Record) (start : ℕ) → judged ws start ≡ Judged.Fine → Fit ws start
+unfolding judged ruleJudged
+fine-fit ws start h =
+    let p = rules-fine ws (startJudged ws start) (length ws) 0 h in
+    let each : (i : ℕ) → i < length ws → Named ws i (decode (recordIn ws i)) = λ i l. named ws i (decode (recordIn ws i)) (p .0 i (omega arith) (omega arith)) in
+    record { each = each; sound = named-sound ws each; ends = fit-start ws start each (p .1) }

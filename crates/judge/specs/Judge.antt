@@ -1,0 +1,46 @@
+-- Document 01, "Check": refusals 4 to 7, of a plan's records and its start rule.
+use Prim.Native.Nat.{ℕ, zero, suc}
+use mathlib.Core.Bool.{cond, _&&_}
+use mathlib.Core.List.{List}
+use lib.ListN.{length}
+use lib.Dec.{ltb}
+use Rattle.refusal.specs.declared.Refusal.{Refusal}
+use Rattle.rule.specs.declared.Record.{Record}
+use Rattle.rule.specs.declared.Decoded.{Decoded}
+use Rattle.rule.specs.Rule.{decode, every, sorts, closed}
+use Rattle.rule.specs.Records.{recordIn, kindAt}
+use Rattle.judge.specs.declared.Judged.{Judged}
+
+-- "the first of: 4: kind above 5, label above 255, unused word not 0; 5: names a rule not lower; 6: names one of the wrong sort"
+unfoldable pub namesJudged : List Record → ℕ → Decoded → Judged
+unfolding every sorts kindAt
+namesJudged ws i Decoded.Malformed = Judged.Refused (Refusal.Malformed i)
+namesJudged ws i (Decoded.Whole r) =
+    cond (every (λ x. ltb x i) r)
+    (cond (sorts (kindAt ws) r) Judged.Fine (Judged.Refused (Refusal.WrongSort i)))
+    (Judged.Refused (Refusal.NotLower i))
+
+unfoldable pub ruleJudged : List Record → ℕ → Judged
+unfolding namesJudged decode recordIn
+ruleJudged ws i = namesJudged ws i (decode (recordIn ws i))
+
+-- the first of two judgements that is a refusal
+unfoldable pub andThen : Judged → Judged → Judged
+andThen Judged.Fine later = later
+andThen (Judged.Refused r) later = Judged.Refused r
+
+-- "Then rules from 0 up, the first faulty one": m rules from i on, and after them last
+unfoldable pub rulesJudged : List Record → Judged → ℕ → ℕ → Judged
+unfolding ruleJudged andThen
+rulesJudged ws last i zero = last
+rulesJudged ws last i (suc m) = andThen (ruleJudged ws i) (rulesJudged ws last (suc i) m)
+
+-- "Last 7: start isn't below n or isn't closed."
+unfoldable pub startJudged : List Record → ℕ → Judged
+unfolding kindAt closed
+startJudged ws start = cond (ltb start (length ws) && closed (kindAt ws start)) Judged.Fine (Judged.Refused Refusal.Start)
+
+-- refusals 4 to 7, which check and seal share
+unfoldable pub judged : List Record → ℕ → Judged
+unfolding rulesJudged startJudged
+judged ws start = rulesJudged ws (startJudged ws start) 0 (length ws)

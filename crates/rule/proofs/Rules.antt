@@ -1,0 +1,82 @@
+-- Rules of records. Where every record decodes, names rules of lower numbers and has the right sorts, the kind in a record is the kind
+-- of its rule, so the rules are sound with their numbers as ranks. Assumes nothing.
+use Prim.Native.Nat.{ℕ, _≤_, _<_}
+use mathlib.Core.Bool.{Bool, true, false, _&&_}
+use mathlib.Core.List.{List}
+use mathlib.Core.Path.{_≡_, sym, ap, subst, fun-ext, _∙_}
+use native.Mathlib.Decide.{decLt}
+use native.Mathlib.Omega.{arith}
+use lib.Dec.{T, ltb, ltb→lt, lt→ltb}
+use lib.ListN.{length, length-map, List·getD-map, List·getD-eq-default}
+use Rattle.rule.specs.declared.Record.{Record}
+use Rattle.rule.specs.declared.Rule.{Rule}
+use Rattle.rule.specs.declared.Decoded.{Decoded}
+use Rattle.rule.specs.Rule.{decode, encode, ruleOf, every, sorts}
+use Rattle.rule.specs.Records.{rulesIn, recordIn, kindAt}
+use Rattle.rule.specs.Sound.{rule, kindIn, Sound}
+use Rattle.rule.proofs.Decode.{decode-kind, decode-labelled}
+
+-- what a record has that is judged fine
+pub record Named (ws : List Record) (i : ℕ) (d : Decoded) : Type 0 where
+  pub means : Rule
+  pub decodes : d ≡ Decoded.Whole means
+  pub lower : T (every (λ x. ltb x i) means)
+  pub sorted : T (sorts (kindAt ws) means)
+
+-- the rule with a number
+rule-in : (ws : List Record) (i : ℕ) → rule (rulesIn ws) i ≡ ruleOf (decode (recordIn ws i))
+unfolding rule rulesIn recordIn decode ruleOf
+rule-in ws i = List·getD-map (λ (w : Record). ruleOf (decode w)) ws i (record { kind = 0; one = 0; two = 0; three = 0 })
+
+pub length-rulesIn : (ws : List Record) → length (rulesIn ws) ≡ length ws
+unfolding rulesIn
+length-rulesIn ws = length-map ws (λ (w : Record). ruleOf (decode w))
+
+pub rule-decoded : (ws : List Record) (i : ℕ) (r : Rule) → decode (recordIn ws i) ≡ Decoded.Whole r → rule (rulesIn ws) i ≡ r
+unfolding ruleOf
+rule-decoded ws i r h = rule-in ws i ∙ ap ruleOf h
+
+-- past the end a record counts as the empty rule's
+past : (ws : List Record) (i : ℕ) → length ws ≤ i → decode (recordIn ws i) ≡ Decoded.Whole Rule.Empty
+unfolding recordIn decode
+past ws i h = rw (List·getD-eq-default ws (record { kind = 0; one = 0; two = 0; three = 0 }) h)
+
+kind-decoded : (ws : List Record) (i : ℕ) (r : Rule) → decode (recordIn ws i) ≡ Decoded.Whole r → kindIn (rulesIn ws) i ≡ kindAt ws i
+unfolding kindIn kindAt
+kind-decoded ws i r h = ap (λ (x : Rule). (encode x) .kind) (rule-decoded ws i r h) ∙ decode-kind (recordIn ws i) r h
+
+-- where every record decodes, the records' kinds are the rules' kinds
+pub kinds : (ws : List Record) → ((i : ℕ) → i < length ws → Named ws i (decode (recordIn ws i))) → kindAt ws ≡ kindIn (rulesIn ws)
+kinds ws each =
+    fun-ext λ i. elim (decLt i (length ws)) [
+      | yes l ↦ sym (kind-decoded ws i ((each i l) .means) ((each i l) .decodes))
+      | no g ↦ sym (kind-decoded ws i Rule.Empty (past ws i (omega (arith, g))))
+    ]
+
+two : (a b c d : Bool) → (T a → T c) → (T b → T d) → T (a && b) → T (c && d)
+two true b true d f g h = g h
+two true b false d f g h = absurd (f tt)
+two false b true d f g h = absurd h
+two false b false d f g h = h
+
+every-weaker : (p q : ℕ → Bool) → ((x : ℕ) → T (p x) → T (q x)) → (r : Rule) → T (every p r) → T (every q r)
+unfolding every
+every-weaker p q f Rule.Empty h = tt
+every-weaker p q f (Rule.Pair b c) h = two (p b) (p c) (q b) (q c) (f b) (f c) h
+every-weaker p q f (Rule.Node a c) h = f c h
+every-weaker p q f (Rule.Fill b c) h = two (p b) (p c) (q b) (q c) (f b) (f c) h
+every-weaker p q f (Rule.Part a b c) h = two (p b) (p c) (q b) (q c) (f b) (f c) h
+every-weaker p q f (Rule.Join b c) h = two (p b) (p c) (q b) (q c) (f b) (f c) h
+
+pub named-sound : (ws : List Record) → ((i : ℕ) → i < length ws → Named ws i (decode (recordIn ws i))) → Sound (rulesIn ws) (λ r. r)
+named-sound ws each =
+    let e = length-rulesIn ws in
+    let at : (i : ℕ) → i < length (rulesIn ws) → Named ws i (decode (recordIn ws i)) = λ i l. each i (omega arith) in
+    let is : (i : ℕ) (l : i < length (rulesIn ws)) → rule (rulesIn ws) i ≡ (at i l) .means = λ i l. rule-decoded ws i ((at i l) .means) ((at i l) .decodes) in
+    record {
+      in-range = λ i l. rw (is i l) (every-weaker (λ x. ltb x i) (λ x. ltb x (length (rulesIn ws))) (λ x u. lt→ltb x (length (rulesIn ws)) (omega (arith, ltb→lt x i u))) ((at i l) .means) ((at i l) .lower));
+      falls = λ i l. rw (is i l) ((at i l) .lower);
+      ranked = λ i l. l;
+      sorted = λ i l. rw (is i l, ← kinds ws each) ((at i l) .sorted);
+      labels = λ i l. rw (is i l) (decode-labelled (recordIn ws i) ((at i l) .means) ((at i l) .decodes));
+    }

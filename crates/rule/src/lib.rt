@@ -1,0 +1,204 @@
+// The rule of a plan (document 01, "A plan's bytes"): its record of four words, and the table of kinds.
+ghost use mathlib.Core.Path.{_≡_};
+ghost use mathlib.Core.List.{_++_};
+ghost use Prim.Native.Nat.{_+_, _≤_, _<_};
+ghost use lib.ListN.{length, take, drop};
+ghost use lib.Dec.{T};
+ghost use Rattle.rule.specs.Rule.{recordLength, kindNode, recordAt, recordBytes, decode, encode, whole, labelled};
+
+// The four 16-bit words of a rule.
+pub struct Record {
+    pub kind: u16,
+    pub one: u16,
+    pub two: u16,
+    pub three: u16,
+}
+
+// A rule as the paper's right-hand side; the numbers are those of the rules it names.
+pub enum Rule {
+    Empty,
+    Pair { first: u16, second: u16 },
+    Node { label: u32, under: u16 },
+    Fill { outer: u16, inner: u16 },
+    Part { label: u32, left: u16, right: u16 },
+    Join { outer: u16, inner: u16 },
+}
+
+// What four words mean: a rule, or none.
+pub enum Decoded {
+    Whole(Rule),
+    Malformed,
+}
+
+impl Record {
+    // Bytes and words of a record, and where its later words begin.
+    pub const LENGTH: usize = 8;
+
+    pub const WORDS: usize = 4;
+
+    const ONE: usize = 2;
+
+    const TWO: usize = 4;
+
+    const THREE: usize = 6;
+
+    // What an unused word holds.
+    const UNUSED: u16 = 0;
+
+    // The record of four words.
+    fn of(kind: u16, one: u16, two: u16, three: u16) -> Record
+        ensures { λ r. ⌜ r ≡ record { kind = kind; one = one; two = two; three = three } ⌝ }
+    {
+        Record {
+            kind,
+            one,
+            two,
+            three,
+        }
+    }
+
+    // The record whose bytes begin at an offset.
+    pub fn read(s: &[u8], at: usize) -> Record
+        requires { ⌜ at + recordLength ≤ length (now s) ⌝ }
+        ensures { λ r. ⌜ r ≡ recordAt (now (s .entry)) at ⌝ }
+    {
+        Record {
+            kind: words::read16(s, at),
+            one: words::read16(s, at + Record::ONE),
+            two: words::read16(s, at + Record::TWO),
+            three: words::read16(s, at + Record::THREE),
+        }
+    }
+
+    // The record's bytes, into the slice from an offset on.
+    pub fn write(self, s: &mut [u8], at: usize)
+        requires { ⌜ at + recordLength ≤ length (now s) ⌝ }
+        ensures { λ r. ⌜ now (s .exit) ≡ take at (now (s .entry)) ++ (recordBytes self ++ drop (at + recordLength) (now (s .entry))) ⌝ }
+    {
+        words::write16(s, at, self.kind);
+        words::write16(s, at + Record::ONE, self.one);
+        words::write16(s, at + Record::TWO, self.two);
+        words::write16(s, at + Record::THREE, self.three);
+    }
+}
+
+impl Decoded {
+    // A rule if its record is well formed.
+    fn whole(fine: bool, rule: Rule) -> Decoded
+        ensures { λ r. ⌜ r ≡ whole fine rule ⌝ }
+    {
+        if fine {
+            Decoded::Whole(rule)
+        } else {
+            Decoded::Malformed
+        }
+    }
+}
+
+impl Rule {
+    // The kinds.
+    pub const EMPTY: u16 = 0;
+
+    pub const PAIR: u16 = 1;
+
+    pub const NODE: u16 = 2;
+
+    pub const FILL: u16 = 3;
+
+    pub const PART: u16 = 4;
+
+    pub const JOIN: u16 = 5;
+
+    const LARGEST_LABEL: u32 = 255;
+
+    // The rule that four words mean: the table of kinds.
+    pub fn decode(w: Record) -> Decoded
+        ensures { λ r. ⌜ r ≡ decode w ⌝ }
+    {
+        let kind = w.kind;
+        let one = w.one;
+        let two = w.two;
+        let unused = w.three == Record::UNUSED;
+        if kind == Rule::EMPTY {
+            return Decoded::whole(
+                (one == Record::UNUSED) & (two == Record::UNUSED) & unused,
+                Rule::Empty,
+            );
+        }
+        if kind == Rule::PAIR {
+            return Decoded::whole(
+                unused,
+                Rule::Pair {
+                    first: one,
+                    second: two,
+                },
+            );
+        }
+        if kind == Rule::NODE {
+            let label = one as u32;
+            return Decoded::whole(
+                (label <= Rule::LARGEST_LABEL) & unused,
+                Rule::Node { label, under: two },
+            );
+        }
+        Rule::decode_filled(w)
+    }
+
+    // The same table from kind 3 on: the kinds that have to do with a hole.
+    fn decode_filled(w: Record) -> Decoded
+        requires { ⌜ kindNode < w .kind ⌝ }
+        ensures { λ r. ⌜ r ≡ decode w ⌝ }
+    {
+        let kind = w.kind;
+        let one = w.one;
+        let two = w.two;
+        let three = w.three;
+        let unused = three == Record::UNUSED;
+        if kind == Rule::FILL {
+            return Decoded::whole(
+                unused,
+                Rule::Fill {
+                    outer: one,
+                    inner: two,
+                },
+            );
+        }
+        if kind == Rule::PART {
+            let label = one as u32;
+            return Decoded::whole(
+                label <= Rule::LARGEST_LABEL,
+                Rule::Part {
+                    label,
+                    left: two,
+                    right: three,
+                },
+            );
+        }
+        if kind == Rule::JOIN {
+            return Decoded::whole(
+                unused,
+                Rule::Join {
+                    outer: one,
+                    inner: two,
+                },
+            );
+        }
+        Decoded::Malformed
+    }
+
+    // The rule's record, the same table read the other way.
+    pub fn encode(self) -> Record
+        requires { ⌜ T (labelled self) ⌝ }
+        ensures { λ r. ⌜ r ≡ encode self ⌝ }
+    {
+        let none = Record::UNUSED;
+        match self {
+            Rule::Empty => Record::of(Rule::EMPTY, none, none, none),
+            Rule::Pair { first, second } => Record::of(Rule::PAIR, first, second, none),
+            Rule::Node { label, under } => Record::of(Rule::NODE, label as u16, under, none),
+            Rule::Fill { outer, inner } => Record::of(Rule::FILL, outer, inner, none),
+            Rule::Part { label, left, right } => Record::of(Rule::PART, label as u16, left, right),
+            Rule::Join { outer, inner } => Record::of(Rule::JOIN, outer, inner, none),
+        }
+    }
+}

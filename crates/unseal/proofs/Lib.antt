@@ -1,0 +1,2 @@
+pub mod Unsealed
+pub mod RoundTrip

@@ -1,0 +1,83 @@
+-- `copy_records` reads and writes record after record: the loop's invariant is the contract at i. Assumes nothing.
+use Prim.Native.Nat.{ℕ, _+_, _-_, _*_, _≤_}
+use mathlib.Core.Path.{_≡_, refl, sym, ap, ap₂, _∙_}
+use mathlib.Core.List.{List, _++_}
+use native.Mathlib.Omega.{arith}
+use lib.ListN.{length, take, drop}
+use denote.Ref.{now}
+use Rattle.rule.specs.declared.Record.{Record}
+use Rattle.rule.specs.Rule.{recordLength, recordBytes}
+use Rattle.seal.proofs.Front.{copied, copied-none, copied-more}
+use Rattle.unseal.proofs.copy_records.Statement.{statement}
+use Rattle.unseal.proofs.copy_records.Tie as tie
+
+abbrev Inv-loop : tie.InvT-loop
+Inv-loop plan first out₀ n i₀ out i = (i ≤ n) × (out ≡ copied plan first i out₀) × (length out ≡ length out₀)
+
+abbrev μ-loop : tie.MeasureT-loop
+μ-loop plan first out₀ n i₀ out i = n - i
+
+loop-holds : tie.Need-loop-holds Inv-loop μ-loop
+loop-holds c = let a = c .before .before .args in (omega arith, sym (copied-none (now (a .plan)) (a .first) (now (a .out))), omega arith)
+
+mul-read : tie.Need-mul-read Inv-loop μ-loop
+mul-read c = omega arith
+
+add-read : tie.Need-add-read Inv-loop μ-loop
+add-read c = omega arith
+
+read-requires : tie.Need-read-requires Inv-loop μ-loop
+read-requires c κs = omega arith
+
+mul-write : tie.Need-mul-write Inv-loop μ-loop
+mul-write c = omega arith
+
+write-requires : tie.Need-write-requires Inv-loop μ-loop
+write-requires c κs = omega arith
+
+add-i : tie.Need-add-i Inv-loop μ-loop
+add-i c = omega arith
+
+loop-less : tie.Need-loop-less Inv-loop μ-loop
+loop-less c = omega arith
+
+loop-again : tie.Need-loop-again Inv-loop μ-loop
+loop-again c =
+    let read = c .before .before .before .before in
+    let head = read .before .before in
+    let a = head .before .before .before .args in
+    let i = head .loop .i in (
+      omega arith,
+      c .before .before .write .ensures
+          ∙ ap₂ (λ (l : List ℕ) (w : Record). take (recordLength * i) l ++ (recordBytes w ++ drop (recordLength * i + recordLength) l)) (head .loop .inv .1) (read .read .ensures)
+          ∙ copied-more (now (a .plan)) (a .first) i (now (a .out)) (a .first + recordLength * i) refl,
+      omega arith,
+    )
+
+same-length : tie.Need-same-length Inv-loop μ-loop
+same-length c = omega arith
+
+returns : tie.Need-returns Inv-loop μ-loop
+unfolding copied
+returns c =
+    let a = c .before .before .before .before .args in
+    let e : c .before .loop .i ≡ a .n = omega arith in
+    c .before .loop .inv .1 ∙ ap (λ (k : ℕ). copied (now (a .plan)) (a .first) k (now (a .out))) e
+
+pub copy-records-spec : {M : Type 1} → statement M
+copy-records-spec =
+    tie.close
+    (tie.spec
+    Inv-loop
+    μ-loop
+    loop-holds
+    mul-read
+    add-read
+    read-requires
+    mul-write
+    write-requires
+    add-i
+    loop-less
+    loop-again
+    same-length
+    returns)

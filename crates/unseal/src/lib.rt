@@ -1,0 +1,42 @@
+// Document 01, "Unseal".
+use plan::Checked;
+use plan::Trailer;
+use plan::check;
+use refusal::Refusal;
+use rule::Record;
+ghost use Prim.Native.Nat.{_+_, _*_, _≤_};
+ghost use mathlib.Core.Path.{_≡_};
+ghost use lib.ListN.{length};
+ghost use Rattle.rule.specs.Rule.{recordLength};
+ghost use Rattle.rule.specs.Records.{recordsFrom, recordsBytes};
+ghost use Rattle.seal.specs.Seal.{inFront};
+ghost use Rattle.unseal.specs.Unseal.{unsealed, unsealedOutput};
+
+// Unseal: the rule words of a plan. Refused, nothing is written.
+pub fn unseal(plan: &[u8], out: &mut [u8]) -> Checked
+    ensures { λ r. ⌜ (r ≡ unsealed (now (plan .entry)) (now (out .entry))) × (now (out .exit) ≡ unsealedOutput (now (plan .entry)) (now (out .entry))) ⌝ }
+{
+    let answer = check(plan);
+    let Checked::Accepted { n, start: _ } = answer else {
+        return answer;
+    };
+    let n = n as usize;
+    if words::word_count(out) < Record::WORDS * n {
+        return Checked::Refused(Refusal::Room);
+    }
+    let first = plan.len() - Trailer::LENGTH - Record::LENGTH * n;
+    copy_records(plan, first, out, n);
+    answer
+}
+
+// The n records of the plan from its first on, at the front of the output.
+fn copy_records(plan: &[u8], first: usize, out: &mut [u8], n: usize)
+    requires { ⌜ (first + recordLength * n ≤ length (now plan)) × (recordLength * n ≤ length (now out)) ⌝ }
+    ensures { λ _. ⌜ now (out .exit) ≡ inFront (recordsBytes (recordsFrom (now (plan .entry)) first n)) (now (out .entry)) ⌝ }
+{
+    let mut i = 0;
+    while i < n {
+        Record::read(plan, first + Record::LENGTH * i).write(out, Record::LENGTH * i);
+        i += 1;
+    }
+}
