@@ -8,7 +8,7 @@ use lib.Dec.{T, ltb, ltb→lt}
 use Rattle.plan.specs.declared.Rule.{Rule}
 use Rattle.plan.specs.Rule.{every}
 use Rattle.forest.proofs.Unfold.{Names, every-named}
-use Rattle.tables.specs.Rows.{rowLength, ruleIn}
+use Rattle.rows.specs.Rows.{rowLength, ruleIn}
 use Rattle.counts.specs.Count.{countLength}
 use Rattle.counts.specs.Tally.{Reach, Readable}
 

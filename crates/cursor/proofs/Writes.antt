@@ -11,8 +11,8 @@ use borrow.Author.Tests.{eq-eqb, ne-eqb}
 use Rattle.words.specs.Number.{base, number, put}
 use Rattle.words.proofs.Laws.{number-take, length-put, put-same, put-other, put-take, put-drop}
 use Rattle.plan.specs.Rule.{wordLength}
-use Rattle.tables.specs.Rows.{Within}
-use Rattle.tables.proofs.Rows.{within-none, within-both, within-wider}
+use Rattle.rows.specs.Rows.{Within}
+use Rattle.rows.proofs.Rows.{within-none, within-both, within-wider}
 use Rattle.forest.specs.Place.{Cells}
 use Rattle.forest.specs.Walk.{cellLength, cellAt, cellsIn}
 use Rattle.model.proofs.Cells.{by-bool}

@@ -7,7 +7,7 @@ use mathlib.Core.Option.{Option, none, some}
 use lib.ListN.{length, take, drop, replicate}
 use lib.Dec.{eqb}
 use Rattle.plan.specs.Rule.{wordLength}
-use Rattle.tables.specs.Rows.{Within}
+use Rattle.rows.specs.Rows.{Within}
 use Rattle.forest.specs.Place.{Cells}
 use Rattle.forest.specs.Walk.{cellLength, cellsIn, cursorWords, nowhere}
 use Rattle.model.specs.Facts.{Facts}

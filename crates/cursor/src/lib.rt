@@ -17,7 +17,7 @@ ghost use Rattle.cursor.specs.Moves.{Lies, Held, Kept, add, stepCells, s
 ghost use Rattle.cursor.specs.Settled.{Wrote, high, stemHigh, changeHigh, Room, Settled, cursorLength, clearedPast};
 ghost use Rattle.cursor.specs.States.{maybe, stateOf, MaybeHas, StateHas, afterSpine};
 use plan::Rule;
-use tables::Row;
+use rows::Row;
 use tables::Side;
 
 // The four 16-bit words of a cell.
@@ -251,7 +251,7 @@ fn rule(work: &[u8], r: u16) -> Rule
     requires { ⌜ In (now work) r ⌝ }
     ensures { λ x. ⌜ x ≡ known (now (work .entry)) .rule r ⌝ }
 {
-    tables::rule_at(work, r)
+    rows::rule_at(work, r)
 }
 
 // What a tree's spine begins with: the B of a fill, else the tree itself.
@@ -761,7 +761,7 @@ pub fn clear_past(cursor: &mut [u8], k: usize, n: u16)
 {
     let from = Cell::LENGTH * (k + 1);
     let to = Cell::LENGTH * Cell::A_RULE * (n as usize + 1);
-    tables::clear(&mut cursor[from..], to - from);
+    rows::clear(&mut cursor[from..], to - from);
 }
 
 // The place of cells 1 to k: their number into cell 0, with no later word, and zeros past them.
