@@ -26,7 +26,7 @@ unfolding workWords
 work-bytes n = omega arith
 
 -- the first m bytes are cleared whatever they were
-cleared-same : {m : ℕ} {s t : List ℕ} → Within 0 m s t → cleared m t ≡ cleared m s
+pub cleared-same : {m : ℕ} {s t : List ℕ} → Within 0 m s t → cleared m t ≡ cleared m s
 unfolding cleared
 cleared-same {m} w = ap (λ (l : List ℕ). replicate m 0 ++ l) (w .same-after)
 

@@ -2,10 +2,11 @@
 ghost use mathlib.Core.Path.{_≡_};
 ghost use Prim.Native.Nat.{_+_, _-_, _*_, _≤_, _<_};
 ghost use lib.ListN.{length};
-ghost use Rattle.forest.proofs.Position.{pick};
+ghost use Rattle.forest.proofs.Position.{other, pick};
 ghost use Rattle.rows.specs.Rows.{rowLength, field};
 ghost use Rattle.plan.specs.Sound.{Sound};
 ghost use Rattle.model.specs.Run.{along, oneAbove};
+ghost use Rattle.model.specs.Model.{outer};
 ghost use Rattle.model.specs.Stored.{reaches};
 ghost use Rattle.tables.specs.Table.{sideOf, atLink, linkLength, LinkAt, flag, linkIn, putLink, putEntry, known, kept, Built, In, Climbs};
 ghost use Rattle.tables.specs.Build.{jumpFrom, linkFrom, linkOwn, linkPair, linkOf, emptyOf, representativeOf, entryOf, Steps, Pairs, Ready};
@@ -44,8 +45,18 @@ impl Side {
         }
     }
 
+    // The other side.
+    pub fn other(self) -> Side
+        ensures { λ r. ⌜ sideOf r ≡ other (sideOf self) ⌝ }
+    {
+        match self {
+            Side::Left => Side::Right,
+            Side::Right => Side::Left,
+        }
+    }
+
     // The one on this side.
-    fn pick(self, left: u16, right: u16) -> u16
+    pub fn pick(self, left: u16, right: u16) -> u16
         ensures { λ x. ⌜ x ≡ pick (sideOf self) left right ⌝ }
     {
         match self {
@@ -53,6 +64,25 @@ impl Side {
             Side::Right => right,
         }
     }
+}
+
+// Rule r itself.
+pub fn rule_at(work: &[u8], r: u16) -> Rule
+    requires { ⌜ In (now work) r ⌝ }
+    ensures { λ x. ⌜ x ≡ (known (now (work .entry))) .rule r ⌝ }
+{
+    rows::rule_at(work, r)
+}
+
+// What a tree's spine begins with: the B of a fill, else the tree itself.
+pub fn outer_at(work: &[u8], a: u16) -> u16
+    requires { ⌜ In (now work) a ⌝ }
+    ensures { λ v. ⌜ v ≡ outer (known (now (work .entry))) a ⌝ }
+{
+    let Rule::Fill { outer, inner: _ } = rule_at(work, a) else {
+        return a;
+    };
+    outer
 }
 
 // The representative of rule r.
