@@ -7,8 +7,8 @@ use mathlib.Core.Path.{_≡_, refl, sym, ap, _∙_}
 use mathlib.Core.List.{List}
 use lib.ListN.{length}
 use Rattle.words.specs.Number.{base}
-use Rattle.tables.specs.Rows.{rowLength, ownEnd, field, putField, atKind, atLabel, atOne, atTwo, rowIn, ruleIn}
-use Rattle.tables.proofs.Rows.{field-same, field-other, length-putField, within-none, within-both, beyond-put}
+use Rattle.rows.specs.Rows.{rowLength, ownEnd, field, putField, atKind, atLabel, atOne, atTwo, rowIn, ruleIn}
+use Rattle.rows.proofs.Rows.{field-same, field-other, length-putField, within-none, within-both, beyond-put}
 use Rattle.counts.specs.Count.{capped, countLength}
 use Rattle.counts.specs.Tally.{Besides, Column}
 

@@ -10,7 +10,7 @@ use lib.Dec.{T, ltb}
 use Rattle.rule.specs.declared.Rule.{Rule}
 use Rattle.rule.specs.Rule.{every}
 use Rattle.forest.proofs.Unfold.{Names, pair-one, pair-two, node-one, fill-one, fill-two, part-one, part-two, join-one, join-two}
-use Rattle.tables.specs.Rows.{rowLength, ownEnd, field, putField, ruleIn}
+use Rattle.rows.specs.Rows.{rowLength, ownEnd, field, putField, ruleIn}
 use Rattle.counts.specs.declared.Weight.{Weight}
 use Rattle.counts.specs.declared.Tally.{Tally}
 use Rattle.counts.specs.Count.{capped, countLength}

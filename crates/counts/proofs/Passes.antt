@@ -5,7 +5,7 @@ use native.Mathlib.Omega.{arith}
 use mathlib.Core.Path.{_≡_, sym, _∙_}
 use mathlib.Core.List.{List}
 use lib.ListN.{length}
-use Rattle.tables.specs.Rows.{rowLength, ownEnd, ruleIn}
+use Rattle.rows.specs.Rows.{rowLength, ownEnd, ruleIn}
 use Rattle.counts.specs.declared.Tally.{Tally}
 use Rattle.counts.specs.Count.{countLength}
 use Rattle.counts.specs.Tally.{tallyOf, Helped, Besides, Column, Recurs, Ready, Passable, Tallied, Counted, atHelp, atCount}

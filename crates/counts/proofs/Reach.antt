@@ -8,7 +8,7 @@ use lib.Dec.{T, ltb, ltb→lt}
 use Rattle.rule.specs.declared.Rule.{Rule}
 use Rattle.rule.specs.Rule.{every}
 use Rattle.forest.proofs.Unfold.{Names, every-named}
-use Rattle.tables.specs.Rows.{rowLength, ruleIn}
+use Rattle.rows.specs.Rows.{rowLength, ruleIn}
 use Rattle.counts.specs.Count.{countLength}
 use Rattle.counts.specs.Tally.{Reach, Readable}
 

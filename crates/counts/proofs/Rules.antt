@@ -5,7 +5,7 @@ use mathlib.Core.Path.{_≡_, refl}
 use mathlib.Core.List.{List}
 use Rattle.rule.specs.declared.Rule.{Rule}
 use Rattle.forest.specs.Expression.{Expression, rhs}
-use Rattle.tables.specs.Rows.{ruleIn}
+use Rattle.rows.specs.Rows.{ruleIn}
 use Rattle.counts.specs.declared.Weight.{Weight}
 use Rattle.counts.specs.declared.Tally.{Tally}
 use Rattle.counts.specs.Recurrence.{ownIn, nodesIn, treesIn, depthIn, levelsIn}

@@ -8,7 +8,7 @@ use Rattle.forest.specs.Expression.{Expression}
 use Rattle.forest.specs.Algebra.{value}
 use Rattle.forest.specs.Forest.{trees, count, weigh, levels}
 use Rattle.forest.proofs.Good.{Sort, Good}
-use Rattle.tables.specs.Rows.{field}
+use Rattle.rows.specs.Rows.{field}
 use Rattle.counts.specs.declared.Count.{Count}
 use Rattle.counts.specs.declared.Tally.{Tally}
 use Rattle.counts.specs.declared.Weight.{Weight}

@@ -11,7 +11,7 @@ use Rattle.forest.specs.Expression.{Expression, rhs}
 use Rattle.forest.specs.Forest.{one}
 use Rattle.forest.specs.Outcome.{entry}
 use Rattle.forest.proofs.Unfold.{Names}
-use Rattle.tables.specs.Rows.{rowLength, field, putField, ownEnd, ruleIn, Beyond}
+use Rattle.rows.specs.Rows.{rowLength, field, putField, ownEnd, ruleIn, Beyond}
 use Rattle.counts.specs.declared.Weight.{Weight}
 use Rattle.counts.specs.declared.Tally.{Tally}
 use Rattle.counts.specs.Count.{capped, countLength}

@@ -3,18 +3,12 @@ ghost use mathlib.Core.Path.{_≡_};
 ghost use Prim.Native.Nat.{_+_, _-_, _*_, _^_, _≤_, _<_, max};
 ghost use lib.ListN.{length};
 ghost use Rattle.words.specs.Number.{number, put};
-ghost use Rattle.rule.specs.Rule.{recordLength, wordLength};
-ghost use Rattle.rule.specs.Records.{recordsFrom, rulesIn};
-ghost use Rattle.plan.specs.Check.{trailerLength};
-ghost use Rattle.forest.specs.Outcome.{workWords, enoughWork, cleared};
-ghost use Rattle.tables.specs.Rows.{rowLength, field, putField, ruleIn, Loaded};
+ghost use Rattle.rows.specs.Rows.{rowLength, field, putField, ruleIn};
 ghost use Rattle.counts.specs.Count.{capped, numberOf, countLength};
 ghost use Rattle.counts.specs.Tally.{Reach, Between, Readable, RowTallied, Ready, Passable, Tallied, Counted, weightOf, ownOf, sumOf, treesOf, depthOf, levelsOf, tallyOf};
 ghost use Rattle.counts.specs.Total.{Startable, Totalled};
-use plan::Trailer;
-use rule::Record;
+use rows::Row;
 use rule::Rule;
-use tables::Row;
 
 // Which weight a label has.
 pub enum Weight {
@@ -40,15 +34,15 @@ pub struct Count {
 
 impl Count {
     // Bytes of a count.
-    pub const LENGTH: usize = 10;
+    const LENGTH: usize = 10;
 
     // Where a row keeps a helping count, and the count itself.
-    pub const HELP: usize = 10;
+    const HELP: usize = 10;
 
-    pub const MAIN: usize = 20;
+    const MAIN: usize = Count::HELP + Count::LENGTH;
 
     // A number that fits.
-    pub fn of(n: u64) -> Count
+    fn of(n: u64) -> Count
         ensures { λ r. ⌜ numberOf r ≡ n ⌝ }
     {
         Count { low: n, over: 0 }
@@ -61,7 +55,7 @@ impl Count {
         Count { low: 0, over: 1 }
     }
 
-    pub fn plus(self, other: Count) -> Count
+    fn plus(self, other: Count) -> Count
         ensures { λ r. ⌜ numberOf r ≡ capped (numberOf self + numberOf other) ⌝ }
     {
         if self.over != 0 {
@@ -77,7 +71,7 @@ impl Count {
         }
     }
 
-    pub fn larger(self, other: Count) -> Count
+    fn larger(self, other: Count) -> Count
         ensures { λ r. ⌜ numberOf r ≡ capped (max (numberOf self) (numberOf other)) ⌝ }
     {
         if self.over != 0 {
@@ -90,7 +84,7 @@ impl Count {
     }
 
     // The count whose bytes begin at an offset.
-    pub fn read(s: &[u8], at: usize) -> Count
+    fn read(s: &[u8], at: usize) -> Count
         requires { ⌜ at + countLength ≤ length (now s) ⌝ }
         ensures { λ r. ⌜ numberOf r ≡ number countLength (now (s .entry)) at ⌝ }
     {
@@ -104,7 +98,7 @@ impl Count {
     }
 
     // A count into the bytes from an offset on.
-    pub fn write(self, s: &mut [u8], at: usize)
+    fn write(self, s: &mut [u8], at: usize)
         requires { ⌜ at + countLength ≤ length (now s) ⌝ }
         ensures { λ r. ⌜ now (s .exit) ≡ put countLength (now (s .entry)) at (numberOf self) ⌝ }
     {
@@ -115,7 +109,7 @@ impl Count {
 }
 
 // The count at an offset of row r.
-pub fn count_at(work: &[u8], r: u16, o: usize) -> Count
+fn count_at(work: &[u8], r: u16, o: usize) -> Count
     requires { ⌜ rowLength * r + o + countLength ≤ length (now work) ⌝ }
     ensures { λ c. ⌜ numberOf c ≡ field countLength (now (work .entry)) r o ⌝ }
 {
@@ -270,7 +264,7 @@ fn tally_of(work: &[u8], r: u16, what: Tally, help: usize, o: usize) -> Count
     requires { ⌜ Readable (now work) r help o ⌝ }
     ensures { λ x. ⌜ numberOf x ≡ capped (tallyOf what (λ k. field countLength (now (work .entry)) k help) (λ k. field countLength (now (work .entry)) k o) r (ruleIn (now (work .entry)) r)) ⌝ }
 {
-    let rule = tables::rule_at(work, r);
+    let rule = rows::rule_at(work, r);
     match what {
         Tally::Own(w) => Count::of(own_weight(w, rule)),
         Tally::Sum => sum(work, o, count_at(work, r, help), rule),
@@ -290,7 +284,7 @@ fn tally_row(work: &mut [u8], r: u16, what: Tally, help: usize, o: usize)
 }
 
 // A pass over the rows of n rules: the tally of each at offset o, from a helping column at offset help where it asks for one.
-pub fn tally_all(work: &mut [u8], n: u16, what: Tally, help: usize, o: usize)
+fn tally_all(work: &mut [u8], n: u16, what: Tally, help: usize, o: usize)
     requires { ⌜ Passable (now work) n help o ⌝ }
     ensures { λ x. ⌜ Tallied what n help o (now (work .entry)) (now (work .exit)) ⌝ }
 {
@@ -302,7 +296,7 @@ pub fn tally_all(work: &mut [u8], n: u16, what: Tally, help: usize, o: usize)
 }
 
 // Two passes: a helping tally, then one that may look at it.
-pub fn count_rules(work: &mut [u8], n: u16, first: Tally, second: Tally)
+fn count_rules(work: &mut [u8], n: u16, first: Tally, second: Tally)
     requires { ⌜ Ready (now work) n ⌝ }
     ensures { λ x. ⌜ Counted first second n (now (work .entry)) (now (work .exit)) ⌝ }
 {
@@ -317,33 +311,4 @@ pub fn total(work: &mut [u8], n: u16, r: u16, first: Tally, second: Tally) -> Co
 {
     count_rules(work, n, first, second);
     count_at(work, r, Count::MAIN)
-}
-
-// The 16-bit words of work that a rule needs, and their bytes.
-pub const WORK_WORDS: usize = 32;
-
-pub const WORK_LENGTH: usize = 2 * WORK_WORDS;
-
-// Whether work has the words that n rules need.
-pub fn enough_work(work: &[u8], n: u16) -> bool
-    ensures { λ r. ⌜ r ≡ enoughWork n (now (work .entry)) ⌝ }
-{
-    WORK_WORDS * (n as usize) <= words::word_count(work)
-}
-
-// An accepted plan's n rules, which stand right before its trailer, into the rows of work.
-pub fn load_rules(plan: &[u8], work: &mut [u8], n: u16)
-    requires { ⌜ (recordLength * n + trailerLength ≤ length (now plan)) × (rowLength * n ≤ length (now work)) ⌝ }
-    ensures { λ x. ⌜ Loaded (rulesIn (recordsFrom (now (plan .entry)) (length (now (plan .entry)) - trailerLength - recordLength * n) n)) n (now (work .entry)) (now (work .exit)) ⌝ }
-{
-    let first = plan.len() - Trailer::LENGTH - Record::LENGTH * (n as usize);
-    tables::load(plan, first, n, work);
-}
-
-// Zeros into the words of work that n rules need.
-pub fn clear_work(work: &mut [u8], n: u16)
-    requires { ⌜ 64 * n ≤ length (now work) ⌝ }
-    ensures { λ x. ⌜ now (work .exit) ≡ cleared (wordLength * workWords n) (now (work .entry)) ⌝ }
-{
-    tables::clear(work, WORK_LENGTH * (n as usize));
 }

@@ -1,56 +1,16 @@
--- What a sound table and the cells of a cursor name has rows: a step, a run, the cell on top, and fewer cells.
--- Assumes nothing.
-use Prim.Native.Nat.{ℕ, zero, suc, _-_, _≤_, _<_}
+-- What the cells of a cursor name has rows: the cell on top, fewer cells, and a run that is to turn. Assumes nothing.
+use Prim.Native.Nat.{ℕ, zero, suc, _≤_, _<_}
 use native.Mathlib.Omega.{arith}
 use mathlib.Core.Path.{_≡_, sym, _∙_}
 use mathlib.Core.List.{List}
 use native.Mathlib.Decide.{decLt}
 use Rattle.forest.specs.Place.{Cell, Side}
 use Rattle.forest.specs.Walk.{cellAt, cellsIn}
-use Rattle.model.specs.Facts.{Facts}
-use Rattle.model.specs.Model.{along, oneAbove, outer, outerOf}
-use Rattle.rule.specs.declared.Rule.{Rule}
-use Rattle.tables.specs.Table.{In}
-use Rattle.cursor.specs.Known.{Names, Closed}
-use Rattle.cursor.specs.Moves.{Each, Fits, Held, Turns, aboveTop}
 use Rattle.forest.proofs.Position.{other}
+use Rattle.tables.specs.Table.{In}
+use Rattle.tables.proofs.Closes.{above-has}
+use Rattle.cursor.specs.Moves.{Each, Fits, Held, Turns, aboveTop}
 use Rattle.cursor.proofs.Turns.{run-no-row}
-
--- P of what the facts of a rule with P lead to
-pub along-has : {F : Facts} {P : ℕ → Type 0} → Closed F P → (s : Side) (j a : ℕ) → P a → P (along F s j a)
-unfolding along
-along-has h s zero a p = p
-along-has {F} h s (suc j) a p = h .steps s (along F s j a) (along-has h s j a p)
-
-pub above-has : {F : Facts} {P : ℕ → Type 0} → Closed F P → (s : Side) (a b : ℕ) → P a → P (oneAbove F s a b)
-unfolding oneAbove
-above-has {F} h s a b p = along-has h s (F .depth s a - suc (F .depth s b)) a p
-
--- P of the rules that a rule with P names
-pub named-inner : (P : ℕ → Type 0) {x : Rule} {b c : ℕ} → x ≡ Rule.Fill b c → Names P x → P c
-unfolding Names
-named-inner P e n = (rw e at n) .1
-
-pub named-under : (P : ℕ → Type 0) {x : Rule} {a c : ℕ} → x ≡ Rule.Node a c → Names P x → P c
-unfolding Names
-named-under P e n = rw e at n
-
-pub named-arms : (P : ℕ → Type 0) {x : Rule} {a b c : ℕ} → x ≡ Rule.Part a b c → Names P x → P b × P c
-unfolding Names
-named-arms P e n = rw e at n
-
-outer-of : (P : ℕ → Type 0) (x : Rule) (a : ℕ) → Names P x → P a → P (outerOf x a)
-unfolding Names outerOf
-outer-of P Rule.Empty a n p = p
-outer-of P (Rule.Pair b c) a n p = p
-outer-of P (Rule.Node x c) a n p = p
-outer-of P (Rule.Fill b c) a n p = n .0
-outer-of P (Rule.Part x b c) a n p = p
-outer-of P (Rule.Join b c) a n p = p
-
-pub outer-has : {F : Facts} {P : ℕ → Type 0} → Closed F P → (a : ℕ) → P a → P (outer F a)
-unfolding outer
-outer-has {F} {P} h a p = outer-of P (F .rule a) a (h .names a p) p
 
 -- the cell on top, and fewer cells
 each-top : (P : Cell → Type 0) (s : List ℕ) (k : ℕ) → 0 < k → Each P (cellsIn s k) → P (cellAt s k)

@@ -14,11 +14,12 @@ use Rattle.forest.specs.Place.{Cell, Cells, Side, cellRow, cellSpine, cellRun, 
 use Rattle.forest.proofs.Position.{other, pick, orElse}
 use Rattle.model.specs.Facts.{Facts}
 use Rattle.model.specs.Model.{Node, oneAbove, outer, innerOf, standing, tail, popRun, run, shrunk, turned, besideTop, beside, opened, enter, continuing, inward, under, partAt, isPart, outward, ended, follow, child, childOf, besideHole, sibling, siblingFrom, belowRow, nodeAt, parent, root}
-use Rattle.cursor.specs.Known.{Names, Closed}
+use Rattle.tables.specs.Closes.{Names, Closed}
 use Rattle.cursor.specs.Moves.{Each, Fits, Node-has, Kept}
 use Rattle.model.proofs.Cells.{by-bool}
 use Rattle.cursor.proofs.Turns.{run-no-row}
-use Rattle.cursor.proofs.Held.{above-has, outer-has}
+use Rattle.tables.proofs.Ready.{picked}
+use Rattle.tables.proofs.Closes.{above-has, outer-has}
 
 -- the rule of a node that was found
 pub found-rule : (P : ℕ → Type 0) {y : Option Node} {x : Node} → y ≡ some x → Kept P y → P (x .0)
@@ -34,11 +35,6 @@ map-kept : (P : ℕ → Type 0) (f : Node → Node) → ((x : Node) → Node-has
 unfolding Kept
 map-kept P f g none a = tt
 map-kept P f g (some x) a = g x a
-
-pub picked : (P : ℕ → Type 0) (s : Side) (b c : ℕ) → P b → P c → P (pick s b c)
-unfolding pick
-picked P Side.left b c x y = x
-picked P Side.right b c x y = y
 
 module _ (F : Facts) (P : ℕ → Type 0) (h : Closed F P) where
   step-kept : (s : Side) (a b : ℕ) (cs : Cells) → P a → P b → Each (Fits P) cs → Each (Fits P) (step s a b cs)

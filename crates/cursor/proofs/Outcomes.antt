@@ -13,13 +13,14 @@ use Rattle.forest.proofs.Position.{other, orElse}
 use Rattle.model.specs.Facts.{Facts}
 use Rattle.model.specs.Model.{Node, outer, innerOf, standing, tail, popRun, besideTop, beside, opened, enter, continuing, inward, under, partAt, isPart, outward, ended, follow, besideHole, sibling, siblingFrom, belowRow, nodeAt, parent}
 use Rattle.model.proofs.Cells.{topKind}
-use Rattle.cursor.specs.declared.Stem.{Stem}
-use Rattle.cursor.specs.declared.Change.{Change}
+use Rattle.cells.specs.declared.Stem.{Stem}
+use Rattle.cells.specs.declared.Change.{Change}
 use Rattle.cursor.specs.declared.Reach.{Reach}
 use Rattle.cursor.specs.declared.Outcome.{Outcome}
-use Rattle.cursor.specs.Cells.{cell, runCell}
-use Rattle.cursor.specs.Moves.{add, stemNode, changeNode, reached, outcome}
-use Rattle.cursor.proofs.Stack.{cells-none, cells-top, add-some, run-begins}
+use Rattle.cells.specs.Cells.{cell, runCell}
+use Rattle.cells.specs.Changes.{add, stemNode, changeNode}
+use Rattle.cursor.specs.Moves.{reached, outcome}
+use Rattle.cells.proofs.Stack.{cells-none, cells-top, add-some, run-begins}
 
 -- what an answer of the code says
 pub found : {r : Reach} {x : Stem} {y : Option Node} (s : List ℕ) → reached r s ≡ y → r ≡ Reach.Part x → y ≡ some (stemNode x s)
@@ -161,17 +162,3 @@ module _ (F : Facts) where
     pub node-here : 0 < k → nodeAt F (cellsIn s k) ≡ some (standing F (cellsIn s k), cellsIn s k)
     unfolding nodeAt
     node-here h = rw (cells-top s k h)
-
--- below the row on top of cells 1 to i
-module _ (s : List ℕ) (i : ℕ) where
-  pub below-none : i ≡ 0 → belowRow (cellsIn s i) ≡ cellsIn s 0
-  unfolding belowRow cellsIn
-  below-none e = rw (cells-none s i e)
-
-  pub below-here : 0 < i → (cellAt s i) .0 ≡ cellRow → belowRow (cellsIn s i) ≡ cellsIn s (i - 1)
-  unfolding belowRow
-  below-here h e = rw (cells-top s i h, eq-eqb _ _ e)
-
-  pub below-on : 0 < i → ((cellAt s i) .0 ≡ cellRow → ⊥) → belowRow (cellsIn s i) ≡ belowRow (cellsIn s (i - 1))
-  unfolding belowRow
-  below-on h e = rw (cells-top s i h, ne-eqb _ _ e)

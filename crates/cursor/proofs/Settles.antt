@@ -6,11 +6,14 @@ use Rattle.forest.specs.Walk.{nowhere}
 use Rattle.model.specs.Facts.{Facts}
 use Rattle.model.specs.Model.{Node}
 use Rattle.model.specs.Walk.{label}
-use Rattle.cursor.specs.declared.Change.{Change}
+use Rattle.cells.specs.declared.Change.{Change}
 use Rattle.cursor.specs.declared.Outcome.{Outcome}
-use Rattle.cursor.specs.Moves.{Lies, Kept, changed, changeNode, outcome}
-use Rattle.cursor.specs.Settled.{Wrote, changeHigh, Room, Left, landing, Settled}
-use Rattle.cursor.proofs.Writes.{length-change}
+use Rattle.cells.specs.Cells.{Lies}
+use Rattle.cursor.specs.Moves.{Kept, outcome}
+use Rattle.cells.specs.Changes.{changed, changeNode}
+use Rattle.cells.specs.Changes.{Wrote, changeHigh}
+use Rattle.cursor.specs.Settled.{Room, Left, landing, Settled}
+use Rattle.cells.proofs.Writes.{length-change}
 
 module _ (s : List ℕ) {o : Outcome} where
   pub settled-none : (F : Facts) (k p : ℕ) → o ≡ Outcome.Nowhere → Settled F k p (outcome o s) s s (record { used = k; rule = p; answer = nowhere })

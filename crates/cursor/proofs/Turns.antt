@@ -4,55 +4,39 @@
 use Prim.Native.Nat.{ℕ, suc, _+_, _-_, _≤_, _<_}
 use native.Mathlib.Omega.{arith}
 use mathlib.Core.Path.{_≡_, sym, ap, _∙_}
-use mathlib.Core.List.{List, [], _∷_}
+use mathlib.Core.List.{List, _∷_}
 use mathlib.Core.Option.{none, some as some′}
 use borrow.Author.Tests.{eq-eqb, ne-eqb, le-leb, lt-leb}
 use Rattle.forest.specs.Place.{Cell, Cells, Side, cellRow, cellSpine, cellRun, step}
 use Rattle.forest.specs.Walk.{cellAt, cellsIn}
 use Rattle.forest.proofs.Position.{other}
 use Rattle.model.specs.Facts.{Facts}
-use Rattle.model.specs.Model.{Node, outer, standing, run, shrunk, turned, besideTop}
+use Rattle.model.specs.Model.{Node, outer, standing, shrunk, turned, besideTop}
 use Rattle.model.proofs.Cells.{topKind, step-begins}
-use Rattle.cursor.specs.declared.Cell.{Cell as Words}
+use Rattle.cells.specs.declared.Cell.{Cell as Words}
 use Rattle.tables.specs.Table.{known}
-use Rattle.cursor.specs.Cells.{cell, runCell}
-use Rattle.cursor.specs.Moves.{add, aboveTop}
-use Rattle.cursor.proofs.Stack.{cells-none, cells-top, add-some, add-run, run-some, apart-back, step-grows, step-kind, run-begins, above-first}
+use Rattle.cells.specs.Cells.{cell, runCell}
+use Rattle.cells.specs.Changes.{add}
+use Rattle.cursor.specs.Moves.{aboveTop}
+use Rattle.cells.proofs.Stack.{cells-none, cells-top, add-some, add-run, run-some, apart-back, step-kind, run-begins, above-first}
 
 -- a cell of a known form in its own words
 pub own-words : {x : Words} {r a b : ℕ} → x ≡ cell (r, a, b, 0) → x ≡ cell (r, x .one, x .two, 0)
 own-words {x} {r} {a} {b} e = rw e
 
-module _ (s : List ℕ) (k : ℕ) where
-  -- a step onto cells 1 to k
-  pub begins-none : (d : Side) (a b : ℕ) → k ≡ 0 → add (cell (cellRun d, a, b, 0)) (cellsIn s k) ≡ step d a b (cellsIn s k)
-  unfolding topKind step
-  begins-none d a b e = rw (cells-none s k e) (add-run d a b [])
+-- the rule that cells 1 to k stand at
+module _ (s : List ℕ) (k : ℕ) (F : Facts) where
+  pub stands-none : k ≡ 0 → standing F (cellsIn s k) ≡ 0
+  unfolding standing
+  stands-none e = rw (cells-none s k e)
 
-  pub begins-other : (d : Side) (a b : ℕ) → 0 < k → ((cellAt s k) .0 ≡ cellRun d → ⊥) → add (cell (cellRun d, a, b, 0)) (cellsIn s k) ≡ step d a b (cellsIn s k)
-  unfolding topKind
-  begins-other d a b h e =
-      rw (cells-top s k h) (add-run d a b (cellAt s k ∷ cellsIn s (k - 1)) ∙ sym (step-begins d a b (cellAt s k ∷ cellsIn s (k - 1)) (ne-eqb _ _ e)))
+  pub stands-spine : 0 < k → (cellAt s k) .0 ≡ cellSpine → standing F (cellsIn s k) ≡ outer F ((cellAt s k) .1)
+  unfolding standing
+  stands-spine h e = rw (cells-top s k h, eq-eqb _ _ e)
 
-  pub grows-top : (d : Side) (a b : ℕ) → 0 < k → (cellAt s k) .0 ≡ cellRun d
-      → add (cell ((cellAt s k) .0, (cellAt s k) .1, b, (cellAt s k) .3)) (cellsIn s (k - 1)) ≡ step d a b (cellsIn s k)
-  grows-top d a b h e =
-      add-some (cell ((cellAt s k) .0, (cellAt s k) .1, b, (cellAt s k) .3)) (cellsIn s (k - 1)) (rw e (run-some d))
-      ∙ sym (rw (cells-top s k h) (step-grows d a b (cellAt s k) (cellsIn s (k - 1)) (eq-eqb _ _ e)))
-
-  -- the rule that they stand at
-  module _ (F : Facts) where
-    pub stands-none : k ≡ 0 → standing F (cellsIn s k) ≡ 0
-    unfolding standing
-    stands-none e = rw (cells-none s k e)
-
-    pub stands-spine : 0 < k → (cellAt s k) .0 ≡ cellSpine → standing F (cellsIn s k) ≡ outer F ((cellAt s k) .1)
-    unfolding standing
-    stands-spine h e = rw (cells-top s k h, eq-eqb _ _ e)
-
-    pub stands-else : 0 < k → ((cellAt s k) .0 ≡ cellSpine → ⊥) → standing F (cellsIn s k) ≡ (cellAt s k) .2
-    unfolding standing
-    stands-else h e = rw (cells-top s k h, ne-eqb _ _ e)
+  pub stands-else : 0 < k → ((cellAt s k) .0 ≡ cellSpine → ⊥) → standing F (cellsIn s k) ≡ (cellAt s k) .2
+  unfolding standing
+  stands-else h e = rw (cells-top s k h, ne-eqb _ _ e)
 
 -- a run is no row
 pub run-no-row : (d : Side) → cellRun d ≡ cellRow → ⊥

@@ -1,46 +1,20 @@
--- What a move decides, the cells that it leads to, and what it asks of the table and the cursor.
-use Prim.Native.Nat.{ℕ, _+_, _*_, _≤_, _<_}
+-- What a move decides, and what it asks of the table and the cursor.
+use Prim.Native.Nat.{ℕ, _<_}
 use mathlib.Core.Path.{_≡_}
-use mathlib.Core.Bool.{cond}
 use mathlib.Core.List.{List, [], _∷_}
 use mathlib.Core.Option.{Option, none, some}
-use lib.ListN.{length}
-use lib.Dec.{eqb}
 use Rattle.forest.specs.Place.{Cell, Cells, Side, cellRow, cellRun}
-use Rattle.forest.specs.Walk.{cellLength, cellAt, cellsIn}
+use Rattle.forest.specs.Walk.{cellAt, cellsIn}
 use Rattle.forest.proofs.Position.{other}
 use Rattle.model.specs.Model.{Node, oneAbove}
-use Rattle.cursor.specs.declared.Cell.{Cell as Words}
-use Rattle.cursor.specs.declared.Stem.{Stem}
-use Rattle.cursor.specs.declared.Change.{Change}
+use Rattle.tables.specs.Table.{In, known, Climbs}
+use Rattle.tables.specs.Closes.{Closes}
+use Rattle.cells.specs.Cells.{Lies}
+use Rattle.cells.specs.Changes.{stemNode, changeNode}
 use Rattle.cursor.specs.declared.Reach.{Reach}
 use Rattle.cursor.specs.declared.Outcome.{Outcome}
-use Rattle.tables.specs.Table.{In, known, Climbs}
-use Rattle.cursor.specs.Known.{Closes}
-use Rattle.cursor.specs.Cells.{words}
-
--- a cell on a stack, if it is one
-unfoldable pub add : Words → Cells → Cells
-add c cs = cond (eqb (c .kind) 0) cs (words c ∷ cs)
-
--- the cells of a stem: those kept, a run one step shorter, a step, and then a run back
-unfoldable pub stepCells : Stem → List ℕ → Cells
-stepCells x s = add (x .step) (add (x .short) (cellsIn s (x .keep)))
-
-unfoldable pub stemCells : Stem → List ℕ → Cells
-stemCells x s = add (x .back) (stepCells x s)
-
--- the cells of a change: those of its stem, a row with the run across it, and a spine with the run down it
-unfoldable pub changed : Change → List ℕ → Cells
-changed x s = add (x .down) (add (x .spine) (add (x .across) (add (x .row) (stemCells (x .stem) s))))
 
 -- the node that is reached, as the model has it
-unfoldable pub stemNode : Stem → List ℕ → Node
-stemNode x s = (x .rule, stemCells x s)
-
-unfoldable pub changeNode : Change → List ℕ → Node
-changeNode x s = (x .rule, changed x s)
-
 unfoldable pub reached : Reach → List ℕ → Option Node
 reached (Reach.Part x) s = some (stemNode x s)
 reached Reach.Off s = none
@@ -67,10 +41,6 @@ Node-has P x = P (x .0) × Each (Fits P) (x .1)
 unfoldable pub Kept : (ℕ → Type 0) → Option Node → Type 0
 Kept P none = Unit {0}
 Kept P (some x) = Node-has P x
-
--- cells 1 to k lie in the cursor
-abbrev pub Lies : List ℕ → ℕ → Type 0
-Lies s k = cellLength * (k + 1) ≤ length s
 
 -- the table closes and can be climbed, and cells 1 to k lie in the cursor and name only rules that have rows
 pub record Held (t s : List ℕ) (k : ℕ) : Type 0 where

@@ -1,38 +1,16 @@
--- What is written: the cells that a move leads to, and what a letter comes to.
-use Prim.Native.Nat.{ℕ, _+_, _-_, _*_}
+-- What a letter comes to.
+use Prim.Native.Nat.{ℕ}
 use mathlib.Core.Path.{_≡_}
-use mathlib.Core.Bool.{cond}
-use mathlib.Core.List.{List, _++_}
+use mathlib.Core.List.{List}
 use mathlib.Core.Option.{Option, none, some}
-use lib.ListN.{length, take, drop, replicate}
-use lib.Dec.{eqb}
-use Rattle.rule.specs.Rule.{wordLength}
-use Rattle.tables.specs.Rows.{Within}
-use Rattle.forest.specs.Place.{Cells}
-use Rattle.forest.specs.Walk.{cellLength, cellsIn, cursorWords, nowhere}
+use lib.ListN.{length}
+use Rattle.forest.specs.Walk.{nowhere}
 use Rattle.model.specs.Facts.{Facts}
 use Rattle.model.specs.Model.{Node}
 use Rattle.model.specs.Walk.{label}
-use Rattle.cursor.specs.declared.Cell.{Cell as Words}
-use Rattle.cursor.specs.declared.Stem.{Stem}
-use Rattle.cursor.specs.declared.Change.{Change}
+use Rattle.cells.specs.Cells.{Lies}
+use Rattle.cells.specs.Changes.{Wrote}
 use Rattle.cursor.specs.declared.Landing.{Landing}
-use Rattle.cursor.specs.Moves.{Lies}
-
--- the cells cs stand in the cursor; cell 0 and the cells past them are as they were
-pub record Wrote (cs : Cells) (s s′ : List ℕ) : Type 0 where
-  pub cells : cellsIn s′ (length cs) ≡ cs
-  pub within : Within cellLength (cellLength * (length cs + 1)) s s′
-
--- the number of cells with one more, if it is one; those of a stem, and those of a change
-unfoldable pub high : Words → ℕ → ℕ
-high c k = cond (eqb (c .kind) 0) k (k + 1)
-
-unfoldable pub stemHigh : Stem → ℕ
-stemHigh x = high (x .back) (high (x .step) (high (x .short) (x .keep)))
-
-unfoldable pub changeHigh : Change → ℕ
-changeHigh x = high (x .down) (high (x .spine) (high (x .across) (high (x .row) (stemHigh (x .stem)))))
 
 -- the cursor has room for the cells that a letter leads to
 unfoldable pub Room : List ℕ → Option Node → Type 0
@@ -52,11 +30,3 @@ landing F k p (some x) = record { used = length (x .1); rule = x .0; answer = la
 pub record Settled (F : Facts) (k p : ℕ) (x : Option Node) (s s′ : List ℕ) (r : Landing) : Type 0 where
   pub landed : r ≡ landing F k p x
   pub left : Left x s s′
-
--- the bytes of the cursor that n rules need, and those with zeros past cell k
-abbrev pub cursorLength : ℕ → ℕ
-cursorLength n = wordLength * cursorWords n
-
-unfoldable pub clearedPast : ℕ → ℕ → List ℕ → List ℕ
-clearedPast k n s =
-    take (cellLength * (k + 1)) s ++ (replicate (cursorLength n - cellLength * (k + 1)) 0 ++ drop (cursorLength n) s)

@@ -14,9 +14,12 @@ use Rattle.seal.specs.Seal.{outputAfter}
 use Rattle.forest.specs.declared.Measured.{Measured}
 use Rattle.forest.specs.Forest.{Forest, forest, count, weigh, one, levels, text}
 
--- "work has fewer than 32 × n words": the words of work that n rules need
+-- "work has fewer than 32 × n words": the words of work a rule, and those that n rules need
+abbrev pub ruleWork : ℕ
+ruleWork = 32
+
 unfoldable pub workWords : ℕ → ℕ
-workWords n = 32 * n
+workWords n = ruleWork * n
 
 unfoldable pub enoughWork : ℕ → List ℕ → Bool
 unfolding workWords

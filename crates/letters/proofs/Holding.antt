@@ -14,7 +14,7 @@ use Rattle.forest.proofs.Unfold.{T-left, T-right}
 use Rattle.model.specs.Facts.{Facts, factsOf}
 use Rattle.model.proofs.Ranged.{Numbers}
 use Rattle.tables.specs.Table.{rows, In, known}
-use Rattle.cursor.specs.Known.{Names, Closed, Closes}
+use Rattle.tables.specs.Closes.{Names, Closed, Closes}
 use Rattle.cursor.specs.Moves.{Each, Fits}
 use Rattle.letters.proofs.Inside.{representative-below, toward-below, last-below}
 

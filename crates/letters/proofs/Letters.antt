@@ -15,11 +15,11 @@ use Rattle.forest.specs.Letter.{Letter, letterOf}
 use Rattle.forest.specs.Walk.{cellLength, cellsIn, andLetters, lettersOf, wordsBytes, answerWord}
 use Rattle.model.specs.Model.{Node}
 use Rattle.model.specs.Walk.{answer, answers, moved, after}
-use Rattle.tables.specs.Rows.{Within}
+use Rattle.rows.specs.Rows.{Within}
 use Rattle.tables.specs.Table.{rows, known}
-use Rattle.tables.proofs.Rows.{within-none, within-both}
+use Rattle.rows.proofs.Rows.{within-none, within-both}
 use Rattle.cursor.specs.declared.Landing.{Landing}
-use Rattle.cursor.specs.Settled.{cursorLength}
+use Rattle.cells.specs.Cells.{cursorLength}
 use Rattle.letters.specs.Standing.{Stands, Stepped, Ran, Answerable}
 use Rattle.letters.proofs.Standing.{stands-few, stands-after}
 

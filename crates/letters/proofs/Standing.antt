@@ -19,16 +19,19 @@ use Rattle.model.specs.Model.{Node}
 use Rattle.model.specs.Walk.{label, fromNode, move, moved, answer}
 use Rattle.model.proofs.Rules.{Agrees, facts-agree}
 use Rattle.model.proofs.Ranged.{Numbers}
-use Rattle.tables.specs.Rows.{Within}
+use Rattle.rows.specs.Rows.{Within}
 use Rattle.tables.specs.Table.{rows, In, known}
-use Rattle.tables.proofs.Rows.{within-none, within-wider}
+use Rattle.rows.proofs.Rows.{within-none, within-wider}
 use Rattle.tables.proofs.Filling.{length-kept}
 use Rattle.cursor.specs.declared.Landing.{Landing}
-use Rattle.cursor.specs.Known.{Closes}
-use Rattle.cursor.specs.Moves.{Lies, Held, Kept, Node-has, Each, Fits}
-use Rattle.cursor.specs.Settled.{cursorLength, Room, Left, landing, Settled, Wrote}
-use Rattle.cursor.proofs.Stack.{cells-top}
-use Rattle.cursor.proofs.Writes.{length-cells}
+use Rattle.tables.specs.Closes.{Closes}
+use Rattle.cells.specs.Cells.{Lies}
+use Rattle.cursor.specs.Moves.{Held, Kept, Node-has, Each, Fits}
+use Rattle.cells.specs.Cells.{cursorLength}
+use Rattle.cells.specs.Changes.{Wrote}
+use Rattle.cursor.specs.Settled.{Room, Left, landing, Settled}
+use Rattle.cells.proofs.Stack.{cells-top}
+use Rattle.cells.proofs.Writes.{length-cells}
 use Rattle.cursor.proofs.Kept.{child-kept, sibling-kept, parent-kept, root-kept}
 use Rattle.letters.specs.Standing.{Valid, rulesKept, Table, Stands, Stepped}
 use Rattle.letters.proofs.Valid.{valid-moved, valid-short, valid-numbers, valid-rule}

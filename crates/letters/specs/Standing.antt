@@ -17,10 +17,10 @@ use Rattle.model.specs.Facts.{factsOf}
 use Rattle.model.specs.Model.{Node}
 use Rattle.model.specs.Walk.{answer, answers, moved, after}
 use Rattle.model.proofs.Walk.{Same}
-use Rattle.tables.specs.Rows.{Within}
+use Rattle.rows.specs.Rows.{Within}
 use Rattle.tables.specs.Table.{rows, known, kept, Climbs}
 use Rattle.cursor.specs.declared.Landing.{Landing}
-use Rattle.cursor.specs.Settled.{cursorLength}
+use Rattle.cells.specs.Cells.{cursorLength}
 
 -- a node on cells that is the place of a node of rule r's forest, or above it
 pub record Valid (R : List Rule) (r : ℕ) (n : Node) : Type 0 where

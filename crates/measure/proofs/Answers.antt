@@ -14,7 +14,7 @@ use Rattle.forest.specs.Forest.{Forest, trees, count, weigh, one, levels}
 use Rattle.forest.specs.Outcome.{counted, entry}
 use Rattle.forest.proofs.Good.{Sort, Good}
 use Rattle.forest.proofs.Counts.{count-nodes, levels-nodes}
-use Rattle.tables.proofs.Rows.{within-both}
+use Rattle.rows.proofs.Rows.{within-both}
 use Rattle.counts.specs.declared.Count.{Count}
 use Rattle.counts.specs.declared.Tally.{Tally}
 use Rattle.counts.specs.declared.Weight.{Weight}

@@ -8,7 +8,7 @@ use Rattle.forest.specs.Algebra.{value}
 use Rattle.forest.specs.Forest.{trees}
 use Rattle.forest.specs.Outcome.{counted}
 use Rattle.forest.proofs.Good.{Sort, Good}
-use Rattle.tables.specs.Rows.{Beyond}
+use Rattle.rows.specs.Rows.{Beyond}
 use Rattle.counts.specs.Tally.{Unfolds}
 
 -- the answer for rule r, whatever its expression, as long as it unfolds the rules in the rows and is closed

@@ -34,12 +34,12 @@ fn measure_rules(plan: &[u8], work: &mut [u8], n: u16, start: u16) -> Measured
     requires { ⌜ checked (now plan) ≡ Checked.Accepted n start ⌝ }
     ensures { λ x. ⌜ (x ≡ measured (now (plan .entry)) (now (work .entry))) × (now (work .exit) ≡ measuredWork (now (plan .entry)) (now (work .entry))) ⌝ }
 {
-    if !counts::enough_work(work, n) {
+    if !rows::enough_work(work, n) {
         return Measured::Refused(Refusal::Lent);
     }
-    counts::load_rules(plan, work, n);
+    rows::load_rules(plan, work, n);
     let answer = answer(work, n, start);
-    counts::clear_work(work, n);
+    rows::clear_work(work, n);
     answer
 }
 

@@ -21,8 +21,8 @@ use Rattle.forest.specs.Outcome.{nodeLength, textRoomed}
 use Rattle.forest.proofs.Good.{Sort, Good}
 use Rattle.forest.proofs.Unfold.{unfolding-equation, closed-row}
 use Rattle.forest.proofs.Counts.{text-length}
-use Rattle.tables.specs.Rows.{rowLength, ownEnd, ruleIn, Within}
-use Rattle.tables.proofs.Rows.{within-both, within-wider}
+use Rattle.rows.specs.Rows.{rowLength, ownEnd, ruleIn, Within}
+use Rattle.rows.proofs.Rows.{within-both, within-wider}
 use Rattle.counts.specs.declared.Count.{Count}
 use Rattle.counts.specs.declared.Tally.{Tally}
 use Rattle.counts.specs.declared.Weight.{Weight}

@@ -9,8 +9,8 @@ use Rattle.rule.specs.Rule.{wordLength}
 use Rattle.rule.specs.Sound.{Sound}
 use Rattle.forest.specs.Expression.{Expression, expression}
 use Rattle.forest.proofs.Unfold.{height, height-expression}
-use Rattle.tables.specs.Rows.{Within}
-use Rattle.tables.proofs.Rows.{within-both, within-wider}
+use Rattle.rows.specs.Rows.{Within}
+use Rattle.rows.proofs.Rows.{within-both, within-wider}
 use Rattle.counts.specs.Says.{whole, says}
 use Rattle.spread.specs.Task.{noTask, taskText, tasksText, taskIn, addTask}
 use Rattle.spread.specs.Stack.{tasksAt, tasksIn, Pushed}

@@ -8,7 +8,7 @@ use lib.Dec.{T, leb→le}
 use Rattle.rule.specs.declared.Rule.{Rule}
 use Rattle.rule.specs.Rule.{labelled}
 use Rattle.forest.proofs.Unfold.{Names}
-use Rattle.tables.specs.Rows.{rowLength}
+use Rattle.rows.specs.Rows.{rowLength}
 use Rattle.counts.proofs.Reach.{named-lower}
 use Rattle.spread.specs.Stack.{Steppable}
 

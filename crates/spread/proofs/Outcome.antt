@@ -16,9 +16,10 @@ use Rattle.rule.specs.Sound.{Sound, Closed}
 use Rattle.seal.specs.Seal.{outputAfter}
 use Rattle.forest.specs.Forest.{forest, text}
 use Rattle.forest.specs.Outcome.{workWords, enoughWork, cleared, measuredWork, textRoomed, spread, textOf, spreadOutput}
-use Rattle.tables.specs.Rows.{Within}
-use Rattle.tables.proofs.Rows.{within-both}
-use Rattle.counts.proofs.Work.{Held, work-refused, work-lent, work-cleared}
+use Rattle.rows.specs.Rows.{workLength, Within}
+use Rattle.rows.proofs.Rows.{within-both}
+use Rattle.rows.proofs.Work.{work-refused, work-lent, work-cleared}
+use Rattle.counts.proofs.Work.{Held}
 use Rattle.spread.specs.Run.{rowsIn, Answerable, Answered}
 use Rattle.spread.proofs.Rows.{rows-are}
 
@@ -41,13 +42,13 @@ answerable {n = n} h =
 
 module _ (s work out : List ℕ) where
   pub refused : (r : Refusal) → checked s ≡ Checked.Refused r → Outcome s work out (Written.Refused r) work out
-  unfolding spread spreadOutput outputAfter
-  refused r q = (rw q, work-refused s work r q, rw q)
+  unfolding spread spreadOutput outputAfter measuredWork
+  refused r q = (rw q, work-refused (λ m. enoughWork m work) s work r q, rw q)
 
   module _ (n start : ℕ) (q : checked s ≡ Checked.Accepted n start) where
     pub lent : enoughWork n work ≡ false → Outcome s work out (Written.Refused Refusal.Lent) work out
-    unfolding spread spreadOutput outputAfter
-    lent e = (rw (q, e), work-lent s work n start q e, rw (q, e))
+    unfolding spread spreadOutput outputAfter measuredWork
+    lent e = (rw (q, e), work-lent (λ m. enoughWork m work) s work n start q e, rw (q, e))
 
     spread-is : enoughWork n work ≡ true → spread s work out ≡ textRoomed (forest (rulesOf s) start) out
     unfolding spread
@@ -57,12 +58,13 @@ module _ (s work out : List ℕ) where
     unfolding spreadOutput textOf
     output-is = ap (λ (c : Checked). outputAfter (spread s work out) (textOf s c) out) q
 
-    pub finished : {x : Written} {t u v out′ : List ℕ} → enoughWork n work ≡ true → Held s n start t → Within 0 (64 * n) work t
+    pub finished : {x : Written} {t u v out′ : List ℕ} → enoughWork n work ≡ true → Held s n start t → Within 0 (workLength * n) work t
         → Answered n start x t u out out′ → v ≡ cleared (wordLength * workWords n) u → Outcome s work out x v out′
+    unfolding measuredWork
     finished {x} {t} {u} e h w a p =
         let answer : x ≡ spread s work out = a .answer ∙ ap (λ (R : List Rule). textRoomed (forest R start) out) (rows-loaded h) ∙ sym (spread-is e) in (
           answer,
-          p ∙ work-cleared s work n start q e u (within-both w (a .within)),
+          p ∙ work-cleared (λ m. enoughWork m work) s work n start q e u (within-both w (a .within)),
           a .writes
               ∙ ap (λ (y : Written). outputAfter y (text (forest (rowsIn t n) start)) out) answer
               ∙ ap (λ (R : List Rule). outputAfter (spread s work out) (text (forest R start)) out) (rows-loaded h)

@@ -13,8 +13,8 @@ use Rattle.rule.specs.Rule.{every, labelled, wordLength}
 use Rattle.rule.specs.Sound.{rule, Sound}
 use Rattle.forest.specs.Expression.{Expression, rhs, expression}
 use Rattle.forest.proofs.Unfold.{Names, unfolding-equation}
-use Rattle.tables.specs.Rows.{rowLength, ownEnd, ruleIn, Holds, Within}
-use Rattle.tables.proofs.Rows.{within-rule, within-field}
+use Rattle.rows.specs.Rows.{rowLength, ownEnd, ruleIn, Holds, Within}
+use Rattle.rows.proofs.Rows.{within-rule, within-field}
 use Rattle.counts.proofs.Reach.{named-lower}
 use Rattle.spread.specs.Task.{taskIn, taskOf}
 use Rattle.spread.specs.Stack.{atTask, tasksAt}

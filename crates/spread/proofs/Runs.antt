@@ -11,8 +11,8 @@ use lib.Seq.{length-take-le, take-at, drop-append-add, drop-drop}
 use Rattle.rule.specs.Rule.{wordLength}
 use Rattle.seal.specs.Seal.{inFront}
 use Rattle.forest.specs.Expression.{Expression}
-use Rattle.tables.specs.Rows.{rowLength, ruleIn, Within}
-use Rattle.tables.proofs.Rows.{within-none, within-both, within-wider}
+use Rattle.rows.specs.Rows.{rowLength, ruleIn, Within}
+use Rattle.rows.proofs.Rows.{within-none, within-both, within-wider}
 use Rattle.spread.specs.declared.Step.{Step}
 use Rattle.spread.specs.declared.State.{State}
 use Rattle.spread.specs.Task.{parts, noTask, taskHeight, tasksText, tasksTurns, saidBytes, addTasks}

@@ -14,8 +14,8 @@ use borrow.Author.Tests.{eq-eqb, ne-eqb}
 use Rattle.words.specs.Number.{base, number, put}
 use Rattle.words.proofs.Laws.{length-put, put-same, put-other, put-take, put-drop}
 use Rattle.rule.specs.Rule.{wordLength}
-use Rattle.tables.specs.Rows.{Within, ruleIn}
-use Rattle.tables.proofs.Rows.{within-none, within-both, within-wider}
+use Rattle.rows.specs.Rows.{Within, ruleIn}
+use Rattle.rows.proofs.Rows.{within-none, within-both, within-wider}
 use Rattle.counts.specs.Says.{opening, closing}
 use Rattle.spread.specs.declared.Step.{Step}
 use Rattle.spread.specs.declared.State.{State}

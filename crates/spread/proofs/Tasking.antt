@@ -12,8 +12,8 @@ use Rattle.words.specs.Number.{base}
 use Rattle.rule.specs.declared.Rule.{Rule}
 use Rattle.rule.specs.Rule.{wordLength}
 use Rattle.forest.proofs.Unfold.{Names, pair-one, pair-two}
-use Rattle.tables.specs.Rows.{rowLength, field, putField, ruleIn}
-use Rattle.tables.proofs.Rows.{field-same, field-other}
+use Rattle.rows.specs.Rows.{rowLength, field, putField, ruleIn}
+use Rattle.rows.proofs.Rows.{field-same, field-other}
 use Rattle.counts.specs.Tally.{Besides}
 use Rattle.counts.proofs.Reach.{named-lower}
 use Rattle.counts.proofs.Column.{besides-none, besides-both, besides-put, besides-rule}

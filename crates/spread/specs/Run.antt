@@ -13,7 +13,7 @@ use Rattle.seal.specs.Seal.{inFront, outputAfter}
 use Rattle.forest.specs.Expression.{Expression, expression}
 use Rattle.forest.specs.Forest.{forest, text}
 use Rattle.forest.specs.Outcome.{textRoomed}
-use Rattle.tables.specs.Rows.{rowLength, putField, ruleIn, Within}
+use Rattle.rows.specs.Rows.{workLength, rowLength, putField, ruleIn, Within}
 use Rattle.counts.specs.Tally.{Besides}
 use Rattle.counts.specs.Says.{whole, says}
 use Rattle.spread.specs.Task.{parts, noTask, taskHeight, tasksText, taskOf, taskIn}
@@ -48,7 +48,7 @@ abbrev pub stackAt : ℕ → ℕ
 stackAt n = rowLength * n
 
 abbrev pub workEnd : ℕ → ℕ
-workEnd n = 64 * n
+workEnd n = workLength * n
 
 -- the rows of n rules can be given their tasks
 pub record Taskable (t : List ℕ) (n : ℕ) : Type 0 where

@@ -7,7 +7,7 @@ use lib.Dec.{T, ltb}
 use Rattle.words.specs.Number.{number}
 use Rattle.rule.specs.declared.Rule.{Rule}
 use Rattle.rule.specs.Rule.{every, labelled, wordLength}
-use Rattle.tables.specs.Rows.{rowLength, field, ruleIn, Within}
+use Rattle.rows.specs.Rows.{rowLength, field, ruleIn, Within}
 use Rattle.spread.specs.declared.Step.{Step}
 use Rattle.spread.specs.declared.State.{State}
 use Rattle.spread.specs.Task.{parts, noTask, saidBytes, stepOf, addTask, addTasks, taskOf}

@@ -5,7 +5,7 @@ ghost use Prim.Native.Nat.{_+_, _*_, _/_, _≤_, _<_};
 ghost use lib.Dec.{eqb, leb};
 ghost use lib.ListN.{length};
 ghost use Rattle.words.specs.Number.{number};
-ghost use Rattle.tables.specs.Rows.{rowLength, ruleIn};
+ghost use Rattle.rows.specs.Rows.{rowLength, ruleIn};
 ghost use Rattle.spread.specs.Task.{parts, noTask, taskWord, taskOf, leaving, ruleStep, saidBytes};
 ghost use Rattle.spread.specs.Stack.{atTask, tasksAt, written, taskOver, stepIn, Pushed, AllPushed, Steppable, Turnable, TurnMade};
 ghost use Rattle.spread.specs.Run.{meant, stackText, Taskable, TaskPut, Tasked, Runnable, Ran, Spreadable, Answerable, Answered};
@@ -19,8 +19,8 @@ use counts::Weight;
 use plan::Checked;
 use plan::Written;
 use refusal::Refusal;
+use rows::Row;
 use rule::Rule;
-use tables::Row;
 
 // What a step writes.
 pub enum Said {
@@ -105,7 +105,7 @@ fn whole(work: &[u8], r: u16) -> u16
     requires { ⌜ rowLength * r + 32 ≤ length (now work) ⌝ }
     ensures { λ v. ⌜ v ≡ tasksAt (now (work .entry)) r ⌝ }
 {
-    tables::field16(work, r, Step::TASK)
+    rows::field16(work, r, Step::TASK)
 }
 
 // The task of a pair, from those of its sides: an empty side leaves the other's.
@@ -201,7 +201,7 @@ fn decide(work: &[u8], task: u16) -> Step
             high: Step::NONE,
         };
     }
-    rule_step(work, r, p, tables::rule_at(work, r))
+    rule_step(work, r, p, rows::rule_at(work, r))
 }
 
 // A task put on k others of the stack that begins at an offset; how many there are then.
@@ -263,8 +263,8 @@ fn task_row(work: &mut [u8], r: u16)
     requires { ⌜ Steppable (now work) r (ruleIn (now work) r) ⌝ }
     ensures { λ x. ⌜ TaskPut r (now (work .entry)) (now (work .exit)) ⌝ }
 {
-    let task = task_of(work, r, tables::rule_at(work, r));
-    tables::put16(work, r, Step::TASK, task);
+    let task = task_of(work, r, rows::rule_at(work, r));
+    rows::put16(work, r, Step::TASK, task);
 }
 
 // The tasks of all whole rules.
@@ -333,12 +333,12 @@ fn spread_rules(plan: &[u8], work: &mut [u8], out: &mut [u8], n: u16, start: u16
     requires { ⌜ checked (now plan) ≡ Checked.Accepted n start ⌝ }
     ensures { λ x. ⌜ (x ≡ spread (now (plan .entry)) (now (work .entry)) (now (out .entry))) × (now (work .exit) ≡ measuredWork (now (plan .entry)) (now (work .entry))) × (now (out .exit) ≡ spreadOutput (now (plan .entry)) (now (work .entry)) (now (out .entry))) ⌝ }
 {
-    if !counts::enough_work(work, n) {
+    if !rows::enough_work(work, n) {
         return Written::Refused(Refusal::Lent);
     }
-    counts::load_rules(plan, work, n);
+    rows::load_rules(plan, work, n);
     let answer = answer(work, out, n, start);
-    counts::clear_work(work, n);
+    rows::clear_work(work, n);
     answer
 }
 

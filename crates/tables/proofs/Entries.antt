@@ -14,9 +14,9 @@ use Rattle.rule.specs.declared.Rule.{Rule}
 use Rattle.forest.specs.Place.{Side}
 use Rattle.tables.specs.declared.Link.{Link}
 use Rattle.tables.specs.declared.Entry.{Entry}
-use Rattle.tables.specs.Rows.{rowLength, field, putField, ownEnd, ruleIn, Within}
+use Rattle.rows.specs.Rows.{rowLength, field, putField, ownEnd, ruleIn, Within}
 use Rattle.tables.specs.Table.{atRepresentative, atEmptiness, atLink, entryEnd, atToward, atLast, atDepth, atJump, linkLength, flag, linkIn, putLinkAt, putLink, entryIn, putEntry, In, rowOr, known}
-use Rattle.tables.proofs.Rows.{length-putField, field-same, field-other, within-both, within-wider, within-put, within-field, within-rule}
+use Rattle.rows.proofs.Rows.{length-putField, field-same, field-other, within-both, within-wider, within-put, within-field, within-rule}
 
 -- in a row that is there the facts are the row's words
 row-or : {A : Type 0} (t : List ℕ) (r : ℕ) (x d : A) → In t r → rowOr t r x d ≡ x

@@ -11,10 +11,10 @@ use Rattle.rule.specs.declared.Rule.{Rule}
 use Rattle.rule.specs.Sound.{rule, Sound}
 use Rattle.forest.proofs.Unfold.{Names, named-falls}
 use Rattle.tables.specs.declared.Entry.{Entry}
-use Rattle.tables.specs.Rows.{rowLength, ownEnd, ruleIn, Holds, Within}
+use Rattle.rows.specs.Rows.{rowLength, ownEnd, ruleIn, Holds, Within}
 use Rattle.tables.specs.Table.{putEntry, entryEnd, Below, Built, keptFrom, kept}
 use Rattle.tables.specs.Build.{entryOf, Ready}
-use Rattle.tables.proofs.Rows.{within-none, within-both, within-wider}
+use Rattle.rows.proofs.Rows.{within-none, within-both, within-wider}
 use Rattle.tables.proofs.Entries.{SmallEntry, within-putEntry, entryIn-putEntry, same-rule}
 use Rattle.tables.proofs.Tabled.{tabled-none, tabled-more, entry-true, tabled-made}
 

@@ -15,7 +15,7 @@ use Rattle.forest.specs.Expression.{Expression, rhs, unfolded, expression}
 use Rattle.forest.specs.Place.{Side, isEmpty, representative}
 use Rattle.forest.proofs.Unfold.{named-below}
 use Rattle.model.specs.Facts.{factsOf, toward, last, depth}
-use Rattle.tables.specs.Rows.{rowLength, field, atKind, atLabel, atOne, atTwo, rowIn, ruleIn, Holds}
+use Rattle.rows.specs.Rows.{rowLength, field, atKind, atLabel, atOne, atTwo, rowIn, ruleIn, Holds}
 use Rattle.tables.specs.Table.{atRepresentative, atEmptiness, atLink, entryEnd, atToward, atLast, atDepth, atJump, linkLength, linkIn, entryIn, In, rowOr, known, Tabled, Below, Built, Climbs}
 use Rattle.tables.proofs.Entries.{known-rule}
 use Rattle.tables.proofs.Along.{leads-more}

@@ -19,7 +19,7 @@ use Rattle.forest.proofs.Unfold.{Names, unfolding-equation}
 use Rattle.model.specs.Facts.{Facts, factsOf}
 use Rattle.tables.specs.declared.Link.{Link}
 use Rattle.tables.specs.declared.Entry.{Entry}
-use Rattle.tables.specs.Rows.{rowLength, ownEnd, Within}
+use Rattle.rows.specs.Rows.{rowLength, ownEnd, Within}
 use Rattle.tables.specs.Table.{linkIn, entryIn, entryEnd, In, known, Leads, Tabled, Below}
 use Rattle.tables.specs.Build.{jumpOver, jumpFrom, linkFrom, linkOwn, linkPair, linkOf, emptyOf, representativeOf, entryOf, Made}
 use Rattle.tables.proofs.Ready.{picked}

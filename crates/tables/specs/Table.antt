@@ -13,7 +13,7 @@ use Rattle.model.specs.Run.{along}
 use Rattle.tables.specs.declared.Side as code
 use Rattle.tables.specs.declared.Link.{Link}
 use Rattle.tables.specs.declared.Entry.{Entry}
-use Rattle.tables.specs.Rows.{rowLength, field, putField, ruleIn, Holds, Beyond}
+use Rattle.rows.specs.Rows.{rowLength, field, putField, ruleIn, Holds, Beyond}
 
 -- the code's sides
 unfoldable pub sideOf : code.Side → Side

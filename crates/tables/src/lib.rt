@@ -2,240 +2,15 @@
 ghost use mathlib.Core.Path.{_≡_};
 ghost use Prim.Native.Nat.{_+_, _-_, _*_, _≤_, _<_};
 ghost use lib.ListN.{length};
-ghost use Rattle.forest.proofs.Position.{pick};
-ghost use Rattle.rule.specs.Rule.{recordLength, ruleOf};
-ghost use Rattle.rule.specs.Records.{recordsFrom, rulesIn};
-ghost use Rattle.forest.specs.Outcome.{cleared};
-ghost use Rattle.tables.specs.Rows.{rowLength, ownEnd, field, putField, rowOf, ruleFrom, rowIn, putRow, ruleIn, Stored, Loaded};
+ghost use Rattle.forest.proofs.Position.{other, pick};
+ghost use Rattle.rows.specs.Rows.{rowLength, field};
 ghost use Rattle.rule.specs.Sound.{Sound};
 ghost use Rattle.model.specs.Run.{along, oneAbove};
+ghost use Rattle.model.specs.Model.{outer};
 ghost use Rattle.model.specs.Stored.{reaches};
 ghost use Rattle.tables.specs.Table.{sideOf, atLink, linkLength, LinkAt, flag, linkIn, putLink, putEntry, known, kept, Built, In, Climbs};
 ghost use Rattle.tables.specs.Build.{jumpFrom, linkFrom, linkOwn, linkPair, linkOf, emptyOf, representativeOf, entryOf, Steps, Pairs, Ready};
-use rule::Decoded;
-use rule::Record;
 use rule::Rule;
-
-// What a row keeps of its rule: the kind, the label and the rules named.
-pub struct Row {
-    pub kind: u16,
-    pub label: u32,
-    pub one: u16,
-    pub two: u16,
-}
-
-// A field of 16 bits at an offset of a row.
-pub fn field16(work: &[u8], r: u16, offset: usize) -> u16
-    requires { ⌜ rowLength * r + offset + 2 ≤ length (now work) ⌝ }
-    ensures { λ v. ⌜ v ≡ field 2 (now (work .entry)) r offset ⌝ }
-{
-    words::read16(work, Row::LENGTH * (r as usize) + offset)
-}
-
-// A field of 32 bits at an offset of a row.
-pub fn field32(work: &[u8], r: u16, offset: usize) -> u32
-    requires { ⌜ rowLength * r + offset + 4 ≤ length (now work) ⌝ }
-    ensures { λ v. ⌜ v ≡ field 4 (now (work .entry)) r offset ⌝ }
-{
-    words::read32(work, Row::LENGTH * (r as usize) + offset)
-}
-
-// A number into a field of 16 bits.
-pub fn put16(work: &mut [u8], r: u16, offset: usize, v: u16)
-    requires { ⌜ rowLength * r + offset + 2 ≤ length (now work) ⌝ }
-    ensures { λ x. ⌜ now (work .exit) ≡ putField 2 (now (work .entry)) r offset v ⌝ }
-{
-    words::write16(work, Row::LENGTH * (r as usize) + offset, v);
-}
-
-// A number into a field of 32 bits.
-pub fn put32(work: &mut [u8], r: u16, offset: usize, v: u32)
-    requires { ⌜ rowLength * r + offset + 4 ≤ length (now work) ⌝ }
-    ensures { λ x. ⌜ now (work .exit) ≡ putField 4 (now (work .entry)) r offset v ⌝ }
-{
-    words::write32(work, Row::LENGTH * (r as usize) + offset, v);
-}
-
-impl Row {
-    // Bytes of a row.
-    pub const LENGTH: usize = 48;
-
-    // Where a row keeps its rule.
-    pub const KIND: usize = 0;
-
-    pub const LABEL: usize = 2;
-
-    pub const ONE: usize = 6;
-
-    pub const TWO: usize = 8;
-
-    // Where it keeps what is known of the rule.
-    pub const REPRESENTATIVE: usize = 10;
-
-    pub const EMPTINESS: usize = 12;
-
-    pub const LEFT: usize = 14;
-
-    pub const RIGHT: usize = 22;
-
-    // What a row keeps of a rule.
-    fn of(rule: Rule) -> Row
-        ensures { λ w. ⌜ w ≡ rowOf rule ⌝ }
-    {
-        match rule {
-            Rule::Empty => Row {
-                kind: Rule::EMPTY,
-                label: 0,
-                one: 0,
-                two: 0,
-            },
-            Rule::Pair { first, second } => Row {
-                kind: Rule::PAIR,
-                label: 0,
-                one: first,
-                two: second,
-            },
-            Rule::Node { label, under } => Row {
-                kind: Rule::NODE,
-                label,
-                one: under,
-                two: 0,
-            },
-            Rule::Fill { outer, inner } => Row {
-                kind: Rule::FILL,
-                label: 0,
-                one: outer,
-                two: inner,
-            },
-            Rule::Part { label, left, right } => Row {
-                kind: Rule::PART,
-                label,
-                one: left,
-                two: right,
-            },
-            Rule::Join { outer, inner } => Row {
-                kind: Rule::JOIN,
-                label: 0,
-                one: outer,
-                two: inner,
-            },
-        }
-    }
-
-    // The rule that a row keeps.
-    fn rule(self) -> Rule
-        ensures { λ x. ⌜ x ≡ ruleFrom self ⌝ }
-    {
-        let kind = self.kind;
-        if kind == Rule::PAIR {
-            return Rule::Pair {
-                first: self.one,
-                second: self.two,
-            };
-        }
-        if kind == Rule::NODE {
-            return Rule::Node {
-                label: self.label,
-                under: self.one,
-            };
-        }
-        if kind == Rule::FILL {
-            return Rule::Fill {
-                outer: self.one,
-                inner: self.two,
-            };
-        }
-        if kind == Rule::PART {
-            return Rule::Part {
-                label: self.label,
-                left: self.one,
-                right: self.two,
-            };
-        }
-        if kind == Rule::JOIN {
-            return Rule::Join {
-                outer: self.one,
-                inner: self.two,
-            };
-        }
-        Rule::Empty
-    }
-
-    // What row r keeps of its rule.
-    fn read(work: &[u8], r: u16) -> Row
-        requires { ⌜ rowLength * r + ownEnd ≤ length (now work) ⌝ }
-        ensures { λ w. ⌜ w ≡ rowIn (now (work .entry)) r ⌝ }
-    {
-        Row {
-            kind: field16(work, r, Row::KIND),
-            label: field32(work, r, Row::LABEL),
-            one: field16(work, r, Row::ONE),
-            two: field16(work, r, Row::TWO),
-        }
-    }
-
-    // The four fields into row r.
-    fn write(self, work: &mut [u8], r: u16)
-        requires { ⌜ rowLength * r + ownEnd ≤ length (now work) ⌝ }
-        ensures { λ x. ⌜ now (work .exit) ≡ putRow (now (work .entry)) r self ⌝ }
-    {
-        put16(work, r, Row::KIND, self.kind);
-        put32(work, r, Row::LABEL, self.label);
-        put16(work, r, Row::ONE, self.one);
-        put16(work, r, Row::TWO, self.two);
-    }
-}
-
-// The rule kept in row r.
-pub fn rule_at(work: &[u8], r: u16) -> Rule
-    requires { ⌜ rowLength * (r + 1) ≤ length (now work) ⌝ }
-    ensures { λ x. ⌜ x ≡ ruleIn (now (work .entry)) r ⌝ }
-{
-    Row::read(work, r).rule()
-}
-
-// A rule into row r.
-pub fn put_rule(work: &mut [u8], r: u16, rule: Rule)
-    requires { ⌜ rowLength * (r + 1) ≤ length (now work) ⌝ }
-    ensures { λ x. ⌜ Stored r rule (now (work .entry)) (now (work .exit)) ⌝ }
-{
-    Row::of(rule).write(work, r);
-}
-
-// The rule that a record means, and the empty rule where it means none.
-fn rule_of(d: Decoded) -> Rule
-    ensures { λ x. ⌜ x ≡ ruleOf d ⌝ }
-{
-    match d {
-        Decoded::Whole(rule) => rule,
-        Decoded::Malformed => Rule::Empty,
-    }
-}
-
-// The plan's n rules, whose records begin at first, into the rows of work.
-pub fn load(plan: &[u8], first: usize, n: u16, work: &mut [u8])
-    requires { ⌜ (first + recordLength * n ≤ length (now plan)) × (rowLength * n ≤ length (now work)) ⌝ }
-    ensures { λ x. ⌜ Loaded (rulesIn (recordsFrom (now (plan .entry)) first n)) n (now (work .entry)) (now (work .exit)) ⌝ }
-{
-    let mut i: u16 = 0;
-    while i < n {
-        let record = Record::read(plan, first + Record::LENGTH * (i as usize));
-        put_rule(work, i, rule_of(Rule::decode(record)));
-        i += 1;
-    }
-}
-
-// Zeros into the first m bytes.
-pub fn clear(s: &mut [u8], m: usize)
-    requires { ⌜ m ≤ length (now s) ⌝ }
-    ensures { λ x. ⌜ now (s .exit) ≡ cleared m (now (s .entry)) ⌝ }
-{
-    let mut i: usize = 0;
-    while i < m {
-        s[i] = 0;
-        i += 1;
-    }
-}
 
 // Left and right.
 pub enum Side {
@@ -244,19 +19,19 @@ pub enum Side {
 }
 
 // The way of one side from a rule: one step, the end of the longest run, its number of steps, and a rule further on.
-pub struct Link {
-    pub toward: u16,
-    pub last: u16,
-    pub depth: u16,
-    pub jump: u16,
+struct Link {
+    toward: u16,
+    last: u16,
+    depth: u16,
+    jump: u16,
 }
 
 // What is known of a rule.
-pub struct Entry {
-    pub representative: u16,
-    pub empty: bool,
-    pub left: Link,
-    pub right: Link,
+struct Entry {
+    representative: u16,
+    empty: bool,
+    left: Link,
+    right: Link,
 }
 
 impl Side {
@@ -265,13 +40,23 @@ impl Side {
         ensures { λ o. ⌜ LinkAt (sideOf self) o ⌝ }
     {
         match self {
-            Side::Left => Row::LEFT,
-            Side::Right => Row::RIGHT,
+            Side::Left => Entry::LEFT,
+            Side::Right => Entry::RIGHT,
+        }
+    }
+
+    // The other side.
+    pub fn other(self) -> Side
+        ensures { λ r. ⌜ sideOf r ≡ other (sideOf self) ⌝ }
+    {
+        match self {
+            Side::Left => Side::Right,
+            Side::Right => Side::Left,
         }
     }
 
     // The one on this side.
-    fn pick(self, left: u16, right: u16) -> u16
+    pub fn pick(self, left: u16, right: u16) -> u16
         ensures { λ x. ⌜ x ≡ pick (sideOf self) left right ⌝ }
     {
         match self {
@@ -281,12 +66,31 @@ impl Side {
     }
 }
 
+// Rule r itself.
+pub fn rule_at(work: &[u8], r: u16) -> Rule
+    requires { ⌜ In (now work) r ⌝ }
+    ensures { λ x. ⌜ x ≡ (known (now (work .entry))) .rule r ⌝ }
+{
+    rows::rule_at(work, r)
+}
+
+// What a tree's spine begins with: the B of a fill, else the tree itself.
+pub fn outer_at(work: &[u8], a: u16) -> u16
+    requires { ⌜ In (now work) a ⌝ }
+    ensures { λ v. ⌜ v ≡ outer (known (now (work .entry))) a ⌝ }
+{
+    let Rule::Fill { outer, inner: _ } = rule_at(work, a) else {
+        return a;
+    };
+    outer
+}
+
 // The representative of rule r.
 pub fn representative_at(work: &[u8], r: u16) -> u16
     requires { ⌜ In (now work) r ⌝ }
     ensures { λ x. ⌜ x ≡ (known (now (work .entry))) .representative r ⌝ }
 {
-    field16(work, r, Row::REPRESENTATIVE)
+    rows::field16(work, r, Entry::REPRESENTATIVE)
 }
 
 // Is rule r without trees?
@@ -294,7 +98,7 @@ pub fn is_empty_at(work: &[u8], r: u16) -> bool
     requires { ⌜ In (now work) r ⌝ }
     ensures { λ x. ⌜ x ≡ (known (now (work .entry))) .isEmpty r ⌝ }
 {
-    field16(work, r, Row::EMPTINESS) == 1
+    rows::field16(work, r, Entry::EMPTINESS) == 1
 }
 
 // A word of the link of a side in row r.
@@ -302,7 +106,7 @@ fn word_at(work: &[u8], side: Side, r: u16, word: usize) -> u16
     requires { ⌜ In (now work) r × (word + 2 ≤ linkLength) ⌝ }
     ensures { λ x. ⌜ x ≡ field 2 (now (work .entry)) r (atLink (sideOf side) + word) ⌝ }
 {
-    field16(work, r, side.link() + word)
+    rows::field16(work, r, side.link() + word)
 }
 
 // One step from rule r.
@@ -366,10 +170,10 @@ impl Link {
         ensures { λ x. ⌜ now (work .exit) ≡ putLink (now (work .entry)) (sideOf side) r self ⌝ }
     {
         let at = side.link();
-        put16(work, r, at + Link::TOWARD, self.toward);
-        put16(work, r, at + Link::LAST, self.last);
-        put16(work, r, at + Link::DEPTH, self.depth);
-        put16(work, r, at + Link::JUMP, self.jump);
+        rows::put16(work, r, at + Link::TOWARD, self.toward);
+        rows::put16(work, r, at + Link::LAST, self.last);
+        rows::put16(work, r, at + Link::DEPTH, self.depth);
+        rows::put16(work, r, at + Link::JUMP, self.jump);
     }
 
     // The link of a rule that has no step.
@@ -459,6 +263,15 @@ fn flag(test: bool) -> u16
 }
 
 impl Entry {
+    // Where a row keeps what is known of its rule.
+    const REPRESENTATIVE: usize = 10;
+
+    const EMPTINESS: usize = 12;
+
+    const LEFT: usize = 14;
+
+    const RIGHT: usize = 22;
+
     // Is a rule without trees?
     fn empty_of(work: &[u8], r: u16, rule: Rule) -> bool
         requires { ⌜ Ready r rule (now work) ⌝ }
@@ -523,8 +336,8 @@ impl Entry {
         requires { ⌜ In (now work) r ⌝ }
         ensures { λ x. ⌜ now (work .exit) ≡ putEntry (now (work .entry)) r self ⌝ }
     {
-        put16(work, r, Row::REPRESENTATIVE, self.representative);
-        put16(work, r, Row::EMPTINESS, flag(self.empty));
+        rows::put16(work, r, Entry::REPRESENTATIVE, self.representative);
+        rows::put16(work, r, Entry::EMPTINESS, flag(self.empty));
         self.left.write(work, Side::Left, r);
         self.right.write(work, Side::Right, r);
     }
@@ -537,7 +350,7 @@ pub fn build(work: &mut [u8], n: u16)
 {
     let mut i: u16 = 0;
     while i < n {
-        let rule = rule_at(work, i);
+        let rule = rows::rule_at(work, i);
         let entry = Entry::of(work, i, rule);
         entry.write(work, i);
         i += 1;
@@ -545,7 +358,7 @@ pub fn build(work: &mut [u8], n: u16)
 }
 
 // The rule on the way of a side from rule a whose longest run has h steps; a itself where its own has no more.
-pub fn level(work: &[u8], side: Side, a: u16, h: usize) -> u16
+fn level(work: &[u8], side: Side, a: u16, h: usize) -> u16
     requires { ⌜ Climbs (now work) × In (now work) a ⌝ }
     ensures { λ r. ⌜ (r ≡ along (known (now (work .entry))) (sideOf side) ((known (now (work .entry))) .depth (sideOf side) a - h) a) × In (now (work .entry)) r ⌝ }
 {

@@ -15,13 +15,13 @@ use Rattle.plan.proofs.Sound.{Plan, checked-plan, plan-long}
 use Rattle.forest.specs.Walk.{Begun, placeJudged}
 use Rattle.forest.specs.declared.Walked.{Walked}
 use Rattle.model.specs.Facts.{Facts, factsOf}
-use Rattle.tables.specs.Rows.{rowLength, Holds, Within, Loaded}
+use Rattle.rows.specs.Rows.{workLength, rowLength, Holds, Within, Loaded}
 use Rattle.tables.specs.Table.{rows, known, kept, Built}
-use Rattle.tables.proofs.Rows.{within-both}
+use Rattle.rows.proofs.Rows.{within-both}
 use Rattle.tables.proofs.Entries.{known-rule}
 use Rattle.tables.proofs.Filling.{kept-holds}
 use Rattle.tables.proofs.Known.{built-walkable}
-use Rattle.counts.proofs.Work.{rules-first, beyond-work}
+use Rattle.rows.proofs.Work.{rules-first, beyond-work}
 use Rattle.letters.specs.Standing.{rulesKept, Table}
 use Rattle.walk.specs.Calls.{Planned, Filled, Travels, Lendable, Walks}
 
@@ -36,17 +36,17 @@ module _ {s : List ℕ} {n : ℕ} (P : Planned s n) where
   plan : Plan mostRules s n (P .start)
   plan = checked-plan s n (P .start) (P .accepted)
 
-  pub loads : (u : List ℕ) → 64 * n ≤ length u → (recordLength * n + trailerLength ≤ length s) × (rowLength * n ≤ length u)
+  pub loads : (u : List ℕ) → workLength * n ≤ length u → (recordLength * n + trailerLength ≤ length s) × (rowLength * n ≤ length u)
   loads u e = (plan-long mostRules s n (P .start) plan, omega arith)
 
-  module _ {u t : List ℕ} (l : Loaded (rulesIn (recordsFrom s (length s - trailerLength - recordLength * n) n)) n u t) (room : 64 * n ≤ length u) where
+  module _ {u t : List ℕ} (l : Loaded (rulesIn (recordsFrom s (length s - trailerLength - recordLength * n) n)) n u t) (room : workLength * n ≤ length u) where
     rules-loaded : kept t n ≡ rulesOf s
     rules-loaded = kept-holds (rulesOf s) t n (plan .rules) ((rw (rules-first s n (P .start) plan) at l) .holds)
 
     pub builds : (rowLength * n ≤ length t) × Sound (kept t n) (λ r. r)
     builds = let same = l .beyond .same-length in (omega arith, rw rules-loaded (plan .sound))
 
-    pub filled : {t′ : List ℕ} → Built (kept t n) n n t t′ → Filled (rulesOf s) (take (rowLength * n) t′) × Within 0 (64 * n) u t′
+    pub filled : {t′ : List ℕ} → Built (kept t n) n n t t′ → Filled (rulesOf s) (take (rowLength * n) t′) × Within 0 (workLength * n) u t′
     filled {t′} b =
         let same = l .beyond .same-length in
         let B : Built (rulesOf s) n n t t′ = rw rules-loaded at b in
@@ -62,7 +62,7 @@ module _ {s : List ℕ} {n start : ℕ} {work cursor letters given : List ℕ} (
   pub planned : Planned s n
   planned = record { start = start; accepted = L .accepted }
 
-  pub prefix-long : {t : List ℕ} → Within 0 (64 * n) work t → length (take (rowLength * n) t) ≡ rowLength * n
+  pub prefix-long : {t : List ℕ} → Within 0 (workLength * n) work t → length (take (rowLength * n) t) ≡ rowLength * n
   prefix-long {t} w = let room = L .worked in let same = w .same-length in length-take-le (rowLength * n) t (omega arith)
 
   whole : Plan mostRules s n start

@@ -19,8 +19,8 @@ use Rattle.forest.specs.Outcome.{workWords, enoughWork, cleared, workAfter}
 use Rattle.forest.specs.Walk.{cursorWords, enoughLent, firstOther, Begun, placeJudged, lettersJudged, begunFrom, begun, walked, cursorAfter, answersAfter, walkedWork}
 use Rattle.model.proofs.Accepted.{first-holds, second-holds}
 use Rattle.demand.specs.Calls.{Left, walkOf}
-use Rattle.tables.specs.Rows.{Within}
-use Rattle.counts.proofs.Work.{enough-room, work-bytes, cleared-same}
+use Rattle.rows.specs.Rows.{workLength, Within}
+use Rattle.rows.proofs.Work.{enough-room, work-cleared}
 use Rattle.letters.specs.Standing.{Answerable}
 use Rattle.walk.specs.Calls.{lends, leaves, Lendable, Walks}
 
@@ -49,14 +49,14 @@ module _ (s work cursor letters given : List ℕ) where
     unfolding begun begunFrom
     begins e = rw (q, e)
 
-    left-work : enoughLent work cursor letters given n ≡ true → {t : List ℕ} → Within 0 (64 * n) work t → cleared (wordLength * workWords n) t ≡ walkedWork s work cursor letters given
-    unfolding walkedWork workAfter
-    left-work e w = rw (q, e, work-bytes n) (cleared-same w)
+    left-work : enoughLent work cursor letters given n ≡ true → {t : List ℕ} → Within 0 (workLength * n) work t → cleared (wordLength * workWords n) t ≡ walkedWork s work cursor letters given
+    unfolding walkedWork
+    left-work e {t} w = work-cleared (enoughLent work cursor letters given) s work n start q e t w
 
     -- past 8
     pub finished : {x : Walked} {t u cursor′ given′ : List ℕ} → enoughLent work cursor letters given n ≡ true
         → Walks (rulesOf s) (lettersJudged (firstOther letters 0) (placeJudged (rulesOf s) n start cursor)) letters cursor cursor′ given given′ x
-        → Within 0 (64 * n) work t → u ≡ cleared (wordLength * workWords n) t
+        → Within 0 (workLength * n) work t → u ≡ cleared (wordLength * workWords n) t
         → leaves x u cursor′ given′ ≡ walkOf (lends s work cursor letters given)
     unfolding walkOf
     finished {x} {t} {u} {cursor′} {given′} e w f p =

@@ -22,14 +22,14 @@ use Rattle.model.specs.Model.{Node, standing}
 use Rattle.model.specs.Stored.{accepts}
 use Rattle.model.specs.Walk.{answers, after}
 use Rattle.model.proofs.Accepted.{second-holds}
-use Rattle.tables.specs.Rows.{Within}
+use Rattle.rows.specs.Rows.{Within}
 use Rattle.tables.specs.Table.{rows, known}
-use Rattle.cursor.specs.declared.Cell.{Cell as Words}
-use Rattle.cursor.specs.Cells.{cell}
-use Rattle.cursor.specs.Moves.{Lies}
-use Rattle.cursor.specs.Settled.{cursorLength}
-use Rattle.cursor.proofs.Stack.{cells-none, cells-top, top-kind}
-use Rattle.cursor.proofs.Writes.{length-cells}
+use Rattle.cells.specs.declared.Cell.{Cell as Words}
+use Rattle.cells.specs.Cells.{cell}
+use Rattle.cells.specs.Cells.{Lies}
+use Rattle.cells.specs.Cells.{cursorLength}
+use Rattle.cells.proofs.Stack.{cells-none, cells-top, top-kind}
+use Rattle.cells.proofs.Writes.{length-cells}
 use Rattle.letters.specs.Standing.{Valid, rulesKept, Table, Stands, Ran}
 use Rattle.walk.specs.Calls.{placed, Travels, Walks}
 use Rattle.walk.proofs.Begin.{Stood, stood-valid, begins, begins-not, place-not-headed, answers-left, cursor-left}

@@ -14,8 +14,9 @@ use Rattle.forest.specs.Walk.{Begun, walked, cursorAfter, answersAfter}
 use Rattle.demand.specs.Calls.{Lent, Left}
 use Rattle.model.specs.Facts.{Facts, factsOf}
 use Rattle.model.specs.Stored.{accepts}
+use Rattle.rows.specs.Rows.{workLength}
 use Rattle.tables.specs.Table.{rows, known, Climbs}
-use Rattle.cursor.specs.Settled.{cursorLength}
+use Rattle.cells.specs.Cells.{cursorLength}
 use Rattle.walk.specs.declared.Found.{Found}
 use Rattle.letters.specs.Standing.{rulesKept, Table, Answerable}
 
@@ -57,7 +58,7 @@ pub record Travels (r n : ℕ) (t cursor letters given : List ℕ) : Type 0 wher
 -- the same before the table is filled
 pub record Lendable (plan : List ℕ) (n start : ℕ) (work cursor letters given : List ℕ) : Type 0 where
   pub accepted : checked plan ≡ Checked.Accepted n start
-  pub worked : 64 * n ≤ length work
+  pub worked : workLength * n ≤ length work
   pub room : cursorLength n ≤ length cursor
   pub answerable : Answerable letters given
 

@@ -1,10 +1,10 @@
 // Walk (document 01).
-use cursor::Cell;
+use cells::Cell;
 use forest::Walked;
 use letters::Read;
 use plan::Checked;
 use refusal::Refusal;
-use tables::Row;
+use rows::Row;
 ghost use mathlib.Core.Path.{_≡_};
 ghost use Prim.Native.Nat.{_*_, _≤_};
 ghost use lib.ListN.{length, take};
@@ -12,9 +12,9 @@ ghost use Rattle.plan.specs.declared.Checked.{Checked};
 ghost use Rattle.plan.specs.Check.{checked, rulesOf};
 ghost use Rattle.forest.specs.Walk.{firstOther, enoughLent, cellsIn, placeJudged, lettersJudged};
 ghost use Rattle.demand.specs.Calls.{walkOf};
-ghost use Rattle.tables.specs.Rows.{rowLength, Within};
+ghost use Rattle.rows.specs.Rows.{workLength, rowLength, Within};
 ghost use Rattle.tables.specs.Table.{known};
-ghost use Rattle.cursor.specs.Moves.{Lies};
+ghost use Rattle.cells.specs.Cells.{Lies};
 ghost use Rattle.letters.specs.Standing.{rulesKept, Table};
 ghost use Rattle.walk.specs.Calls.{foundAt, placed, Filled, Travels, Walks, Planned, Lendable, lends, leaves};
 
@@ -46,7 +46,7 @@ fn placed(table: &[u8], cursor: &[u8], k: usize, r: u16) -> bool
     if k == 0 {
         return true;
     }
-    cursor::accepts(table, cursor, k, r)
+    stored::accepts(table, cursor, k, r)
 }
 
 // Letters from the stored place, on the table of the plan's rules: a place that is none is turned down.
@@ -61,7 +61,7 @@ fn travel(
     requires { ⌜ Travels r n (now table) (now cursor) (now letters) (now answers) ⌝ }
     ensures { λ x. ⌜ Walks (rulesKept (now (table .entry))) (placeJudged (rulesKept (now (table .entry))) n r (now (cursor .entry))) (now (letters .entry)) (now (cursor .entry)) (now (cursor .exit)) (now (answers .entry)) (now (answers .exit)) x ⌝ }
 {
-    if !cursor::headed(cursor, n) {
+    if !cells::headed(cursor, n) {
         return Walked::Refused(Refusal::Place);
     }
     let k = Cell::read(cursor, 0).kind as usize;
@@ -70,16 +70,16 @@ fn travel(
     }
     let p = cursor::standing(table, cursor, k);
     let used = letters::run(table, cursor, letters, answers, r, k, p);
-    cursor::store(cursor, used, n);
+    cells::store(cursor, used, n);
     Walked::Accepted
 }
 
 // The table of an accepted plan's rules, in the first rows of the work.
 fn fill(plan: &[u8], work: &mut [u8], n: u16)
-    requires { ⌜ Planned (now plan) n × (64 * n ≤ length (now work)) ⌝ }
-    ensures { λ x. ⌜ Filled (rulesOf (now (plan .entry))) (take (rowLength * n) (now (work .exit))) × Within 0 (64 * n) (now (work .entry)) (now (work .exit)) ⌝ }
+    requires { ⌜ Planned (now plan) n × (workLength * n ≤ length (now work)) ⌝ }
+    ensures { λ x. ⌜ Filled (rulesOf (now (plan .entry))) (take (rowLength * n) (now (work .exit))) × Within 0 (workLength * n) (now (work .entry)) (now (work .exit)) ⌝ }
 {
-    counts::load_rules(plan, work, n);
+    rows::load_rules(plan, work, n);
     tables::build(work, n);
 }
 
@@ -94,7 +94,7 @@ fn walk_letters(
     start: u16,
 ) -> Walked
     requires { ⌜ Lendable (now plan) n start (now work) (now cursor) (now letters) (now answers) ⌝ }
-    ensures { λ x. ⌜ Walks (rulesOf (now (plan .entry))) (placeJudged (rulesOf (now (plan .entry))) n start (now (cursor .entry))) (now (letters .entry)) (now (cursor .entry)) (now (cursor .exit)) (now (answers .entry)) (now (answers .exit)) x × Within 0 (64 * n) (now (work .entry)) (now (work .exit)) ⌝ }
+    ensures { λ x. ⌜ Walks (rulesOf (now (plan .entry))) (placeJudged (rulesOf (now (plan .entry))) n start (now (cursor .entry))) (now (letters .entry)) (now (cursor .entry)) (now (cursor .exit)) (now (answers .entry)) (now (answers .exit)) x × Within 0 (workLength * n) (now (work .entry)) (now (work .exit)) ⌝ }
 {
     fill(plan, work, n);
     let table = &work[..Row::LENGTH * (n as usize)];
@@ -112,7 +112,7 @@ fn walk_bytes(
     start: u16,
 ) -> Walked
     requires { ⌜ Lendable (now plan) n start (now work) (now cursor) (now letters) (now answers) ⌝ }
-    ensures { λ x. ⌜ Walks (rulesOf (now (plan .entry))) (lettersJudged (firstOther (now (letters .entry)) 0) (placeJudged (rulesOf (now (plan .entry))) n start (now (cursor .entry)))) (now (letters .entry)) (now (cursor .entry)) (now (cursor .exit)) (now (answers .entry)) (now (answers .exit)) x × Within 0 (64 * n) (now (work .entry)) (now (work .exit)) ⌝ }
+    ensures { λ x. ⌜ Walks (rulesOf (now (plan .entry))) (lettersJudged (firstOther (now (letters .entry)) 0) (placeJudged (rulesOf (now (plan .entry))) n start (now (cursor .entry)))) (now (letters .entry)) (now (cursor .entry)) (now (cursor .exit)) (now (answers .entry)) (now (answers .exit)) x × Within 0 (workLength * n) (now (work .entry)) (now (work .exit)) ⌝ }
 {
     match first_other(letters) {
         Found::At(i) => Walked::Refused(Refusal::Letter(i)),
@@ -124,7 +124,7 @@ fn walk_bytes(
 fn enough_lent(work: &[u8], cursor: &[u8], letters: &[u8], answers: &[u8], n: u16) -> bool
     ensures { λ b. ⌜ b ≡ enoughLent (now (work .entry)) (now (cursor .entry)) (now (letters .entry)) (now (answers .entry)) n ⌝ }
 {
-    counts::enough_work(work, n)
+    rows::enough_work(work, n)
         & ((Cell::WORDS * Cell::A_RULE * (n as usize + 1) <= words::word_count(cursor))
             & (letters.len() <= words::word_count(answers)))
 }
@@ -146,7 +146,7 @@ fn walk_rules(
         return Walked::Refused(Refusal::Lent);
     }
     let answer = walk_bytes(plan, work, cursor, letters, answers, n, start);
-    counts::clear_work(work, n);
+    rows::clear_work(work, n);
     answer
 }
 

@@ -1,6 +1,6 @@
 -- A count of a row is a number of ten bytes there. Assumes nothing.
 use borrow.Author.Needs.{needs}
-use Rattle.tables.specs.Rows.{field}
+use Rattle.rows.specs.Rows.{field}
 use Rattle.counts.proofs.count_at.Statement.{statement}
 use Rattle.counts.proofs.count_at.Tie as tie
 

@@ -1,6 +1,6 @@
 -- A count of a row is a number of ten bytes there. Assumes nothing.
 use borrow.Author.Needs.{needs}
-use Rattle.tables.specs.Rows.{putField}
+use Rattle.rows.specs.Rows.{putField}
 use Rattle.counts.proofs.put_count.Statement.{statement}
 use Rattle.counts.proofs.put_count.Tie as tie
 

@@ -5,16 +5,17 @@ use Rattle.rule.specs.declared.Rule.{Rule}
 use Rattle.forest.proofs.Position.{other, pick}
 use Rattle.model.specs.Model.{enter, besideHole}
 use Rattle.tables.specs.Table.{known, In, sideOf}
-use Rattle.cursor.specs.Moves.{stemCells, outcome}
-use Rattle.cursor.proofs.Held.{named-arms}
-use Rattle.cursor.proofs.Kept.{picked}
-use Rattle.cursor.proofs.Rules.{other-hole}
+use Rattle.cells.specs.Changes.{stemCells}
+use Rattle.cursor.specs.Moves.{outcome}
+use Rattle.tables.proofs.Closes.{named-arms}
+use Rattle.tables.proofs.Ready.{picked}
+use Rattle.tables.proofs.Rules.{other-hole}
 use borrow.Author.Needs.{needs}
 use Rattle.cursor.proofs.beside_hole.Statement.{statement}
 use Rattle.cursor.proofs.beside_hole.Tie as tie
 
-rule-requires : tie.Need-rule-requires
-rule-requires c κs = search needs
+rule-at-requires : tie.Need-rule-at-requires
+rule-at-requires c κs = search needs
 
 enum-known-left : tie.Need-enum-known-left
 enum-known-left c = search needs
@@ -23,7 +24,7 @@ returns : tie.Need-returns
 unfolding outcome
 returns c s =
     let a = c .before .before .before .args in let F = known (now (a .work)) in let d = sideOf (a .side) in
-    sym (ap (λ (x : Rule). besideHole F d x (stemCells (a .stem) s)) (sym (c .before .rule .ensures)) ∙ other-hole F d (c .before .rule .result) (stemCells (a .stem) s) (c .match .keys2))
+    sym (ap (λ (x : Rule). besideHole F d x (stemCells (a .stem) s)) (sym (c .before .rule-at .ensures)) ∙ other-hole F d (c .before .rule-at .result) (stemCells (a .stem) s) (c .match .keys2))
 
 other-requires : tie.Need-other-requires
 other-requires c κs = search needs
@@ -37,7 +38,7 @@ pick-requires c κs = search needs
 enter-requires : tie.Need-enter-requires
 enter-requires c κs =
     let a = c .before .before .before .before .before .before .before .before .args in let h = c .before .before .before .before .before .before .before .before .pre in let P = In (now (a .work)) in
-    let both = named-arms P (sym (c .before .before .before .before .before .before .rule .ensures) ∙ c .before .before .before .before .left .given .1) (h .0 .names (a .stem .rule) (h .1)) in
+    let both = named-arms P (sym (c .before .before .before .before .before .before .rule-at .ensures) ∙ c .before .before .before .before .left .given .1) (h .0 .names (a .stem .rule) (h .1)) in
     (h .0, rw (c .pick .ensures) (picked P (sideOf (a .side)) _ _ (both .0) (both .1)))
 
 returns-2 : tie.Need-returns-2
@@ -45,13 +46,13 @@ unfolding besideHole
 returns-2 c s =
     let a = c .before .before .before .before .before .before .before .before .before .args in let F = known (now (a .work)) in let d = sideOf (a .side) in
     c .enter .ensures s ∙ (λ i. enter F (c .before .before .before .other .ensures i) (c .before .before .part-row .ensures i) (c .before .pick .ensures i) (stemCells (a .stem) s))
-    ∙ sym (ap (λ (x : Rule). besideHole F d x (stemCells (a .stem) s)) (sym (c .before .before .before .before .before .before .before .rule .ensures) ∙ c .before .before .before .before .before .left .given .1))
+    ∙ sym (ap (λ (x : Rule). besideHole F d x (stemCells (a .stem) s)) (sym (c .before .before .before .before .before .before .before .rule-at .ensures) ∙ c .before .before .before .before .before .left .given .1))
 
 pub beside-hole-spec : {M : Type 1} → statement M
 beside-hole-spec =
     tie.close
     (tie.spec
-    rule-requires
+    rule-at-requires
     enum-known-left
     returns
     other-requires

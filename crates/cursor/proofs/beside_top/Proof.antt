@@ -8,7 +8,7 @@ use Rattle.forest.proofs.Position.{other}
 use Rattle.model.specs.Model.{Node}
 use Rattle.tables.specs.Table.{known, sideOf}
 use Rattle.cursor.specs.Moves.{reached}
-use Rattle.cursor.proofs.Stack.{top-kind}
+use Rattle.cells.proofs.Stack.{top-kind}
 use Rattle.cursor.proofs.Turns.{beside-none, beside-turns, beside-other}
 use borrow.Author.Needs.{needs}
 use Rattle.cursor.proofs.beside_top.Statement.{statement}

@@ -8,22 +8,24 @@ use Rattle.forest.specs.Place.{cellSpine}
 use Rattle.forest.specs.Walk.{cellAt, cellsIn}
 use Rattle.model.specs.Model.{Node, opened, innerOf, continuing}
 use Rattle.tables.specs.Table.{known, In}
-use Rattle.cursor.specs.Moves.{add, outcome}
-use Rattle.cursor.proofs.Stack.{top-kind, top-one}
-use Rattle.cursor.proofs.Held.{held-top, named-inner}
-use Rattle.cursor.proofs.Rules.{other-inner}
+use Rattle.cells.specs.Changes.{add}
+use Rattle.cursor.specs.Moves.{outcome}
+use Rattle.cells.proofs.Stack.{top-kind, top-one}
+use Rattle.cursor.proofs.Held.{held-top}
+use Rattle.tables.proofs.Closes.{named-inner}
+use Rattle.tables.proofs.Rules.{other-inner}
 use Rattle.cursor.proofs.Outcomes.{continuing-none, continuing-other, continuing-spine}
 use borrow.Author.Needs.{needs}
 use Rattle.cursor.proofs.continued.Statement.{statement}
 use Rattle.cursor.proofs.continued.Tie as tie
 
 -- the spine on top is that of the rule that was read
-spine : (c : tie.After-rule) → let F = known (now (c .before .before .before .before .before .before .before .args .work)) in
-    continuing F (cellsIn (now (c .before .before .before .before .before .before .before .args .cursor)) (c .before .before .before .before .before .before .before .args .j)) ≡ innerOf (c .rule .result)
+spine : (c : tie.After-rule-at) → let F = known (now (c .before .before .before .before .before .before .before .args .work)) in
+    continuing F (cellsIn (now (c .before .before .before .before .before .before .before .args .cursor)) (c .before .before .before .before .before .before .before .args .j)) ≡ innerOf (c .rule-at .result)
 spine c =
     let a = c .before .before .before .before .before .before .before .args in let F = known (now (a .work)) in let r = c .before .before .before .read .ensures in
     continuing-spine F (now (a .cursor)) (a .j) (omega arith) (sym (top-kind r) ∙ c .before .if2 .left)
-    ∙ ap innerOf (sym (c .rule .ensures ∙ ap (F .rule) (top-one r)))
+    ∙ ap innerOf (sym (c .rule-at .ensures ∙ ap (F .rule) (top-one r)))
 
 returns : tie.Need-returns
 unfolding outcome
@@ -40,8 +42,8 @@ returns-2 c =
     let a = c .before .before .before .before .before .before .args in let F = known (now (a .work)) in let cs = cellsIn (now (a .cursor)) (a .k) in
     sym (ap (Option·map (λ (v : ℕ). opened F v cs)) (continuing-other F (now (c .before .before .before .before .before .before .args .cursor)) (c .before .before .before .before .before .before .args .j) (omega arith) (λ q. c .if2 .taken (top-kind (c .before .before .read .ensures) ∙ q))))
 
-rule-requires : tie.Need-rule-requires
-rule-requires c κs =
+rule-at-requires : tie.Need-rule-at-requires
+rule-at-requires c κs =
     let e : (cellAt (now (c .before .before .before .before .before .before .args .cursor)) (c .before .before .before .before .before .before .args .j)) .0 ≡ cellSpine = sym (top-kind (c .before .before .read .ensures)) ∙ c .if2 .left in
     rw (top-one (c .before .before .read .ensures)) (held-top (c .before .before .before .before .before .before .pre) (omega arith) .one (λ q. omega arith))
 
@@ -52,7 +54,7 @@ returns-3 : tie.Need-returns-3
 unfolding outcome
 returns-3 c =
     let a = c .before .before .before .before .before .before .before .before .args in let F = known (now (a .work)) in let cs = cellsIn (now (a .cursor)) (a .k) in
-    sym (ap (Option·map (λ (v : ℕ). opened F v cs)) (spine (c .before) ∙ other-inner (c .before .rule .result) (c .match .keys2)))
+    sym (ap (Option·map (λ (v : ℕ). opened F v cs)) (spine (c .before) ∙ other-inner (c .before .rule-at .result) (c .match .keys2)))
 
 kept-requires : tie.Need-kept-requires
 kept-requires c κs = search needs
@@ -68,7 +70,7 @@ opened-requires c κs =
     let h = c .before .before .before .before .before .before .before .before .before .before .before .before .before .pre in let F = known (now (c .before .before .before .before .before .before .before .before .before .before .before .before .before .args .work)) in
     let top = cellAt (now (c .before .before .before .before .before .before .before .before .before .before .before .before .before .args .cursor)) (c .before .before .before .before .before .before .before .before .before .before .before .before .before .args .j) in
     let e : top .0 ≡ cellSpine = sym (top-kind (c .before .before .before .before .before .before .before .before .before .read .ensures)) ∙ c .before .before .before .before .before .before .before .if2 .left in
-    (h .table, named-inner (In (now (c .before .before .before .before .before .before .before .before .before .before .before .before .before .args .work))) (sym (c .before .before .before .before .before .before .rule .ensures ∙ ap (F .rule) (top-one (c .before .before .before .before .before .before .before .before .before .read .ensures))) ∙ c .before .before .before .before .inner .given .1) (h .table .names (top .1) (held-top h (omega arith) .one (λ q. omega arith))))
+    (h .table, named-inner (In (now (c .before .before .before .before .before .before .before .before .before .before .before .before .before .args .work))) (sym (c .before .before .before .before .before .before .rule-at .ensures ∙ ap (F .rule) (top-one (c .before .before .before .before .before .before .before .before .before .read .ensures))) ∙ c .before .before .before .before .inner .given .1) (h .table .names (top .1) (held-top h (omega arith) .one (λ q. omega arith))))
 
 returns-4 : tie.Need-returns-4
 unfolding outcome add innerOf
@@ -85,7 +87,7 @@ continued-spec =
     returns
     read-requires
     returns-2
-    rule-requires
+    rule-at-requires
     enum-known-inner
     returns-3
     kept-requires

@@ -5,7 +5,7 @@ use denote.Ref.{now}
 use Rattle.forest.specs.Place.{rowOfPart}
 use Rattle.tables.specs.Table.{known, sideOf}
 use Rattle.cursor.specs.Moves.{outcome}
-use Rattle.cursor.proofs.Stack.{top-one}
+use Rattle.cells.proofs.Stack.{top-one}
 use Rattle.cursor.proofs.Held.{held-less}
 use Rattle.cursor.proofs.Outcomes.{ended-none, ended-arm, ended-other}
 use borrow.Author.Needs.{needs}

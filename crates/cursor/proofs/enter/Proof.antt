@@ -6,8 +6,9 @@ use denote.Ref.{now}
 use Rattle.forest.specs.Place.{cellRow}
 use Rattle.model.specs.Model.{Node, opened}
 use Rattle.tables.specs.Table.{known, sideOf}
-use Rattle.cursor.specs.Cells.{cell, runCell}
-use Rattle.cursor.specs.Moves.{add, stemCells, outcome}
+use Rattle.cells.specs.Cells.{cell, runCell}
+use Rattle.cells.specs.Changes.{add, stemCells}
+use Rattle.cursor.specs.Moves.{outcome}
 use Rattle.cursor.proofs.Outcomes.{enter-empty, enter-cells}
 use borrow.Author.Needs.{needs}
 use Rattle.cursor.proofs.enter.Statement.{statement}

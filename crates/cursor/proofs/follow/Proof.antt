@@ -5,7 +5,8 @@ use denote.Ref.{now}
 use Rattle.forest.specs.Walk.{cellsIn}
 use Rattle.model.specs.Model.{Node, besideTop, opened, ended}
 use Rattle.tables.specs.Table.{known, In, sideOf}
-use Rattle.cursor.specs.Moves.{add, stemCells, stemNode, outcome}
+use Rattle.cells.specs.Changes.{add, stemCells, stemNode}
+use Rattle.cursor.specs.Moves.{outcome}
 use Rattle.cursor.proofs.Held.{held-less}
 use Rattle.cursor.proofs.Kept.{found-rule, beside-kept}
 use Rattle.cursor.proofs.Outcomes.{found, found-none, follow-part, follow-off}

@@ -4,7 +4,7 @@ use mathlib.Core.Path.{ap, sym, _∙_}
 use borrow.Author.Tests.{eq-eqb, ne-eqb}
 use Rattle.forest.specs.Place.{cellRun}
 use Rattle.tables.specs.Table.{sideOf}
-use Rattle.cursor.specs.Cells.{cell, runCell}
+use Rattle.cells.specs.Cells.{cell, runCell}
 use borrow.Author.Needs.{needs}
 use Rattle.cursor.proofs.run_from.Statement.{statement}
 use Rattle.cursor.proofs.run_from.Tie as tie

@@ -4,7 +4,7 @@ use denote.Ref.{now}
 use Rattle.forest.specs.Walk.{cellsIn}
 use Rattle.model.specs.Model.{follow}
 use Rattle.tables.specs.Table.{known, In, sideOf}
-use Rattle.cursor.specs.Moves.{stemNode}
+use Rattle.cells.specs.Changes.{stemNode}
 use Rattle.cursor.proofs.Held.{held-less}
 use Rattle.cursor.proofs.Kept.{found-rule, outward-kept}
 use Rattle.cursor.proofs.Outcomes.{found, found-none, sibling-part, sibling-off}

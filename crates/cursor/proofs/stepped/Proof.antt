@@ -6,11 +6,11 @@ use denote.Ref.{now}
 use Rattle.forest.specs.Place.{step}
 use Rattle.forest.specs.Walk.{cellAt, cellsIn}
 use Rattle.forest.proofs.Position.{other}
-use Rattle.cursor.specs.declared.Cell.{Cell as Words}
+use Rattle.cells.specs.declared.Cell.{Cell as Words}
 use Rattle.tables.specs.Table.{known, sideOf}
-use Rattle.cursor.specs.Cells.{cell}
-use Rattle.cursor.specs.Moves.{add, stepCells}
-use Rattle.cursor.proofs.Stack.{top-one, top-two}
+use Rattle.cells.specs.Cells.{cell}
+use Rattle.cells.specs.Changes.{add, stepCells}
+use Rattle.cells.proofs.Stack.{top-one, top-two}
 use Rattle.cursor.proofs.Held.{turns-one, turns-two}
 use Rattle.cursor.proofs.Turns.{own-words, steps-gone, steps-short}
 use borrow.Author.Needs.{needs}

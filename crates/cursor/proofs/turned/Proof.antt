@@ -6,9 +6,10 @@ use Rattle.forest.specs.Walk.{cellsIn}
 use Rattle.forest.proofs.Position.{other}
 use Rattle.model.specs.Model.{oneAbove, shrunk}
 use Rattle.tables.specs.Table.{known, sideOf}
-use Rattle.cursor.specs.Cells.{runCell}
-use Rattle.cursor.specs.Moves.{add, stepCells, stemCells, stemNode, aboveTop}
-use Rattle.cursor.proofs.Stack.{top-one, top-two}
+use Rattle.cells.specs.Cells.{runCell}
+use Rattle.cells.specs.Changes.{add, stepCells, stemCells, stemNode}
+use Rattle.cursor.specs.Moves.{aboveTop}
+use Rattle.cells.proofs.Stack.{top-one, top-two}
 use Rattle.cursor.proofs.Held.{turns-one, turns-two, turns-above}
 use Rattle.cursor.proofs.Turns.{turned-cells}
 use borrow.Author.Needs.{needs}

@@ -7,7 +7,7 @@ use Rattle.forest.specs.Walk.{cellsIn}
 use Rattle.model.specs.Model.{Node}
 use Rattle.model.specs.Walk.{move, fromNode}
 use Rattle.tables.specs.Table.{known}
-use Rattle.cursor.proofs.Stack.{cells-none}
+use Rattle.cells.proofs.Stack.{cells-none}
 use Rattle.letters.specs.Letters.{moveOf}
 use Rattle.letters.proofs.Standing.{table-held, walked-in, held, at-rule, from-cells}
 use borrow.Author.Needs.{needs}

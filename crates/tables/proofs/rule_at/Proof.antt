@@ -1,19 +1,16 @@
--- The rule in a row is made of what the row keeps. Assumes nothing.
-use mathlib.Core.Path.{ap, _∙_}
-use Rattle.tables.specs.Rows.{ruleFrom, ruleIn}
+-- The rule is the one of `known`. Assumes nothing.
+use mathlib.Core.Path.{sym, _∙_}
+use denote.Ref.{now}
+use Rattle.tables.proofs.Entries.{known-rule}
 use borrow.Author.Needs.{needs}
 use Rattle.tables.proofs.rule_at.Statement.{statement}
 use Rattle.tables.proofs.rule_at.Tie as tie
 
-read-requires : tie.Need-read-requires
-read-requires c κs = search needs
-
-rule-requires : tie.Need-rule-requires
-rule-requires c κs = search needs
+rule-at-requires : tie.Need-rule-at-requires
+rule-at-requires c κs = search needs
 
 returns : tie.Need-returns
-unfolding ruleIn
-returns c = c .rule .ensures ∙ ap ruleFrom (c .before .read .ensures)
+returns c = let a = c .before .before .args in c .rule-at .ensures ∙ sym (known-rule (now (a .work)) (a .r) (c .before .before .pre))
 
 pub rule-at-spec : {M : Type 1} → statement M
-rule-at-spec = tie.close (tie.spec read-requires rule-requires returns)
+rule-at-spec = tie.close (tie.spec rule-at-requires returns)

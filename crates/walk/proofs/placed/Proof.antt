@@ -4,7 +4,7 @@ use denote.Ref.{now}
 use Rattle.forest.specs.Place.{Cells}
 use Rattle.forest.specs.Walk.{cellsIn}
 use Rattle.tables.specs.Table.{known}
-use Rattle.cursor.proofs.Stack.{cells-none, cells-top}
+use Rattle.cells.proofs.Stack.{cells-none, cells-top}
 use Rattle.walk.specs.Calls.{placed}
 use Rattle.letters.proofs.Standing.{table-held, walked-in}
 use Rattle.walk.proofs.Places.{placed-above, placed-node}

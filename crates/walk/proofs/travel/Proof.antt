@@ -5,8 +5,8 @@ use mathlib.Core.Bool.{true, false}
 use borrow.Author.Tests.{not-true, not-false}
 use denote.Ref.{now}
 use Rattle.forest.specs.Walk.{cellAt, usedCells, headed, cursorWords}
-use Rattle.cursor.specs.Cells.{cell}
-use Rattle.cursor.specs.declared.Cell.{Cell}
+use Rattle.cells.specs.Cells.{cell}
+use Rattle.cells.specs.declared.Cell.{Cell}
 use Rattle.letters.proofs.Standing.{held}
 use Rattle.walk.proofs.Places.{not-headed, used-lies, not-placed, begun-stands, arrived-lies, arrived, head-lies, used}
 use borrow.Author.Needs.{needs}

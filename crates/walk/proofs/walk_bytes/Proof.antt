@@ -1,7 +1,7 @@
 -- The first byte that is no letter is turned down; else the letters are walked. Assumes nothing.
 use mathlib.Core.Path.{sym, ap, _∙_}
 use Rattle.forest.specs.Walk.{lettersJudged}
-use Rattle.tables.proofs.Rows.{within-none}
+use Rattle.rows.proofs.Rows.{within-none}
 use Rattle.walk.specs.Calls.{foundAt}
 use Rattle.walk.proofs.Places.{refused-walks}
 use borrow.Author.Needs.{needs}

@@ -4,7 +4,7 @@ use mathlib.Core.Path.{_≡_}
 use mathlib.Core.List.{List}
 use Rattle.forest.specs.Place.{Side}
 use Rattle.tables.specs.declared.Entry.{Entry}
-use Rattle.tables.specs.Rows.{putField}
+use Rattle.rows.specs.Rows.{putField}
 use Rattle.tables.specs.Table.{sideOf, atRepresentative, atEmptiness, flag, putLink, putEntry}
 use borrow.Author.Needs.{needs}
 use Rattle.tables.proofs.Entry.write.Statement.{statement}

@@ -3,7 +3,7 @@ use Prim.Native.Nat.{ℕ, _+_}
 use mathlib.Core.Path.{ap, _∙_}
 use mathlib.Core.List.{List}
 use denote.Ref.{now}
-use Rattle.tables.specs.Rows.{putField}
+use Rattle.rows.specs.Rows.{putField}
 use Rattle.tables.specs.Table.{atLast, atDepth, atJump, putLinkAt, putLink}
 use borrow.Author.Needs.{needs}
 use Rattle.tables.proofs.Link.write.Statement.{statement}
