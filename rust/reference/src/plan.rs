@@ -20,7 +20,7 @@ pub const fn cursor_bytes(n: usize) -> usize {
     32 * (n + 1)
 }
 
-/// A rule by its right-hand side; the numbers are those of the rules named, `label` is a node's.
+/// A rule by its right-hand side: the rules named, and first a node's label.
 #[derive(Clone, Copy, PartialEq, Eq, Debug)]
 pub enum Rule {
     Empty,
@@ -31,42 +31,37 @@ pub enum Rule {
     Join(u16, u16),
 }
 
-/// What a word that names a rule asks of it.
+/// What a word that names a rule asks of it: a bit for each kind that the rule may have.
 #[derive(Clone, Copy, PartialEq, Eq, Debug)]
-pub enum Sort {
-    Closed,
-    Tree,
-    Holed,
-}
+pub struct Sort(u8);
 
 impl Sort {
+    pub const CLOSED: Sort = Sort(0b00_1111);
+    pub const TREE: Sort = Sort(0b00_1100);
+    pub const HOLED: Sort = Sort(0b11_0000);
+
     /// Whether a rule of this kind is of the sort.
     pub fn has(self, kind: u16) -> bool {
-        match self {
-            Sort::Closed => kind <= 3,
-            Sort::Tree => kind == 2 || kind == 3,
-            Sort::Holed => kind == 4 || kind == 5,
-        }
+        kind < Rule::KINDS && self.0 >> kind & 1 == 1
     }
 }
 
 impl Rule {
     pub const KINDS: u16 = 6;
 
-    /// The rule that four words mean, unless they are refusal 4.
-    pub fn decode(words: [u16; 4]) -> Option<Rule> {
-        match words {
-            [0, 0, 0, 0] => Some(Rule::Empty),
-            [1, b, c, 0] => Some(Rule::Pair(b, c)),
-            [2, label, c, 0] if label <= MAX_LABEL => Some(Rule::Node(label, c)),
-            [3, b, c, 0] => Some(Rule::Fill(b, c)),
-            [4, label, l, r] if label <= MAX_LABEL => Some(Rule::Part(label, l, r)),
-            [5, b, c, 0] => Some(Rule::Join(b, c)),
-            _ => None,
+    /// The rule that four words of an accepted plan mean.
+    pub fn of([kind, a, b, c]: [u16; 4]) -> Rule {
+        match kind {
+            0 => Rule::Empty,
+            1 => Rule::Pair(a, b),
+            2 => Rule::Node(a, b),
+            3 => Rule::Fill(a, b),
+            4 => Rule::Part(a, b, c),
+            _ => Rule::Join(a, b),
         }
     }
 
-    pub fn encode(self) -> [u16; 4] {
+    pub fn words(self) -> [u16; 4] {
         match self {
             Rule::Empty => [0, 0, 0, 0],
             Rule::Pair(b, c) => [1, b, c, 0],
@@ -76,22 +71,19 @@ impl Rule {
             Rule::Join(b, c) => [5, b, c, 0],
         }
     }
+}
 
-    pub fn kind(self) -> u16 {
-        self.encode()[0]
-    }
-
-    /// The rules named, and the sort that each must have.
-    pub fn names(self) -> impl Iterator<Item = (u16, Sort)> {
-        let (first, second) = match self {
-            Rule::Empty => (None, None),
-            Rule::Pair(b, c) => (Some((b, Sort::Closed)), Some((c, Sort::Closed))),
-            Rule::Node(_, c) => (Some((c, Sort::Closed)), None),
-            Rule::Fill(b, c) => (Some((b, Sort::Holed)), Some((c, Sort::Tree))),
-            Rule::Part(_, l, r) => (Some((l, Sort::Closed)), Some((r, Sort::Closed))),
-            Rule::Join(b, c) => (Some((b, Sort::Holed)), Some((c, Sort::Holed))),
-        };
-        first.into_iter().chain(second)
+/// The rules that four words name, with the sort that each must have (the only one of a node twice), or none; an error if the words are
+/// no rule: a kind above 5, a label above 255, an unused word that isn't 0.
+fn names(words: [u16; 4]) -> Result<Option<[(u16, Sort); 2]>, Why> {
+    match words {
+        [0, 0, 0, 0] => Ok(None),
+        [1, b, c, 0] => Ok(Some([(b, Sort::CLOSED), (c, Sort::CLOSED)])),
+        [2, 0..=MAX_LABEL, c, 0] => Ok(Some([(c, Sort::CLOSED), (c, Sort::CLOSED)])),
+        [3, b, c, 0] => Ok(Some([(b, Sort::HOLED), (c, Sort::TREE)])),
+        [4, 0..=MAX_LABEL, l, r] => Ok(Some([(l, Sort::CLOSED), (r, Sort::CLOSED)])),
+        [5, b, c, 0] => Ok(Some([(b, Sort::HOLED), (c, Sort::HOLED)])),
+        _ => Err(Why::Record),
     }
 }
 
@@ -117,27 +109,29 @@ impl<'a> Rules<'a> {
         words::get(&self.0[usize::from(rule)], 0)
     }
 
-    fn decode(self, rule: usize) -> Option<Rule> {
-        Rule::decode(words::unpack(self.0[rule]))
-    }
-
     /// A rule of an accepted plan.
     pub fn get(self, rule: u16) -> Rule {
-        self.decode(usize::from(rule)).expect("an accepted plan's rules decode")
+        Rule::of(words::unpack(self.0[usize::from(rule)]))
+    }
+
+    /// Refusals 4 to 6 of one rule.
+    fn judge_rule(self, number: usize) -> Result<(), Why> {
+        let Some([(b, sort_of_b), (c, sort_of_c)]) = names(words::unpack(self.0[number]))? else { return Ok(()) };
+        if usize::from(b.max(c)) >= number {
+            return Err(Why::NotLower);
+        }
+        if !sort_of_b.has(self.kind(b)) || !sort_of_c.has(self.kind(c)) {
+            return Err(Why::Sort);
+        }
+        Ok(())
     }
 
     /// Refusals 4 to 7, in document 01's order.
     fn judge(self, start: u16) -> Result<(), Refused> {
         for number in 0..self.count() {
-            let rule = self.decode(number).ok_or(Why::Record.at(number))?;
-            if rule.names().any(|(named, _)| usize::from(named) >= number) {
-                return Err(Why::NotLower.at(number));
-            }
-            if rule.names().any(|(named, sort)| !sort.has(self.kind(named))) {
-                return Err(Why::Sort.at(number));
-            }
+            self.judge_rule(number).map_err(|why| why.at(number))?;
         }
-        if usize::from(start) >= self.count() || !Sort::Closed.has(self.kind(start)) {
+        if usize::from(start) >= self.count() || !Sort::CLOSED.has(self.kind(start)) {
             return Err(Why::Start.here());
         }
         Ok(())

@@ -299,13 +299,13 @@ fn in_openings() -> Vec<Damage> {
             };
             let spine = stored.some(random, chained)?;
             let next = (spine + 1..stored.cells.len()).find(|index| !is_run(stored.cells[*index]))?;
-            let trees = known.rule_numbers(|rule| Sort::Tree.has(known.draft.kind(rule.into())));
+            let trees = known.rule_numbers(|rule| Sort::TREE.has(known.draft.kind(rule.into())));
             stored.cells[next] = Cell::spine(random.pick(&trees));
             Some(())
         }),
         damage("tree opened below a node of kind 2", |stored, known, random| {
             let node = stored.some(random, |_, cell| is_spine(cell) && known.is_kind(cell.0[1], 2))?;
-            let trees = known.rule_numbers(|rule| Sort::Tree.has(known.draft.kind(rule.into())));
+            let trees = known.rule_numbers(|rule| Sort::TREE.has(known.draft.kind(rule.into())));
             stored.cells.truncate(node + 1);
             stored.cells.push(Cell::spine(random.pick(&trees)));
             stored.recount()

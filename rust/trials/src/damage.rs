@@ -116,15 +116,15 @@ fn in_record() -> Vec<Damage> {
 
 /// The words that name rules: kind, word, sort.
 const NAMES: [(u16, usize, Sort); 9] = [
-    (1, 1, Sort::Closed),
-    (1, 2, Sort::Closed),
-    (2, 2, Sort::Closed),
-    (3, 1, Sort::Holed),
-    (3, 2, Sort::Tree),
-    (4, 2, Sort::Closed),
-    (4, 3, Sort::Closed),
-    (5, 1, Sort::Holed),
-    (5, 2, Sort::Holed),
+    (1, 1, Sort::CLOSED),
+    (1, 2, Sort::CLOSED),
+    (2, 2, Sort::CLOSED),
+    (3, 1, Sort::HOLED),
+    (3, 2, Sort::TREE),
+    (4, 2, Sort::CLOSED),
+    (4, 3, Sort::CLOSED),
+    (5, 1, Sort::HOLED),
+    (5, 2, Sort::HOLED),
 ];
 
 /// 5 and 6: a rule that isn't lower, or one of each kind of the wrong sort.

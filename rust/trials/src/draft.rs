@@ -14,7 +14,7 @@ impl Draft {
     /// Adds a rule and makes it the start; gives its number.
     pub fn add(&mut self, rule: Rule) -> u16 {
         self.start = self.records.len() as u16;
-        self.records.push(rule.encode());
+        self.records.push(rule.words());
         self.start
     }
 
@@ -23,7 +23,7 @@ impl Draft {
     }
 
     pub fn rule(&self, rule: u16) -> Rule {
-        Rule::decode(self.records[usize::from(rule)]).expect("a rule not yet damaged")
+        Rule::of(self.records[usize::from(rule)])
     }
 
     pub fn kind(&self, rule: usize) -> u16 {

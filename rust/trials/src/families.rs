@@ -15,7 +15,7 @@ pub fn sample() -> Draft {
         Rule::Fill(5, 1),
         Rule::Pair(6, 3),
     ];
-    Draft { records: rules.map(Rule::encode).to_vec(), start: 7, prefix: Vec::new() }
+    Draft { records: rules.map(Rule::words).to_vec(), start: 7, prefix: Vec::new() }
 }
 
 /// An empty rule, and a leaf over it.
@@ -135,6 +135,19 @@ pub fn paper(depth: usize) -> Draft {
     };
     let (first, second) = (tree(wide, leaf[1], leaf[0]), tree(leaf[0], wide, leaf[1]));
     draft.add(Rule::Pair(first, second));
+    draft
+}
+
+/// Rows doubled eight times, a node over each: wide and deep at every size, about eight ninths of n doublings.
+pub fn towers(n: usize) -> Draft {
+    let mut draft = Draft::default();
+    let (_, mut forest) = ground(&mut draft);
+    while draft.n() < n {
+        forest = draft.add(match draft.n() % 9 {
+            0 => Rule::Node(u16::from(b'g'), forest),
+            _ => Rule::Pair(forest, forest),
+        });
+    }
     draft
 }
 

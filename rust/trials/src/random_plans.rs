@@ -38,11 +38,11 @@ fn rule_of(kind: u16, draft: &Draft, taste: &Taste, random: &mut Random) -> Opti
     let mut name = |sort| named(draft, sort, taste.reach, random);
     Some(match kind {
         0 => Rule::Empty,
-        1 => Rule::Pair(name(Sort::Closed)?, name(Sort::Closed)?),
-        2 => Rule::Node(0, name(Sort::Closed)?),
-        3 => Rule::Fill(name(Sort::Holed)?, name(Sort::Tree)?),
-        4 => Rule::Part(0, name(Sort::Closed)?, name(Sort::Closed)?),
-        _ => Rule::Join(name(Sort::Holed)?, name(Sort::Holed)?),
+        1 => Rule::Pair(name(Sort::CLOSED)?, name(Sort::CLOSED)?),
+        2 => Rule::Node(0, name(Sort::CLOSED)?),
+        3 => Rule::Fill(name(Sort::HOLED)?, name(Sort::TREE)?),
+        4 => Rule::Part(0, name(Sort::CLOSED)?, name(Sort::CLOSED)?),
+        _ => Rule::Join(name(Sort::HOLED)?, name(Sort::HOLED)?),
     })
 }
 
@@ -108,7 +108,7 @@ pub fn start_within(draft: &mut Draft, most: u64, random: &mut Random) {
     let mut work = vec![0; 64 * draft.n()];
     let mut fitting = Vec::new();
     for rule in 0..draft.n() as u16 {
-        if !Sort::Closed.has(draft.kind(rule.into())) {
+        if !Sort::CLOSED.has(draft.kind(rule.into())) {
             continue;
         }
         draft.start = rule;

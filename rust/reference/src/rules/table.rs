@@ -38,7 +38,7 @@ impl<'a> Table<'a> {
     }
 
     fn add(&mut self, number: u16, rule: Rule) {
-        self.0[usize::from(number)][..8].copy_from_slice(&words::pack(rule.encode()));
+        self.0[usize::from(number)][..8].copy_from_slice(&words::pack(rule.words()));
         let (representative, steps) = match rule {
             Rule::Empty => (NONE, None),
             Rule::Pair(b, c) => match (self.representative(b), self.representative(c)) {
@@ -84,15 +84,7 @@ impl<'a> Table<'a> {
     }
 
     pub fn rule(&self, rule: u16) -> Rule {
-        let [a, b, c, d] = std::array::from_fn(|index| self.get(rule, index));
-        match a {
-            0 => Rule::Empty,
-            1 => Rule::Pair(b, c),
-            2 => Rule::Node(b, c),
-            3 => Rule::Fill(b, c),
-            4 => Rule::Part(b, c, d),
-            _ => Rule::Join(b, c),
-        }
+        Rule::of(std::array::from_fn(|column| self.get(rule, column)))
     }
 
     /// The stand-in of a closed rule; `NONE` if it is empty.

@@ -60,7 +60,7 @@ fn twice_damaged(trial: &mut Trial, damages: &[damage::Damage]) {
 /// Plans of 1,024 rules and of 1,025, all of kind 0.
 fn limits(trial: &mut Trial) {
     for n in [MAX_RULES, MAX_RULES + 1] {
-        let draft = Draft { records: vec![Rule::Empty.encode(); n], start: 3, prefix: Vec::new() };
+        let draft = Draft { records: vec![Rule::Empty.words(); n], start: 3, prefix: Vec::new() };
         let mut check = Call::new(Operation::Check, draft.words(), n);
         check.plan.extend(trailer(n, draft.start));
         let mut seal = Call::new(Operation::Seal, draft.words(), n);
