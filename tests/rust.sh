@@ -8,7 +8,5 @@ log=$(mktemp)
 trap 'rm -f "$log"' EXIT
 command -v cargo >/dev/null 2>&1 || { echo "rust: cargo is not installed"; exit 1; }
 rt staticlib mealplan >"$log" 2>&1 || { cat "$log"; exit 1; }
-stand_in=
-nm -g target/staticlib/libmealplan.a 2>/dev/null | grep -q ' T plan_walk$' || stand_in="--features stand-in" # delete this line once the library has plan_walk
 export MEALPLAN_LIB="$PWD/target/staticlib"
-nice cargo test --manifest-path rust/Cargo.toml --package trials --release --offline --locked --jobs 1 $stand_in --tests -- --nocapture
+nice cargo test --manifest-path rust/Cargo.toml --package trials --release --offline --locked --jobs 1 --tests -- --nocapture

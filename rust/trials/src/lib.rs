@@ -12,8 +12,6 @@ pub mod random;
 pub mod random_plans;
 mod room;
 pub mod rounds;
-#[cfg(feature = "stand-in")]
-mod stand_in;
 pub mod tally;
 pub mod trial;
 
@@ -26,8 +24,8 @@ pub fn try_all(trial: &mut Trial, effort: usize) {
     rounds::slices::refuse(trial, effort);
     rounds::places::refuse(trial, 25 * effort);
     rounds::places::walk_from_every(trial, 8 * effort);
-    rounds::walks::small(trial, 25 * effort, 12);
-    rounds::walks::large(trial, 6 * effort, 12);
+    rounds::walks::small(trial, 40 * effort, 12);
+    rounds::walks::large(trial, 12 * effort, 12);
     rounds::sizes::agree(trial, 20 * effort);
 }
 

@@ -25,13 +25,14 @@ fn small(random: &mut Random, most_rules: usize) -> Draft {
     draft
 }
 
-/// Letters at random: evenly, in bursts, or with a liking for some.
+/// Letters at random: evenly, with a liking for some, or nearly all the same, so that long rows and deep spines are gone through.
 fn letters(random: &mut Random, count: usize) -> Vec<u8> {
-    let liked: Vec<u8> = match random.below(4) {
+    let liked: Vec<u8> = match random.below(5) {
         0 => LETTERS.to_vec(),
         1 => b"ffllnpnpuus".to_vec(),
         2 => b"fffnnnnpu".to_vec(),
-        _ => b"lllppppnu".to_vec(),
+        3 => b"lllppppnu".to_vec(),
+        _ => vec![random.pick(b"flnpu")],
     };
     let burst = random.pick(&[1, 1, 2, 4]);
     let mut letters = Vec::with_capacity(count + burst);

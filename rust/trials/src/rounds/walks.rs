@@ -3,7 +3,7 @@ use crate::call::{Call, Operation};
 use crate::draft::Draft;
 use crate::trial::{Judged, Trial};
 use crate::{families, random_plans, rounds};
-use reference::plan::MAX_RULES;
+use reference::plan::{MAX_RULES, work_bytes};
 use reference::unfolded::finger::Finger;
 use reference::{NOWHERE, rules, words};
 
@@ -63,17 +63,17 @@ fn next_call(trial: &mut Trial, mut call: Call, n: usize) -> Call {
         1 => 1,
         _ => trial.random.between(2, 400),
     };
+    let longer = trial.random.below(9);
+    call.work = trial.random.leftovers(work_bytes(n) + longer);
     let letters = rounds::letters(&mut trial.random, 3 * count);
     let mut letters = mostly_moving(trial, &call, letters);
     letters.truncate(count);
     let count = letters.len();
     call = call.with_letters(&letters);
-    let longer = trial.random.below(9);
     call.answers = trial.random.leftovers(call.answers.len() + longer);
-    call.work = trial.random.leftovers(64 * n + longer);
     match trial.random.below(30) {
         0 if count > 0 => call.answers.truncate(2 * count - 1),
-        1 => call.work.truncate(64 * n - 1),
+        1 => call.work.truncate(work_bytes(n) - 1),
         2 if count > 0 => call.letters[count / 2] = b'x',
         _ => (),
     }
@@ -84,9 +84,7 @@ fn next_call(trial: &mut Trial, mut call: Call, n: usize) -> Call {
 fn mostly_moving(trial: &mut Trial, call: &Call, letters: Vec<u8>) -> Vec<u8> {
     let mut scout = call.clone().with_letters(&letters);
     let walked = rules::walk(&scout.plan, &mut scout.work, &mut scout.cursor, &letters, &mut scout.answers);
-    if walked.is_err() {
-        return letters;
-    }
+    walked.expect("a list of calls stays in the forest");
     let moves = |index: usize| words::get(&scout.answers, index) != NOWHERE;
     let kept = (0..letters.len()).filter(|index| moves(*index) || trial.random.once_in(6));
     kept.map(|index| letters[index]).collect()

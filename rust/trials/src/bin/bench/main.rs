@@ -34,10 +34,6 @@ fn main() -> io::Result<()> {
     calls(&mut report);
     texts(&mut report);
     print!("{}", report.text());
-    if cfg!(feature = "stand-in") {
-        println!("Nothing written: the library has no walk of its own yet.");
-        return Ok(());
-    }
     let docs: PathBuf = [env!("CARGO_MANIFEST_DIR"), "..", "..", "docs"].iter().collect();
     fs::write(docs.join("bench.svg"), plot::by_entries(&by_entries))?;
     fs::write(docs.join("bench.md"), report.text())
@@ -82,8 +78,8 @@ fn nowhere(report: &mut Report) {
     }
 }
 
-/// The cost of a letter by the number of entries, on one plan with one start after the other: the logarithm and the times.
-fn entries(report: &mut Report) -> Vec<(f64, Times)> {
+/// The cost of a letter by the number of entries, on one plan with one start after the other.
+fn entries(report: &mut Report) -> Vec<(String, Times)> {
     report.section(
         "A letter, by the number of entries",
         "Nanoseconds a letter, as above, on one plan of 1,024 rules (rows doubled eight times, a node over each, and so on) whose start \
@@ -92,11 +88,11 @@ fn entries(report: &mut Report) -> Vec<(f64, Times)> {
     report.header(&["entries", "start", "f l n p u"]);
     let mut draft = families::towers(1024);
     let mut costs = Vec::new();
-    for (name, start, logarithm) in tours::starts(&draft) {
+    for (name, start) in tours::starts(&draft) {
         draft.start = start;
         let times = cost(&draft, &tours::wandering(&draft, LETTERS));
         report.row(&name, start.into(), &[times.shown()]);
-        costs.push((logarithm, times));
+        costs.push((name, times));
     }
     costs
 }

@@ -5,53 +5,65 @@ use std::fmt::Write;
 const WIDTH: f64 = 640.0;
 const HEIGHT: f64 = 300.0;
 const MARGIN: f64 = 50.0;
-const MOST_LOGARITHM: f64 = 900.0;
 
-/// The plot: binary logarithm of the entries to the right, nanoseconds up.
-pub fn by_entries(points: &[(f64, Times)]) -> String {
+/// The plot: a place for each number of entries to the right, nanoseconds up.
+pub fn by_entries(points: &[(String, Times)]) -> String {
     let highest = points.iter().map(|(_, times)| times.library.max(times.reference)).fold(10.0, f64::max);
-    let top = (highest / 10.0).ceil() * 10.0;
-    let mut svg = format!(
-        "<svg xmlns=\"http://www.w3.org/2000/svg\" width=\"{WIDTH}\" height=\"{HEIGHT}\" font-family=\"sans-serif\" font-size=\"12\">\n\
-         <rect width=\"100%\" height=\"100%\" fill=\"white\"/>\n"
-    );
-    for logarithm in (0..=9).map(|step| f64::from(step) * 100.0) {
-        label(&mut svg, across(logarithm), HEIGHT - MARGIN + 18.0, "middle", &format!("2^{logarithm}"));
+    let mut plot = Plot { svg: String::new(), places: points.len(), top: (highest / 10.0).ceil() * 10.0 };
+    plot.put(&format!(
+        "<svg xmlns=\"http://www.w3.org/2000/svg\" width=\"{WIDTH}\" height=\"{HEIGHT}\" font-family=\"sans-serif\" font-size=\"12\">"
+    ));
+    plot.put("<rect width=\"100%\" height=\"100%\" fill=\"white\"/>");
+    for (index, (name, _)) in points.iter().enumerate() {
+        plot.label(plot.across(index), HEIGHT - MARGIN + 18.0, "middle", name);
     }
-    for nanoseconds in (0..=4).map(|step| top * f64::from(step) / 4.0) {
-        let y = up(nanoseconds, top);
-        let (left, right) = (MARGIN, WIDTH - MARGIN);
-        writeln!(svg, "<line x1=\"{left}\" y1=\"{y:.1}\" x2=\"{right}\" y2=\"{y:.1}\" stroke=\"#ccc\"/>")
-            .expect("a string");
-        label(&mut svg, MARGIN - 6.0, y + 4.0, "end", &format!("{nanoseconds:.0}"));
+    for quarter in 0..=4 {
+        let nanoseconds = plot.top * f64::from(quarter) / 4.0;
+        let y = plot.up(nanoseconds);
+        plot.put(&format!("<path d=\"M {MARGIN} {y:.1} H {}\" stroke=\"#ccc\"/>", WIDTH - MARGIN));
+        plot.label(MARGIN - 6.0, y + 4.0, "end", &format!("{nanoseconds:.0}"));
     }
-    label(&mut svg, MARGIN, 20.0, "start", "nanoseconds a letter against entries");
-    line(&mut svg, points, top, "#b03030", "library", 20.0, |times| times.library);
-    line(&mut svg, points, top, "#3050b0", "reference", 36.0, |times| times.reference);
-    svg + "</svg>\n"
+    plot.label(MARGIN, 24.0, "start", "nanoseconds a letter");
+    plot.label(WIDTH / 2.0, HEIGHT - 10.0, "middle", "entries");
+    plot.line(points.iter().map(|(_, times)| times.library), "#b03030", "library", WIDTH - 210.0);
+    plot.line(points.iter().map(|(_, times)| times.reference), "#3050b0", "reference", WIDTH - 130.0);
+    plot.put("</svg>");
+    plot.svg
 }
 
-fn across(logarithm: f64) -> f64 {
-    MARGIN + (WIDTH - 2.0 * MARGIN) * logarithm / MOST_LOGARITHM
+struct Plot {
+    svg: String,
+    places: usize,
+    /// The nanoseconds at the upper edge.
+    top: f64,
 }
 
-fn up(nanoseconds: f64, top: f64) -> f64 {
-    HEIGHT - MARGIN - (HEIGHT - 2.0 * MARGIN) * nanoseconds / top
-}
-
-fn label(svg: &mut String, x: f64, y: f64, anchor: &str, text: &str) {
-    writeln!(svg, "<text x=\"{x:.1}\" y=\"{y:.1}\" text-anchor=\"{anchor}\">{text}</text>").expect("a string");
-}
-
-fn line(svg: &mut String, points: &[(f64, Times)], top: f64, color: &str, name: &str, y: f64, of: fn(&Times) -> f64) {
-    let places: Vec<(f64, f64)> =
-        points.iter().map(|(logarithm, times)| (across(*logarithm), up(of(times), top))).collect();
-    let joined: Vec<String> = places.iter().map(|(x, y)| format!("{x:.1},{y:.1}")).collect();
-    writeln!(svg, "<polyline points=\"{}\" fill=\"none\" stroke=\"{color}\"/>", joined.join(" ")).expect("a string");
-    for (x, y) in places {
-        writeln!(svg, "<circle cx=\"{x:.1}\" cy=\"{y:.1}\" r=\"3\" fill=\"{color}\"/>").expect("a string");
+impl Plot {
+    fn put(&mut self, element: &str) {
+        writeln!(self.svg, "{element}").expect("a string takes all");
     }
-    writeln!(svg, "<rect x=\"{}\" y=\"{}\" width=\"10\" height=\"10\" fill=\"{color}\"/>", WIDTH - 140.0, y - 10.0)
-        .expect("a string");
-    label(svg, WIDTH - 124.0, y, "start", name);
+
+    fn across(&self, index: usize) -> f64 {
+        MARGIN + (WIDTH - 2.0 * MARGIN) * (index as f64 + 0.5) / self.places as f64
+    }
+
+    fn up(&self, nanoseconds: f64) -> f64 {
+        HEIGHT - MARGIN - (HEIGHT - 2.0 * MARGIN) * nanoseconds / self.top
+    }
+
+    fn label(&mut self, x: f64, y: f64, anchor: &str, text: &str) {
+        self.put(&format!("<text x=\"{x:.1}\" y=\"{y:.1}\" text-anchor=\"{anchor}\">{text}</text>"));
+    }
+
+    /// A line through the points, and its name with a spot of its color at `x` above the plot.
+    fn line(&mut self, costs: impl Iterator<Item = f64>, color: &str, name: &str, x: f64) {
+        let spots: Vec<(f64, f64)> =
+            costs.enumerate().map(|(index, cost)| (self.across(index), self.up(cost))).collect();
+        let joined: Vec<String> = spots.iter().map(|(x, y)| format!("{x:.1},{y:.1}")).collect();
+        self.put(&format!("<polyline points=\"{}\" fill=\"none\" stroke=\"{color}\"/>", joined.join(" ")));
+        for (x, y) in spots.into_iter().chain([(x, 20.0)]) {
+            self.put(&format!("<circle cx=\"{x:.1}\" cy=\"{y:.1}\" r=\"3\" fill=\"{color}\"/>"));
+        }
+        self.label(x + 8.0, 24.0, "start", name);
+    }
 }

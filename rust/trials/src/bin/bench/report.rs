@@ -10,7 +10,7 @@ Written by `cargo run --release --bin bench` in `rust/`, not by hand. The proved
 crate `mealplan`) against `rust/reference`, a walker without proofs with the same kind of tables: a row for each rule in the lent work, \
 with jumps along either side, built anew in every call.
 
-Both run in turn on the same buffers; a figure is the best of 40 rounds. Buffers were not cleared for the clock: they had been \
+Both run in turn on the same buffers; a figure is the best of 100 rounds. Buffers were not cleared for the clock: they had been \
 written once before, and each call leaves its work as zeros, which is promised and part of its time. The machine: ";
 
 impl Report {

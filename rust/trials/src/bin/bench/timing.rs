@@ -5,7 +5,7 @@ use trials::call::{ByRules, Call, Implementation, Operation, Slices};
 use trials::draft::Draft;
 use trials::library::Library;
 
-const ROUNDS: usize = 40;
+const ROUNDS: usize = 100;
 
 /// Nanoseconds.
 #[derive(Clone, Copy)]

@@ -90,15 +90,15 @@ pub fn largest_below(family: fn(usize) -> Draft, most: f64) -> (Draft, f64) {
     plans.max_by(|one, other| one.1.total_cmp(&other.1)).expect("there are plans")
 }
 
-/// The starts with just above 10 entries, 100 and so on up to 2^900: a name, the rule and the binary logarithm.
-pub fn starts(draft: &Draft) -> Vec<(String, u16, f64)> {
+/// The starts with just above 10 entries, 100 and so on up to 2^900: a name and the rule.
+pub fn starts(draft: &Draft) -> Vec<(String, u16)> {
     let counts = entries(draft);
     let powers = [16, 32, 64, 128, 256, 400, 512, 700, 900].map(|power| (format!("2^{power}"), 2f64.powi(power)));
     let tens = [10.0, 100.0, 1000.0].map(|count| (format!("{count}"), count));
     let wanted = tens.into_iter().chain(powers);
     let found = wanted.filter_map(|(name, least)| {
         let rule = (0..draft.n()).find(|rule| counts[*rule] >= least)?;
-        Some((name, rule as u16, counts[rule].log2()))
+        Some((name, rule as u16))
     });
     found.collect()
 }
