@@ -87,12 +87,17 @@ fn entries(report: &mut Report) -> Vec<(String, Times)> {
     );
     report.header(&["entries", "start", "f l n p u"]);
     let mut draft = families::towers(1024);
-    let mut costs = Vec::new();
-    for (name, start) in tours::starts(&draft) {
-        draft.start = start;
-        let times = cost(&draft, &tours::wandering(&draft, LETTERS));
-        report.row(&name, start.into(), &[times.shown()]);
-        costs.push((name, times));
+    let starts = tours::starts(&draft);
+    let mut costs: Vec<(String, Times)> = starts.iter().map(|(name, _)| (name.clone(), Times::WORST)).collect();
+    // Several passes, so that a busy moment of the machine falls on all points alike.
+    for _ in 0..5 {
+        for ((_, start), (_, best)) in starts.iter().zip(&mut costs) {
+            draft.start = *start;
+            *best = best.min(cost(&draft, &tours::wandering(&draft, LETTERS)));
+        }
+    }
+    for ((name, start), (_, times)) in starts.iter().zip(&costs) {
+        report.row(name, (*start).into(), &[times.shown()]);
     }
     costs
 }

@@ -15,6 +15,12 @@ pub struct Times {
 }
 
 impl Times {
+    pub const WORST: Times = Times { library: f64::INFINITY, reference: f64::INFINITY };
+
+    pub fn min(self, other: Times) -> Times {
+        Times { library: self.library.min(other.library), reference: self.reference.min(other.reference) }
+    }
+
     pub fn shown(self) -> String {
         let Times { library, reference } = self;
         let digits = if library.max(reference) < 10.0 { 2 } else { 1 };
@@ -84,13 +90,13 @@ impl Desk {
 
     /// The time of one call: the best of many rounds of `times` calls, library and reference by turns.
     pub fn time(&mut self, operation: Operation, times: usize) -> Times {
-        let mut best = Times { library: f64::INFINITY, reference: f64::INFINITY };
+        let mut best = Times::WORST;
         for _ in 0..ROUNDS {
             let library = self.round(&mut Library, operation, times);
             let (answers, cursor) = (self.call.answers.clone(), self.call.cursor.clone());
             let reference = self.round(&mut ByRules, operation, times);
             assert!(answers == self.call.answers && cursor == self.call.cursor, "both do the same");
-            best = Times { library: best.library.min(library), reference: best.reference.min(reference) };
+            best = best.min(Times { library, reference });
         }
         best
     }
