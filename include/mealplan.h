@@ -59,6 +59,22 @@ uint32_t plan_spread(const uint8_t *plan, size_t plan_len,
                      uint8_t *out, size_t out_len,
                      uint64_t *written, uint64_t *position);
 
+/* Walk from the place in cursor, a letter at a time: a, z to the root of the first,
+   last tree; f, l to the first, last child; n, p to the next, previous sibling; u to
+   the parent; s stays. Each letter gives a word of answers: the label of the node
+   arrived at, or 65535 for nowhere, and then the place is kept. A cursor whose first
+   8 bytes are 0 is above the forest, from where only a and z lead. work as for
+   plan_measure; cursor needs 32 bytes a rule and 32 more, answers 2 bytes a letter,
+   else 8. Accepted: cursor holds the new place and, as far as it is needed, zeros
+   after it; its later bytes and those of answers stay. Refused (9 for a byte that is
+   no letter, 10 for cells that are no place): cursor and answers are untouched. */
+uint32_t plan_walk(const uint8_t *plan, size_t plan_len,
+                   uint8_t *work, size_t work_len,
+                   uint8_t *cursor, size_t cursor_len,
+                   const uint8_t *letters, size_t letters_len,
+                   uint8_t *answers, size_t answers_len,
+                   uint64_t *position);
+
 #ifdef __cplusplus
 }
 #endif

@@ -1,0 +1,62 @@
+//! The C interface as include/mealplan.h declares it. Every pointer is valid for its length and never null, also where the length
+//! is 0; what is written lies apart from everything else in the call.
+
+unsafe extern "C" {
+    pub fn plan_check(plan: *const u8, plan_len: usize, n: *mut u16, start: *mut u16, position: *mut u64) -> u32;
+
+    pub fn plan_seal(
+        words: *const u8,
+        words_len: usize,
+        start: u16,
+        out: *mut u8,
+        out_len: usize,
+        written: *mut u64,
+        position: *mut u64,
+    ) -> u32;
+
+    pub fn plan_unseal(
+        plan: *const u8,
+        plan_len: usize,
+        out: *mut u8,
+        out_len: usize,
+        n: *mut u16,
+        start: *mut u16,
+        position: *mut u64,
+    ) -> u32;
+
+    pub fn plan_measure(
+        plan: *const u8,
+        plan_len: usize,
+        work: *mut u8,
+        work_len: usize,
+        trees: *mut u64,
+        entries: *mut u64,
+        levels: *mut u64,
+        position: *mut u64,
+    ) -> u32;
+
+    pub fn plan_spread(
+        plan: *const u8,
+        plan_len: usize,
+        work: *mut u8,
+        work_len: usize,
+        out: *mut u8,
+        out_len: usize,
+        written: *mut u64,
+        position: *mut u64,
+    ) -> u32;
+
+    pub fn plan_walk(
+        plan: *const u8,
+        plan_len: usize,
+        work: *mut u8,
+        work_len: usize,
+        cursor: *mut u8,
+        cursor_len: usize,
+        letters: *const u8,
+        letters_len: usize,
+        answers: *mut u8,
+        answers_len: usize,
+        position: *mut u64,
+    ) -> u32;
+}

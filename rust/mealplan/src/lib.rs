@@ -1,0 +1,142 @@
+//! The meal plan walker for Rust: safe functions over the proved C interface (include/mealplan.h).
+//!
+//! Each function answers `Ok` with the values that document 01 gives, or `Err` with the refusal. Slices of 16-bit words are bytes, two
+//! to a word, low first; an odd last byte isn't counted. What a call writes is lent by `&mut`, so it lies apart from all else, and a
+//! Rust slice's pointer is never null: the borrow checker meets all that the header asks of a caller.
+
+pub mod c;
+
+/// A call turned down: document 01's number, and the position (the rule for 4 to 6, the letter's place for 9, else 0).
+#[derive(Clone, Copy, PartialEq, Eq, Debug)]
+pub struct Refused {
+    pub number: u32,
+    pub position: u64,
+}
+
+/// The number of rules of an accepted plan, and its start rule.
+#[derive(Clone, Copy, PartialEq, Eq, Debug, Default)]
+pub struct Checked {
+    pub n: u16,
+    pub start: u16,
+}
+
+/// The size of a plan's forest.
+#[derive(Clone, Copy, PartialEq, Eq, Debug, Default)]
+pub struct Measured {
+    pub trees: u64,
+    pub entries: u64,
+    pub levels: u64,
+}
+
+/// The word among the answers for a letter that leads nowhere.
+pub const NOWHERE: u16 = 65_535;
+
+/// The values, unless the C function returned a refusal's number.
+fn answer<T>(number: u32, position: u64, values: T) -> Result<T, Refused> {
+    if number == 0 { Ok(values) } else { Err(Refused { number, position }) }
+}
+
+/// Checks a plan.
+pub fn check(plan: &[u8]) -> Result<Checked, Refused> {
+    let mut checked = Checked::default();
+    let mut position = 0;
+    // SAFETY: the slice is valid for its length; the numbers are distinct locals.
+    let number = unsafe { c::plan_check(plan.as_ptr(), plan.len(), &mut checked.n, &mut checked.start, &mut position) };
+    answer(number, position, checked)
+}
+
+/// Writes rule words, four to a rule, as a plan without cover at the front of `out`; gives its length.
+pub fn seal(words: &[u8], start: u16, out: &mut [u8]) -> Result<u64, Refused> {
+    let (mut written, mut position) = (0, 0);
+    // SAFETY: as in `check`; `out` is borrowed for writing, so it lies apart from `words`.
+    let number = unsafe {
+        c::plan_seal(words.as_ptr(), words.len(), start, out.as_mut_ptr(), out.len(), &mut written, &mut position)
+    };
+    answer(number, position, written)
+}
+
+/// Writes a plan's rule words at the front of `out`.
+pub fn unseal(plan: &[u8], out: &mut [u8]) -> Result<Checked, Refused> {
+    let mut checked = Checked::default();
+    let mut position = 0;
+    // SAFETY: as in `seal`.
+    let number = unsafe {
+        c::plan_unseal(
+            plan.as_ptr(),
+            plan.len(),
+            out.as_mut_ptr(),
+            out.len(),
+            &mut checked.n,
+            &mut checked.start,
+            &mut position,
+        )
+    };
+    answer(number, position, checked)
+}
+
+/// Counts a plan's trees, entries and levels. `work` needs 64 bytes a rule.
+pub fn measure(plan: &[u8], work: &mut [u8]) -> Result<Measured, Refused> {
+    let mut measured = Measured::default();
+    let mut position = 0;
+    // SAFETY: as in `seal`.
+    let number = unsafe {
+        c::plan_measure(
+            plan.as_ptr(),
+            plan.len(),
+            work.as_mut_ptr(),
+            work.len(),
+            &mut measured.trees,
+            &mut measured.entries,
+            &mut measured.levels,
+            &mut position,
+        )
+    };
+    answer(number, position, measured)
+}
+
+/// Writes a plan's forest as text at the front of `out`; gives the text's length.
+pub fn spread(plan: &[u8], work: &mut [u8], out: &mut [u8]) -> Result<u64, Refused> {
+    let (mut written, mut position) = (0, 0);
+    // SAFETY: as in `seal`; `work` and `out` are borrowed for writing, so they lie apart.
+    let number = unsafe {
+        c::plan_spread(
+            plan.as_ptr(),
+            plan.len(),
+            work.as_mut_ptr(),
+            work.len(),
+            out.as_mut_ptr(),
+            out.len(),
+            &mut written,
+            &mut position,
+        )
+    };
+    answer(number, position, written)
+}
+
+/// Walks from the place stored in `cursor` by `letters`; each gives a word of `answers`: a label, or [`NOWHERE`].
+pub fn walk(
+    plan: &[u8],
+    work: &mut [u8],
+    cursor: &mut [u8],
+    letters: &[u8],
+    answers: &mut [u8],
+) -> Result<(), Refused> {
+    let mut position = 0;
+    // SAFETY: as in `spread`.
+    let number = unsafe {
+        c::plan_walk(
+            plan.as_ptr(),
+            plan.len(),
+            work.as_mut_ptr(),
+            work.len(),
+            cursor.as_mut_ptr(),
+            cursor.len(),
+            letters.as_ptr(),
+            letters.len(),
+            answers.as_mut_ptr(),
+            answers.len(),
+            &mut position,
+        )
+    };
+    answer(number, position, ())
+}

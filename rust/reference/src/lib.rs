@@ -1,0 +1,62 @@
+//! The six operations on meal plans, written from document 01 and Reh and Sieber's paper alone, so that the proved library has
+//! something to be compared with. It is written twice over the same format ([`plan`]):
+//!
+//! - [`unfolded`] unfolds the forest into memory, gives every node its place and walks with a finger, word for word as document 01
+//!   says it. It needs small forests.
+//! - [`rules`] never unfolds: tables of rules, O(log n) a letter. It walks forests of any size, and the benchmark compares with it.
+//!
+//! Every operation takes the same lent slices as the C interface and leaves the same bytes in them.
+#![forbid(unsafe_code)]
+
+pub mod place;
+pub mod plan;
+pub mod refusal;
+pub mod rules;
+pub mod unfolded;
+pub mod words;
+
+pub use refusal::{Refused, Why};
+
+/// The number of rules of an accepted plan, and its start rule.
+#[derive(Clone, Copy, PartialEq, Eq, Debug)]
+pub struct Checked {
+    pub n: u16,
+    pub start: u16,
+}
+
+/// The size of a plan's forest.
+#[derive(Clone, Copy, PartialEq, Eq, Debug)]
+pub struct Measured {
+    pub trees: u64,
+    pub entries: u64,
+    pub levels: u64,
+}
+
+/// The eight letters of a walk.
+pub const LETTERS: [u8; 8] = *b"azflnpus";
+
+/// The word among the answers for a letter that leads nowhere.
+pub const NOWHERE: u16 = 65_535;
+
+/// The place of the first byte that is no letter: refusal 9.
+pub fn first_stranger(letters: &[u8]) -> Option<usize> {
+    letters.iter().position(|letter| !LETTERS.contains(letter))
+}
+
+/// Left or right: of a pair, of a join, of the hole in a part.
+#[derive(Clone, Copy, PartialEq, Eq, Debug)]
+pub enum Side {
+    Left,
+    Right,
+}
+
+impl Side {
+    pub const BOTH: [Side; 2] = [Side::Left, Side::Right];
+
+    pub fn other(self) -> Side {
+        match self {
+            Side::Left => Side::Right,
+            Side::Right => Side::Left,
+        }
+    }
+}

@@ -1,0 +1,206 @@
+//! The format of a plan: rules, check, seal and unseal.
+use crate::words;
+use crate::{Checked, Refused, Why};
+
+pub const MAX_RULES: usize = 1024;
+/// Bytes of a rule.
+pub const RECORD: usize = 8;
+/// Bytes of the trailer: n, start, distance, mark.
+pub const TRAILER: usize = 10;
+pub const MARK: [u8; 2] = [0x6D, 0x70];
+pub const MAX_LABEL: u16 = 255;
+/// Words of work that measure, spread and walk need for each rule.
+pub const WORK_WORDS: usize = 32;
+/// Bytes of work that n rules need.
+pub const fn work_bytes(n: usize) -> usize {
+    2 * WORK_WORDS * n
+}
+/// Bytes of cursor that n rules need: 16 × (n + 1) words.
+pub const fn cursor_bytes(n: usize) -> usize {
+    32 * (n + 1)
+}
+
+/// A rule by its right-hand side: the rules named, and first a node's label.
+#[derive(Clone, Copy, PartialEq, Eq, Debug)]
+pub enum Rule {
+    Empty,
+    Pair(u16, u16),
+    Node(u16, u16),
+    Fill(u16, u16),
+    Part(u16, u16, u16),
+    Join(u16, u16),
+}
+
+/// What a word that names a rule asks of it: a bit for each kind that the rule may have.
+#[derive(Clone, Copy, PartialEq, Eq, Debug)]
+pub struct Sort(u8);
+
+impl Sort {
+    pub const CLOSED: Sort = Sort(0b00_1111);
+    pub const TREE: Sort = Sort(0b00_1100);
+    pub const HOLED: Sort = Sort(0b11_0000);
+
+    /// Whether a rule of this kind is of the sort.
+    pub fn has(self, kind: u16) -> bool {
+        kind < Rule::KINDS && self.0 >> kind & 1 == 1
+    }
+}
+
+impl Rule {
+    pub const KINDS: u16 = 6;
+
+    /// The rule that four words of an accepted plan mean.
+    pub fn of([kind, a, b, c]: [u16; 4]) -> Rule {
+        match kind {
+            0 => Rule::Empty,
+            1 => Rule::Pair(a, b),
+            2 => Rule::Node(a, b),
+            3 => Rule::Fill(a, b),
+            4 => Rule::Part(a, b, c),
+            _ => Rule::Join(a, b),
+        }
+    }
+
+    pub fn words(self) -> [u16; 4] {
+        match self {
+            Rule::Empty => [0, 0, 0, 0],
+            Rule::Pair(b, c) => [1, b, c, 0],
+            Rule::Node(label, c) => [2, label, c, 0],
+            Rule::Fill(b, c) => [3, b, c, 0],
+            Rule::Part(label, l, r) => [4, label, l, r],
+            Rule::Join(b, c) => [5, b, c, 0],
+        }
+    }
+}
+
+/// The rules that four words name, with the sort that each must have (the only one of a node twice), or none; an error if the words are
+/// no rule: a kind above 5, a label above 255, an unused word that isn't 0.
+fn names(words: [u16; 4]) -> Result<Option<[(u16, Sort); 2]>, Why> {
+    match words {
+        [0, 0, 0, 0] => Ok(None),
+        [1, b, c, 0] => Ok(Some([(b, Sort::CLOSED), (c, Sort::CLOSED)])),
+        [2, 0..=MAX_LABEL, c, 0] => Ok(Some([(c, Sort::CLOSED), (c, Sort::CLOSED)])),
+        [3, b, c, 0] => Ok(Some([(b, Sort::HOLED), (c, Sort::TREE)])),
+        [4, 0..=MAX_LABEL, l, r] => Ok(Some([(l, Sort::CLOSED), (r, Sort::CLOSED)])),
+        [5, b, c, 0] => Ok(Some([(b, Sort::HOLED), (c, Sort::HOLED)])),
+        _ => Err(Why::Record),
+    }
+}
+
+/// The records of a plan, rule 0 first.
+#[derive(Clone, Copy)]
+pub struct Rules<'a>(&'a [[u8; RECORD]]);
+
+impl<'a> Rules<'a> {
+    /// The records in these bytes; a rest of fewer than 8 bytes isn't one.
+    pub fn of(bytes: &'a [u8]) -> Rules<'a> {
+        Rules(bytes.as_chunks().0)
+    }
+
+    pub fn count(self) -> usize {
+        self.0.len()
+    }
+
+    pub fn bytes(self) -> &'a [u8] {
+        self.0.as_flattened()
+    }
+
+    fn kind(self, rule: u16) -> u16 {
+        words::get(&self.0[usize::from(rule)], 0)
+    }
+
+    /// A rule of an accepted plan.
+    pub fn get(self, rule: u16) -> Rule {
+        Rule::of(words::unpack(self.0[usize::from(rule)]))
+    }
+
+    /// Refusals 4 to 6 of one rule.
+    fn judge_rule(self, number: usize) -> Result<(), Why> {
+        let Some([(b, sort_of_b), (c, sort_of_c)]) = names(words::unpack(self.0[number]))? else { return Ok(()) };
+        if usize::from(b.max(c)) >= number {
+            return Err(Why::NotLower);
+        }
+        if !sort_of_b.has(self.kind(b)) || !sort_of_c.has(self.kind(c)) {
+            return Err(Why::Sort);
+        }
+        Ok(())
+    }
+
+    /// Refusals 4 to 7, in document 01's order.
+    fn judge(self, start: u16) -> Result<(), Refused> {
+        for number in 0..self.count() {
+            self.judge_rule(number).map_err(|why| why.at(number))?;
+        }
+        if usize::from(start) >= self.count() || !Sort::CLOSED.has(self.kind(start)) {
+            return Err(Why::Start.here());
+        }
+        Ok(())
+    }
+}
+
+/// An accepted plan.
+#[derive(Clone, Copy)]
+pub struct Plan<'a> {
+    pub rules: Rules<'a>,
+    pub start: u16,
+}
+
+impl Plan<'_> {
+    pub fn checked(&self) -> Checked {
+        Checked { n: self.rules.count() as u16, start: self.start }
+    }
+}
+
+/// Reads and checks a plan: refusals 1 to 7.
+pub fn read(bytes: &[u8]) -> Result<Plan<'_>, Refused> {
+    let (body, trailer) = bytes.split_last_chunk::<TRAILER>().ok_or(Why::Mark.here())?;
+    let [n0, n1, s0, s1, d0, d1, d2, d3, mark @ ..] = *trailer;
+    if mark != MARK {
+        return Err(Why::Mark.here());
+    }
+    let n = usize::from(u16::from_le_bytes([n0, n1]));
+    if n == 0 || n > MAX_RULES {
+        return Err(Why::Count.here());
+    }
+    let distance = u32::from_le_bytes([d0, d1, d2, d3]) as usize;
+    if distance != RECORD * n || distance > body.len() {
+        return Err(Why::Distance.here());
+    }
+    let rules = Rules::of(&body[body.len() - distance..]);
+    let start = u16::from_le_bytes([s0, s1]);
+    rules.judge(start)?;
+    Ok(Plan { rules, start })
+}
+
+pub fn check(plan: &[u8]) -> Result<Checked, Refused> {
+    Ok(read(plan)?.checked())
+}
+
+/// Writes rule words as a plan without cover; gives its length.
+pub fn seal(words: &[u8], start: u16, out: &mut [u8]) -> Result<u64, Refused> {
+    let (rules, n) = (Rules::of(words), words::count(words) / 4);
+    if words::count(words) != 4 * n || n == 0 || n > MAX_RULES {
+        return Err(Why::Count.here());
+    }
+    rules.judge(start)?;
+    let out = out.get_mut(..RECORD * n + TRAILER).ok_or(Why::Output.here())?;
+    let (records, end) = out.split_at_mut(RECORD * n);
+    records.copy_from_slice(rules.bytes());
+    end.copy_from_slice(&trailer(n, start));
+    Ok(out.len() as u64)
+}
+
+pub fn trailer(n: usize, start: u16) -> [u8; TRAILER] {
+    let [n0, n1] = (n as u16).to_le_bytes();
+    let [s0, s1] = start.to_le_bytes();
+    let [d0, d1, d2, d3] = ((RECORD * n) as u32).to_le_bytes();
+    [n0, n1, s0, s1, d0, d1, d2, d3, MARK[0], MARK[1]]
+}
+
+/// Writes a plan's rule words at the front of `out`.
+pub fn unseal(plan: &[u8], out: &mut [u8]) -> Result<Checked, Refused> {
+    let plan = read(plan)?;
+    let words = plan.rules.bytes();
+    out.get_mut(..words.len()).ok_or(Why::Output.here())?.copy_from_slice(words);
+    Ok(plan.checked())
+}

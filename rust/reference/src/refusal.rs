@@ -1,0 +1,46 @@
+//! The refusals of document 01.
+
+/// A call turned down: the refusal's number, and the position (the rule for 4 to 6, the letter's place for 9, else 0).
+#[derive(Clone, Copy, PartialEq, Eq, Debug)]
+pub struct Refused {
+    pub number: u32,
+    pub position: u64,
+}
+
+/// What a call is turned down for; the value is document 01's number.
+#[derive(Clone, Copy, PartialEq, Eq, Debug)]
+pub enum Why {
+    /// Fewer than 10 bytes, or a wrong mark.
+    Mark = 1,
+    /// The number of rules is 0 or above 1,024.
+    Count = 2,
+    /// The distance isn't 8 × n or goes back before the first byte.
+    Distance = 3,
+    /// A kind above 5, a label above 255, an unused word that isn't 0.
+    Record = 4,
+    /// A rule names one that isn't lower.
+    NotLower = 5,
+    /// A rule names one of the wrong sort.
+    Sort = 6,
+    /// The start isn't below n or isn't closed.
+    Start = 7,
+    /// Work, cursor or answers are too short.
+    Lent = 8,
+    /// A byte that is no letter.
+    Letter = 9,
+    /// The stored cells aren't a place of this forest.
+    Place = 10,
+    /// Output too short, or more than 2^64 − 1 nodes.
+    Output = 11,
+}
+
+impl Why {
+    pub fn at(self, position: usize) -> Refused {
+        Refused { number: self as u32, position: position as u64 }
+    }
+
+    /// The refusal, whose position is 0.
+    pub fn here(self) -> Refused {
+        self.at(0)
+    }
+}

@@ -1,0 +1,62 @@
+//! The operations by rules alone: tables of rules in the lent work, nothing unfolded, nothing allocated.
+//!
+//! A good walker without proofs, for plans of any size: it serves as the second opinion and as the benchmark's other side.
+mod counts;
+mod moves;
+mod stored;
+mod table;
+mod text;
+
+use crate::plan::{self, Plan, cursor_bytes, work_bytes};
+use crate::words;
+use crate::{Measured, Refused, Why, first_stranger};
+use moves::Walker;
+use table::Table;
+
+/// Runs a use of the words of work that a plan needs, and clears them; 8 if there are fewer.
+fn with_work<T>(plan: &Plan, work: &mut [u8], run: impl FnOnce(&mut [u8]) -> Result<T, Refused>) -> Result<T, Refused> {
+    let work = work.get_mut(..work_bytes(plan.rules.count())).ok_or(Why::Lent.here())?;
+    let outcome = run(work);
+    work.fill(0);
+    outcome
+}
+
+pub fn measure(plan: &[u8], work: &mut [u8]) -> Result<Measured, Refused> {
+    let plan = plan::read(plan)?;
+    with_work(&plan, work, |work| counts::of_start(&plan, work).ok_or(Why::Output.here()))
+}
+
+pub fn spread(plan: &[u8], work: &mut [u8], out: &mut [u8]) -> Result<u64, Refused> {
+    let plan = plan::read(plan)?;
+    with_work(&plan, work, |work| {
+        let entries = counts::of_start(&plan, work).ok_or(Why::Output.here())?.entries;
+        let length = entries.checked_mul(3).filter(|length| *length <= out.len() as u64).ok_or(Why::Output.here())?;
+        text::write(&Table::build(&plan, work).0, plan.start, &mut out[..length as usize]);
+        Ok(length)
+    })
+}
+
+pub fn walk(
+    plan: &[u8],
+    work: &mut [u8],
+    cursor: &mut [u8],
+    letters: &[u8],
+    answers: &mut [u8],
+) -> Result<(), Refused> {
+    let plan = plan::read(plan)?;
+    let needed = cursor_bytes(plan.rules.count());
+    if cursor.len() < needed || words::count(answers) < letters.len() {
+        return Err(Why::Lent.here());
+    }
+    with_work(&plan, work, |work| {
+        if let Some(position) = first_stranger(letters) {
+            return Err(Why::Letter.at(position));
+        }
+        let mut walker = Walker::at(&plan, work, &mut cursor[..needed]).ok_or(Why::Place.here())?;
+        for (answer, letter) in answers.as_chunks_mut().0.iter_mut().zip(letters) {
+            *answer = walker.answer(*letter).to_le_bytes();
+        }
+        walker.store();
+        Ok(())
+    })
+}

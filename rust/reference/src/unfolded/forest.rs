@@ -1,0 +1,94 @@
+//! A forest in memory, every node of which carries its place.
+use crate::Measured;
+use crate::place::Cell;
+use std::collections::HashMap;
+
+/// A tree: its root's label and place, and the trees below.
+pub struct Tree {
+    pub label: u16,
+    pub place: Vec<Cell>,
+    pub children: Vec<Tree>,
+}
+
+/// A list of trees, and the path to each place.
+pub struct Forest {
+    pub trees: Vec<Tree>,
+    paths: HashMap<Vec<Cell>, Vec<usize>>,
+}
+
+impl Forest {
+    pub fn new(trees: Vec<Tree>) -> Forest {
+        let mut paths = HashMap::from([(Vec::new(), Vec::new())]);
+        note_paths(&trees, &mut Vec::new(), &mut paths);
+        Forest { trees, paths }
+    }
+
+    /// The trees below the node at a path; below the empty path, all trees.
+    pub fn children_at(&self, path: &[usize]) -> Option<&[Tree]> {
+        match path {
+            [] => Some(&self.trees),
+            _ => self.node_at(path).map(|node| node.children.as_slice()),
+        }
+    }
+
+    /// The node that a path of sibling numbers from 1 names, if it names one.
+    pub fn node_at(&self, path: &[usize]) -> Option<&Tree> {
+        let (last, above) = path.split_last()?;
+        let mut siblings = &self.trees;
+        for number in above {
+            siblings = &siblings.get(number.checked_sub(1)?)?.children;
+        }
+        siblings.get(last.checked_sub(1)?)
+    }
+
+    /// The cells of the node at a path; above the forest there are none.
+    pub fn place_at(&self, path: &[usize]) -> &[Cell] {
+        self.node_at(path).map_or(&[], |node| &node.place)
+    }
+
+    /// The path to the node with these cells, if there is one.
+    pub fn path_of(&self, place: &[Cell]) -> Option<Vec<usize>> {
+        self.paths.get(place).cloned()
+    }
+
+    /// The cells of every node, and none for above the forest.
+    pub fn places(&self) -> impl Iterator<Item = &Vec<Cell>> {
+        self.paths.keys()
+    }
+
+    pub fn measured(&self) -> Measured {
+        Measured { trees: self.trees.len() as u64, entries: entries(&self.trees), levels: levels(&self.trees) }
+    }
+
+    pub fn text(&self) -> Vec<u8> {
+        let mut text = Vec::new();
+        write_text(&self.trees, &mut text);
+        text
+    }
+}
+
+fn note_paths(trees: &[Tree], path: &mut Vec<usize>, paths: &mut HashMap<Vec<Cell>, Vec<usize>>) {
+    for (index, tree) in trees.iter().enumerate() {
+        path.push(index + 1);
+        let before = paths.insert(tree.place.clone(), path.clone());
+        assert!(before.is_none(), "two nodes with one place: {:?}", tree.place);
+        note_paths(&tree.children, path, paths);
+        path.pop();
+    }
+}
+
+fn entries(trees: &[Tree]) -> u64 {
+    trees.iter().map(|tree| 1 + entries(&tree.children)).sum()
+}
+
+fn levels(trees: &[Tree]) -> u64 {
+    trees.iter().map(|tree| 1 + levels(&tree.children)).max().unwrap_or(0)
+}
+
+fn write_text(trees: &[Tree], text: &mut Vec<u8>) {
+    for tree in trees {
+        text.extend([b'(', tree.label as u8]);
+        write_text(&tree.children, text);
+        text.push(b')');
+    }
+}

@@ -1,0 +1,73 @@
+//! The operations on the forest unfolded into memory, word for word as document 01 says them.
+pub mod finger;
+pub mod forest;
+pub mod places;
+
+use crate::place;
+use crate::plan::{self, Plan, cursor_bytes, work_bytes};
+use crate::words;
+use crate::{Measured, Refused, Why, first_stranger};
+use finger::Finger;
+use forest::Forest;
+
+/// A plan, its forest in memory, and the operations on it.
+pub struct Unfolded {
+    n: usize,
+    pub forest: Forest,
+}
+
+impl Unfolded {
+    /// Unfolds an accepted plan, unless its forest has more nodes than this.
+    pub fn of(plan: &[u8], most: usize) -> Option<Unfolded> {
+        let plan = plan::read(plan).ok()?;
+        Some(Unfolded { n: plan.rules.count(), forest: places::unfold(&plan, most)? })
+    }
+
+    /// Clears the words of work that n rules need; 8 if there are fewer.
+    fn take_work(&self, work: &mut [u8]) -> Result<(), Refused> {
+        work.get_mut(..work_bytes(self.n)).ok_or(Why::Lent.here())?.fill(0);
+        Ok(())
+    }
+
+    pub fn measure(&self, work: &mut [u8]) -> Result<Measured, Refused> {
+        self.take_work(work)?;
+        Ok(self.forest.measured())
+    }
+
+    pub fn spread(&self, work: &mut [u8], out: &mut [u8]) -> Result<u64, Refused> {
+        self.take_work(work)?;
+        let text = self.forest.text();
+        out.get_mut(..text.len()).ok_or(Why::Output.here())?.copy_from_slice(&text);
+        Ok(text.len() as u64)
+    }
+
+    pub fn walk(&self, work: &mut [u8], cursor: &mut [u8], letters: &[u8], answers: &mut [u8]) -> Result<(), Refused> {
+        if cursor.len() < cursor_bytes(self.n) || words::count(answers) < letters.len() {
+            return Err(Why::Lent.here());
+        }
+        self.take_work(work)?;
+        if let Some(position) = first_stranger(letters) {
+            return Err(Why::Letter.at(position));
+        }
+        let cursor = &mut cursor[..cursor_bytes(self.n)];
+        let mut finger = Finger { path: self.forest.path_of(&place::used(cursor)?).ok_or(Why::Place.here())? };
+        for (index, letter) in letters.iter().enumerate() {
+            words::put(answers, index, finger.answer(&self.forest, *letter));
+        }
+        place::store(self.forest.place_at(&finger.path), cursor);
+        Ok(())
+    }
+}
+
+/// The plan's rules that mean the empty forest: kind 0, and pairs of two such.
+pub(crate) fn empty_rules(plan: &Plan) -> Vec<bool> {
+    let mut empty = Vec::with_capacity(plan.rules.count());
+    for number in 0..plan.rules.count() {
+        empty.push(match plan.rules.get(number as u16) {
+            plan::Rule::Empty => true,
+            plan::Rule::Pair(b, c) => empty[usize::from(b)] && empty[usize::from(c)],
+            _ => false,
+        });
+    }
+    empty
+}

@@ -1,0 +1,137 @@
+//! Measures the proved library against the reference by rules, in one run and on the same buffers; prints the tables and writes them to
+//! docs/bench.md, with a plot in docs/bench.svg.
+mod plot;
+mod report;
+mod timing;
+mod tours;
+
+use report::Report;
+use std::path::PathBuf;
+use std::{fs, io};
+use timing::{Desk, Times};
+use tours::Tour;
+use trials::call::Operation;
+use trials::draft::Draft;
+use trials::families::{self, Growth};
+
+const SIZES: [usize; 4] = [8, 64, 256, 1024];
+const LETTERS: usize = 10_000;
+
+type Family = fn(usize) -> Draft;
+
+const FAMILIES: [(&str, Family); 4] = [
+    ("doubled rows", |n| families::rows(Growth::Doubled, n)),
+    ("doubled spines", |n| families::spine(Growth::Doubled, n)),
+    ("combs", |n| families::rows(Growth::Comb, n)),
+    ("zigzags", |n| families::rows(Growth::Zigzag, n)),
+];
+
+fn main() -> io::Result<()> {
+    let mut report = Report::new();
+    letters(&mut report);
+    nowhere(&mut report);
+    let by_entries = entries(&mut report);
+    calls(&mut report);
+    texts(&mut report);
+    print!("{}", report.text());
+    let docs: PathBuf = [env!("CARGO_MANIFEST_DIR"), "..", "..", "docs"].iter().collect();
+    fs::write(docs.join("bench.svg"), plot::by_entries(&by_entries))?;
+    fs::write(docs.join("bench.md"), report.text())
+}
+
+/// A letter's cost on a tour: a call with its letters less one without.
+fn cost(draft: &Draft, tour: &Tour) -> Times {
+    let mut desk = Desk::new(draft);
+    desk.go(&tour.begin);
+    let without = desk.time(Operation::Walk, 8);
+    desk.letters(&tour.letters);
+    (desk.time(Operation::Walk, 1) - without) / tour.letters.len() as f64
+}
+
+fn letters(report: &mut Report) {
+    report.section(
+        "A letter, by family and number of rules",
+        "Nanoseconds a letter: library / reference (the one by the other). A column's laps begin with a or z and repeat the letter for as long as it leads \
+         somewhere; those of u go down by f first. A lap's letters count all.",
+    );
+    report.header(&["family", "n", "f", "l", "n", "p", "u"]);
+    for (name, family) in FAMILIES {
+        for n in SIZES {
+            let draft = family(n);
+            let costs = b"flnpu".map(|letter| cost(&draft, &tours::repeating(&draft, letter, LETTERS)).shown());
+            report.row(name, n, &costs);
+        }
+    }
+}
+
+fn nowhere(report: &mut Report) {
+    report.section(
+        "A letter that leads nowhere",
+        "Nanoseconds a letter, as above, for u from the middle of the forest's own row, where in zigzags the place has most cells.",
+    );
+    report.header(&["family", "n", "u"]);
+    for (name, family) in FAMILIES {
+        for n in SIZES {
+            let draft = family(n);
+            report.row(name, n, &[cost(&draft, &tours::up_from_the_middle(&draft, LETTERS)).shown()]);
+        }
+    }
+}
+
+/// The cost of a letter by the number of entries, on one plan with one start after the other.
+fn entries(report: &mut Report) -> Vec<(String, Times)> {
+    report.section(
+        "A letter, by the number of entries",
+        "Nanoseconds a letter, as above, on one plan of 1,024 rules (rows doubled eight times, a node over each, and so on) whose start \
+         rule decides how large the forest is. Letters f, l, n, p, u at random, those that lead somewhere. ![plot](bench.svg)",
+    );
+    report.header(&["entries", "start", "f l n p u"]);
+    let mut draft = families::towers(1024);
+    let starts = tours::starts(&draft);
+    let mut costs: Vec<(String, Times)> = starts.iter().map(|(name, _)| (name.clone(), Times::WORST)).collect();
+    // Several passes, so that a busy moment of the machine falls on all points alike.
+    for _ in 0..5 {
+        for ((_, start), (_, best)) in starts.iter().zip(&mut costs) {
+            draft.start = *start;
+            *best = best.min(cost(&draft, &tours::wandering(&draft, LETTERS)));
+        }
+    }
+    for ((name, start), (_, times)) in starts.iter().zip(&costs) {
+        report.row(name, (*start).into(), &[times.shown()]);
+    }
+    costs
+}
+
+fn calls(report: &mut Report) {
+    report.section(
+        "A call",
+        "Microseconds a call: library / reference (the one by the other). The walk has no letters and stands above the forest.",
+    );
+    report.header(&["family", "n", "walk without letters", "check", "measure"]);
+    for (name, family) in FAMILIES {
+        for n in SIZES {
+            let mut draft = family(n);
+            let walk = Desk::new(&draft).time(Operation::Walk, 8) / 1000.0;
+            let check = Desk::new(&draft).time(Operation::Check, 64) / 1000.0;
+            tours::start_below(&mut draft, u64::MAX as f64 / 2.0);
+            let measure = Desk::new(&draft).time(Operation::Measure, 8) / 1000.0;
+            report.row(name, n, &[walk.shown(), check.shown(), measure.shown()]);
+        }
+    }
+}
+
+fn texts(report: &mut Report) {
+    report.section(
+        "Spread",
+        "Nanoseconds a byte of output: library / reference (the one by the other). The forest is the family's largest of at most 50,000 entries.",
+    );
+    report.header(&["family", "bytes", "spread"]);
+    for (name, family) in FAMILIES {
+        let (draft, entries) = tours::largest_below(family, 50_000.0);
+        let bytes = 3 * entries as usize;
+        let mut desk = Desk::new(&draft);
+        desk.room(bytes);
+        let spread = desk.time(Operation::Spread, 1) / bytes as f64;
+        report.row(name, bytes, &[spread.shown()]);
+    }
+}

@@ -1,0 +1,112 @@
+//! The clock: both implementations in turn on the same buffers, the best of many rounds.
+use std::ops::{Div, Sub};
+use std::time::Instant;
+use trials::call::{ByRules, Call, Implementation, Operation, Slices};
+use trials::draft::Draft;
+use trials::library::Library;
+
+const ROUNDS: usize = 100;
+
+/// Nanoseconds.
+#[derive(Clone, Copy)]
+pub struct Times {
+    pub library: f64,
+    pub reference: f64,
+}
+
+impl Times {
+    pub const WORST: Times = Times { library: f64::INFINITY, reference: f64::INFINITY };
+
+    pub fn min(self, other: Times) -> Times {
+        Times { library: self.library.min(other.library), reference: self.reference.min(other.reference) }
+    }
+
+    pub fn shown(self) -> String {
+        let Times { library, reference } = self;
+        let digits = if library.max(reference) < 10.0 { 2 } else { 1 };
+        format!("{library:.digits$} / {reference:.digits$} ({:.2})", library / reference)
+    }
+}
+
+impl Sub for Times {
+    type Output = Times;
+    fn sub(self, other: Times) -> Times {
+        Times { library: self.library - other.library, reference: self.reference - other.reference }
+    }
+}
+
+impl Div<f64> for Times {
+    type Output = Times;
+    fn div(self, by: f64) -> Times {
+        Times { library: self.library / by, reference: self.reference / by }
+    }
+}
+
+/// The buffers that a call is lent.
+pub struct Desk {
+    call: Call,
+    /// What the cursor holds before each round.
+    place: Vec<u8>,
+}
+
+impl Desk {
+    /// Buffers just large enough, written once; the place is above the forest.
+    pub fn new(draft: &Draft) -> Desk {
+        let call = Call::new(Operation::Walk, draft.plan(), draft.n());
+        Desk { place: call.cursor.clone(), call }
+    }
+
+    /// Goes to a place by letters.
+    pub fn go(&mut self, letters: &[u8]) {
+        self.letters(letters);
+        self.run(&mut ByRules, Operation::Walk);
+        self.place.copy_from_slice(&self.call.cursor);
+        self.letters(&[]);
+    }
+
+    pub fn letters(&mut self, letters: &[u8]) {
+        self.call = self.call.clone().with_letters(letters);
+    }
+
+    /// Gives the output so many bytes.
+    pub fn room(&mut self, bytes: usize) {
+        self.call.out = vec![1; bytes];
+    }
+
+    fn run(&mut self, implementation: &mut dyn Implementation, operation: Operation) {
+        let call = &mut self.call;
+        let lent = Slices {
+            plan: &call.plan,
+            start: call.start,
+            work: &mut call.work,
+            cursor: &mut call.cursor,
+            letters: &call.letters,
+            answers: &mut call.answers,
+            out: &mut call.out,
+        };
+        let outcome = implementation.run(operation, lent);
+        assert!(outcome.is_some_and(|outcome| outcome.is_ok()), "what is measured is accepted");
+    }
+
+    /// The time of one call: the best of many rounds of `times` calls, library and reference by turns.
+    pub fn time(&mut self, operation: Operation, times: usize) -> Times {
+        let mut best = Times::WORST;
+        for _ in 0..ROUNDS {
+            let library = self.round(&mut Library, operation, times);
+            let (answers, cursor) = (self.call.answers.clone(), self.call.cursor.clone());
+            let reference = self.round(&mut ByRules, operation, times);
+            assert!(answers == self.call.answers && cursor == self.call.cursor, "both do the same");
+            best = best.min(Times { library, reference });
+        }
+        best
+    }
+
+    fn round(&mut self, implementation: &mut dyn Implementation, operation: Operation, times: usize) -> f64 {
+        self.call.cursor.copy_from_slice(&self.place);
+        let began = Instant::now();
+        for _ in 0..times {
+            self.run(implementation, operation);
+        }
+        began.elapsed().as_nanos() as f64 / times as f64
+    }
+}

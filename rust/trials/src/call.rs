@@ -1,0 +1,158 @@
+//! A call with the slices that it is lent, and what an implementation makes of it.
+use reference::{Checked, Measured, Refused, rules, unfolded::Unfolded};
+use reference::{plan, plan::cursor_bytes, plan::work_bytes};
+
+#[derive(Clone, Copy, PartialEq, Eq, PartialOrd, Ord, Debug)]
+pub enum Operation {
+    Check,
+    Seal,
+    Unseal,
+    Measure,
+    Spread,
+    Walk,
+}
+
+impl Operation {
+    pub const ALL: [Operation; 6] =
+        [Operation::Check, Operation::Seal, Operation::Unseal, Operation::Measure, Operation::Spread, Operation::Walk];
+
+    /// Whether the operation is lent work.
+    pub fn works(self) -> bool {
+        matches!(self, Operation::Measure | Operation::Spread | Operation::Walk)
+    }
+}
+
+/// A call: the operation and what every slice holds before it. Slices that the operation isn't lent are empty.
+#[derive(Clone)]
+pub struct Call {
+    pub operation: Operation,
+    /// The plan; for seal the rule words.
+    pub plan: Vec<u8>,
+    /// Seal's start.
+    pub start: u16,
+    pub work: Vec<u8>,
+    pub cursor: Vec<u8>,
+    pub letters: Vec<u8>,
+    pub answers: Vec<u8>,
+    pub out: Vec<u8>,
+}
+
+impl Call {
+    /// A call on a plan of n rules with as much work, cursor and answers as it needs.
+    pub fn new(operation: Operation, plan: Vec<u8>, n: usize) -> Call {
+        let mut call = Call {
+            operation,
+            plan,
+            start: 0,
+            work: Vec::new(),
+            cursor: Vec::new(),
+            letters: Vec::new(),
+            answers: Vec::new(),
+            out: Vec::new(),
+        };
+        if operation.works() {
+            call.work = vec![0x5A; work_bytes(n)];
+        }
+        if operation == Operation::Walk {
+            call.cursor = vec![0; cursor_bytes(n)];
+        }
+        call
+    }
+
+    /// The same call with these letters, and answers for them.
+    pub fn with_letters(mut self, letters: &[u8]) -> Call {
+        self.letters = letters.to_vec();
+        self.answers = vec![0xA5; 2 * letters.len()];
+        self
+    }
+}
+
+/// The slices of a call as they are lent.
+pub struct Slices<'a> {
+    pub plan: &'a [u8],
+    pub start: u16,
+    pub work: &'a mut [u8],
+    pub cursor: &'a mut [u8],
+    pub letters: &'a [u8],
+    pub answers: &'a mut [u8],
+    pub out: &'a mut [u8],
+}
+
+/// The values that an accepted call gives.
+#[derive(Clone, Copy, PartialEq, Eq, Debug)]
+pub enum Values {
+    Checked(Checked),
+    Length(u64),
+    Measured(Measured),
+    Walked,
+}
+
+pub type Outcome = Result<Values, Refused>;
+
+/// An implementation of the six operations. One that can't take a call on says so by `None`.
+pub trait Implementation {
+    fn name(&self) -> &'static str;
+    fn run(&mut self, operation: Operation, lent: Slices) -> Option<Outcome>;
+}
+
+/// The reference by rules.
+pub struct ByRules;
+
+impl Implementation for ByRules {
+    fn name(&self) -> &'static str {
+        "the reference by rules"
+    }
+
+    fn run(&mut self, operation: Operation, lent: Slices) -> Option<Outcome> {
+        Some(match operation {
+            Operation::Check => plan::check(lent.plan).map(Values::Checked),
+            Operation::Seal => plan::seal(lent.plan, lent.start, lent.out).map(Values::Length),
+            Operation::Unseal => plan::unseal(lent.plan, lent.out).map(Values::Checked),
+            Operation::Measure => rules::measure(lent.plan, lent.work).map(Values::Measured),
+            Operation::Spread => rules::spread(lent.plan, lent.work, lent.out).map(Values::Length),
+            Operation::Walk => {
+                let walked = rules::walk(lent.plan, lent.work, lent.cursor, lent.letters, lent.answers);
+                walked.map(|()| Values::Walked)
+            }
+        })
+    }
+}
+
+/// The reference on the unfolded forest, for accepted plans of small ones. It keeps the last plan unfolded.
+#[derive(Default)]
+pub struct OnForest {
+    plan: Vec<u8>,
+    unfolded: Option<Unfolded>,
+}
+
+/// The most nodes that are unfolded.
+pub const MOST_NODES: usize = 3_000;
+
+impl OnForest {
+    /// The plan unfolded, unless it isn't one or its forest is too large.
+    pub fn unfold(&mut self, plan: &[u8]) -> Option<&Unfolded> {
+        if self.plan != plan {
+            self.plan = plan.to_vec();
+            self.unfolded = Unfolded::of(plan, MOST_NODES);
+        }
+        self.unfolded.as_ref()
+    }
+}
+
+impl Implementation for OnForest {
+    fn name(&self) -> &'static str {
+        "the reference on the unfolded forest"
+    }
+
+    fn run(&mut self, operation: Operation, lent: Slices) -> Option<Outcome> {
+        if !operation.works() {
+            return None;
+        }
+        let unfolded = self.unfold(lent.plan)?;
+        Some(match operation {
+            Operation::Measure => unfolded.measure(lent.work).map(Values::Measured),
+            Operation::Spread => unfolded.spread(lent.work, lent.out).map(Values::Length),
+            _ => unfolded.walk(lent.work, lent.cursor, lent.letters, lent.answers).map(|()| Values::Walked),
+        })
+    }
+}

@@ -1,0 +1,181 @@
+//! Plans with a shape in mind.
+use crate::draft::Draft;
+use crate::random::Random;
+use reference::plan::{MAX_RULES, Rule};
+
+/// The sample plan of document 01.
+pub fn sample() -> Draft {
+    let rules = [
+        Rule::Empty,
+        Rule::Node(97, 0),
+        Rule::Node(98, 0),
+        Rule::Pair(1, 2),
+        Rule::Part(99, 3, 2),
+        Rule::Join(4, 4),
+        Rule::Fill(5, 1),
+        Rule::Pair(6, 3),
+    ];
+    Draft { records: rules.map(Rule::words).to_vec(), start: 7, prefix: Vec::new() }
+}
+
+/// An empty rule, and a leaf over it.
+fn ground(draft: &mut Draft) -> (u16, u16) {
+    let empty = draft.add(Rule::Empty);
+    (empty, draft.add(Rule::Node(u16::from(b'a'), empty)))
+}
+
+/// What a family does to a row or to a holed rule, over and over.
+#[derive(Clone, Copy, PartialEq, Eq, Debug)]
+pub enum Growth {
+    /// The thing twice.
+    Doubled,
+    /// One more after it, so that the way to the first is all left steps.
+    Comb,
+    /// One more by turns before and after it, so that the way to the middle turns at each step.
+    Zigzag,
+    /// The thing beside an empty rule: one-sided pairs in a chain, then twice. Holed rules have no such pairs and double.
+    OneSided,
+}
+
+impl Growth {
+    pub const ALL: [Growth; 4] = [Growth::Doubled, Growth::Comb, Growth::Zigzag, Growth::OneSided];
+
+    /// The two sides of the next rule, from what is grown and what it is grown by.
+    fn sides(self, step: usize, thing: u16, by: u16, empty: u16) -> (u16, u16) {
+        match self {
+            Growth::Doubled => (thing, thing),
+            Growth::Comb => (thing, by),
+            Growth::Zigzag if step.is_multiple_of(2) => (thing, by),
+            Growth::Zigzag => (by, thing),
+            Growth::OneSided if step.is_multiple_of(3) => (thing, thing),
+            Growth::OneSided if step % 3 == 1 => (thing, empty),
+            Growth::OneSided => (empty, thing),
+        }
+    }
+}
+
+/// Grows a row from a closed rule by `steps` rules.
+fn row(draft: &mut Draft, growth: Growth, steps: usize, first: u16, empty: u16) -> u16 {
+    let mut row = first;
+    for step in 0..steps {
+        let (b, c) = growth.sides(step, row, first, empty);
+        row = draft.add(Rule::Pair(b, c));
+    }
+    row
+}
+
+/// Rows of trees over rows of leaves: half of the rules grow either.
+pub fn rows(growth: Growth, n: usize) -> Draft {
+    let mut draft = Draft::default();
+    let (empty, leaf) = ground(&mut draft);
+    let steps = n.saturating_sub(3);
+    let below = row(&mut draft, growth, steps / 2, leaf, empty);
+    let tree = draft.add(Rule::Node(u16::from(b'b'), below));
+    row(&mut draft, growth, steps - steps / 2, tree, empty);
+    draft
+}
+
+/// One spine of parts with a leaf on either side of the hole.
+pub fn spine(growth: Growth, n: usize) -> Draft {
+    let mut draft = Draft::default();
+    let (_, leaf) = ground(&mut draft);
+    let part = draft.add(Rule::Part(u16::from(b'c'), leaf, leaf));
+    let mut spine = part;
+    let growth = if growth == Growth::OneSided { Growth::Doubled } else { growth };
+    for step in 0..n.saturating_sub(4) {
+        let (b, c) = growth.sides(step, spine, part, part);
+        spine = draft.add(Rule::Join(b, c));
+    }
+    draft.add(Rule::Fill(spine, leaf));
+    draft
+}
+
+/// Spines in the last holes of spines: each rule's C is the tree before it, and by turns one arm of the part is empty.
+pub fn chained(n: usize) -> Draft {
+    let mut draft = Draft::default();
+    let (empty, leaf) = ground(&mut draft);
+    let parts = [(leaf, empty), (empty, leaf), (empty, empty), (leaf, leaf)];
+    let parts = parts.map(|(l, r)| draft.add(Rule::Part(u16::from(b'd'), l, r)));
+    let mut tree = leaf;
+    for step in 0..n.saturating_sub(draft.n()) {
+        tree = draft.add(Rule::Fill(parts[step % 4], tree));
+    }
+    draft
+}
+
+/// Node over node, each beside leaves: every level is a row of its own.
+pub fn nested(n: usize) -> Draft {
+    let mut draft = Draft::default();
+    let (empty, leaf) = ground(&mut draft);
+    let mut forest = empty;
+    while draft.n() + 3 <= n {
+        let before = draft.add(Rule::Pair(leaf, forest));
+        let row = draft.add(Rule::Pair(before, leaf));
+        forest = draft.add(Rule::Node(u16::from(b'e'), row));
+    }
+    draft
+}
+
+/// Example 1 of Reh and Sieber's paper: trees both wide and deep, F_i with the trees H of both sides as the forest.
+pub fn paper(depth: usize) -> Draft {
+    let mut draft = Draft::default();
+    let empty = draft.add(Rule::Empty);
+    let leaf = [b'a', b'b'].map(|label| draft.add(Rule::Node(label.into(), empty)));
+    let mut wide = draft.add(Rule::Pair(leaf[0], leaf[1]));
+    let mut deep = draft.add(Rule::Part(u16::from(b'b'), empty, empty));
+    for _ in 0..depth {
+        wide = draft.add(Rule::Pair(wide, wide));
+        deep = draft.add(Rule::Join(deep, deep));
+    }
+    let mut tree = |l: u16, r: u16, content: u16| {
+        let part = draft.add(Rule::Part(u16::from(b'c'), l, r));
+        let below = draft.add(Rule::Join(deep, part));
+        let spine = draft.add(Rule::Join(part, below));
+        draft.add(Rule::Fill(spine, content))
+    };
+    let (first, second) = (tree(wide, leaf[1], leaf[0]), tree(leaf[0], wide, leaf[1]));
+    draft.add(Rule::Pair(first, second));
+    draft
+}
+
+/// Rows doubled eight times, a node over each: wide and deep at every size, about eight ninths of n doublings.
+pub fn towers(n: usize) -> Draft {
+    let mut draft = Draft::default();
+    let (_, mut forest) = ground(&mut draft);
+    while draft.n() < n {
+        forest = draft.add(match draft.n() % 9 {
+            0 => Rule::Node(u16::from(b'g'), forest),
+            _ => Rule::Pair(forest, forest),
+        });
+    }
+    draft
+}
+
+/// A row of exactly this many leaves, from doubled rows.
+pub fn leaves(count: u128) -> Draft {
+    let mut draft = Draft::default();
+    let (mut row, mut doubled) = ground(&mut draft);
+    for bit in 0..128 - count.leading_zeros() {
+        if bit > 0 {
+            doubled = draft.add(Rule::Pair(doubled, doubled));
+        }
+        if count >> bit & 1 == 1 {
+            row = draft.add(Rule::Pair(row, doubled));
+        }
+    }
+    draft.start = row;
+    draft
+}
+
+/// Any of the families, of at most this many rules.
+pub fn any(random: &mut Random, most: usize) -> Draft {
+    let n = random.between(8, most.clamp(8, MAX_RULES));
+    let growth = random.pick(&Growth::ALL);
+    match random.below(8) {
+        0..=2 => rows(growth, n),
+        3 | 4 => spine(growth, n),
+        5 => chained(n),
+        6 => nested(n),
+        _ => paper(n.saturating_sub(14) / 2),
+    }
+}

@@ -1,0 +1,71 @@
+//! What document 01 says of the lent slices, asked of every call whatever the implementations agree on.
+use crate::call::{Call, Operation, Outcome, Values};
+use reference::plan::{RECORD, TRAILER, cursor_bytes, work_bytes};
+use reference::{Why, words};
+
+/// Asks the laws of a call and of the slices after it.
+pub fn ask(before: &Call, outcome: &Outcome, after: &Call) {
+    assert!(before.plan == after.plan && before.letters == after.letters, "no call writes its plan or letters");
+    if before.operation == Operation::Seal {
+        return ask_front(&before.out, outcome, &after.out, outcome_length(outcome, 0));
+    }
+    let past = |why: Why| outcome.is_ok() || outcome.is_err_and(|refused| refused.number > why as u32);
+    let n = if past(Why::Start) { rules_of(&before.plan) } else { 0 };
+    if before.operation.works() {
+        let cleared = if past(Why::Lent) { work_bytes(n) } else { 0 };
+        assert!(after.work[..cleared].iter().all(|byte| *byte == 0), "past 8 work is zeros");
+        assert!(after.work[cleared..] == before.work[cleared..], "else work stays");
+    }
+    match before.operation {
+        Operation::Walk => ask_walk(before, outcome, after, n),
+        _ => ask_front(&before.out, outcome, &after.out, outcome_length(outcome, RECORD * n)),
+    }
+}
+
+/// The number of rules that an accepted plan's trailer gives.
+fn rules_of(plan: &[u8]) -> usize {
+    let at = plan.len() - TRAILER;
+    usize::from(u16::from_le_bytes([plan[at], plan[at + 1]]))
+}
+
+/// How many bytes of output an accepted call writes.
+fn outcome_length(outcome: &Outcome, unsealed: usize) -> usize {
+    match outcome {
+        Ok(Values::Length(length)) => *length as usize,
+        Ok(Values::Checked(_)) => unsealed,
+        _ => 0,
+    }
+}
+
+/// Output changes at its front alone; refused, nowhere. Check and measure have none.
+fn ask_front(before: &[u8], outcome: &Outcome, after: &[u8], written: usize) {
+    let written = if outcome.is_ok() { written.min(after.len()) } else { 0 };
+    assert!(before[written..] == after[written..], "later output stays");
+}
+
+fn ask_walk(before: &Call, outcome: &Outcome, after: &Call, n: usize) {
+    if outcome.is_err() {
+        assert!(before.cursor == after.cursor, "refused, the cursor is untouched");
+        assert!(before.answers == after.answers, "refused, answers are untouched");
+        return;
+    }
+    let (needed, answered) = (cursor_bytes(n), 2 * before.letters.len());
+    let (k, k_before) = (cells(&after.cursor), cells(&before.cursor));
+    assert!(k <= 3 * n, "k is at most 3 × n");
+    assert!(after.cursor[8 * (k + 1)..needed].iter().all(|byte| *byte == 0), "cells past k are zero");
+    assert!(after.cursor[needed..] == before.cursor[needed..], "words past those needed stay");
+    assert!(after.answers[answered..] == before.answers[answered..], "answers past the letters stay");
+    if before.letters.is_empty() {
+        assert!(after.cursor[..8 * (k + 1)] == before.cursor[..8 * (k + 1)], "no letters: the place stays");
+    }
+    if let [letter] = before.letters[..]
+        && !b"az".contains(&letter)
+    {
+        let same = 8 * (k.min(k_before).saturating_sub(16) + 1);
+        assert!(after.cursor[8..same] == before.cursor[8..same], "a letter changes the last sixteen cells at most");
+    }
+}
+
+fn cells(cursor: &[u8]) -> usize {
+    words::get(cursor, 0).into()
+}

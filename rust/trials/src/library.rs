@@ -1,0 +1,99 @@
+//! The proved library as an implementation: by the safe functions, and by the C functions themselves.
+use crate::call::{Implementation, Operation, Outcome, Slices, Values};
+use mealplan::c;
+use reference::{Checked, Measured, Refused};
+
+/// The library by the safe functions of crate `mealplan`.
+pub struct Library;
+
+fn checked(checked: mealplan::Checked) -> Values {
+    Values::Checked(Checked { n: checked.n, start: checked.start })
+}
+
+fn measured(counts: mealplan::Measured) -> Values {
+    Values::Measured(Measured { trees: counts.trees, entries: counts.entries, levels: counts.levels })
+}
+
+impl Implementation for Library {
+    fn name(&self) -> &'static str {
+        "the library"
+    }
+
+    fn run(&mut self, operation: Operation, lent: Slices) -> Option<Outcome> {
+        let answer = match operation {
+            Operation::Check => mealplan::check(lent.plan).map(checked),
+            Operation::Seal => mealplan::seal(lent.plan, lent.start, lent.out).map(Values::Length),
+            Operation::Unseal => mealplan::unseal(lent.plan, lent.out).map(checked),
+            Operation::Measure => mealplan::measure(lent.plan, lent.work).map(measured),
+            Operation::Spread => mealplan::spread(lent.plan, lent.work, lent.out).map(Values::Length),
+            Operation::Walk => {
+                let walked = mealplan::walk(lent.plan, lent.work, lent.cursor, lent.letters, lent.answers);
+                walked.map(|()| Values::Walked)
+            }
+        };
+        Some(answer.map_err(|refused| Refused { number: refused.number, position: refused.position }))
+    }
+}
+
+/// The library by its C functions: the numbers behind the pointers hold sentinels, which a refusal must leave, and an accepted call
+/// must set the position to 0.
+pub struct Interface;
+
+const SMALL: u16 = 0xBEEF;
+const LARGE: u64 = 0xFEED_FACE_CAFE_BEEF;
+
+impl Implementation for Interface {
+    fn name(&self) -> &'static str {
+        "the C interface"
+    }
+
+    fn run(&mut self, operation: Operation, lent: Slices) -> Option<Outcome> {
+        let Slices { plan, start, work, cursor, letters, answers, out } = lent;
+        let mut small = [SMALL; 2];
+        let mut large = [LARGE; 3];
+        let mut position = LARGE;
+        let [n, first] = &mut small;
+        let [trees, entries, levels] = &mut large;
+        let (plan, plan_len) = (plan.as_ptr(), plan.len());
+        let (to, to_len) = (out.as_mut_ptr(), out.len());
+        let (room, room_len) = (work.as_mut_ptr(), work.len());
+        // SAFETY: every slice is valid for its length, those written are borrowed for writing, and the numbers are distinct locals.
+        let number = unsafe {
+            match operation {
+                Operation::Check => c::plan_check(plan, plan_len, n, first, &mut position),
+                Operation::Seal => c::plan_seal(plan, plan_len, start, to, to_len, trees, &mut position),
+                Operation::Unseal => c::plan_unseal(plan, plan_len, to, to_len, n, first, &mut position),
+                Operation::Measure => {
+                    c::plan_measure(plan, plan_len, room, room_len, trees, entries, levels, &mut position)
+                }
+                Operation::Spread => c::plan_spread(plan, plan_len, room, room_len, to, to_len, trees, &mut position),
+                Operation::Walk => c::plan_walk(
+                    plan,
+                    plan_len,
+                    room,
+                    room_len,
+                    cursor.as_mut_ptr(),
+                    cursor.len(),
+                    letters.as_ptr(),
+                    letters.len(),
+                    answers.as_mut_ptr(),
+                    answers.len(),
+                    &mut position,
+                ),
+            }
+        };
+        if number != 0 {
+            assert!(small == [SMALL; 2] && large == [LARGE; 3], "a number was written though {number} refused");
+            return Some(Err(Refused { number, position }));
+        }
+        assert_eq!(position, 0, "the position of an accepted call");
+        let [n, start] = small;
+        let [trees, entries, levels] = large;
+        Some(Ok(match operation {
+            Operation::Check | Operation::Unseal => Values::Checked(Checked { n, start }),
+            Operation::Seal | Operation::Spread => Values::Length(trees),
+            Operation::Measure => Values::Measured(Measured { trees, entries, levels }),
+            Operation::Walk => Values::Walked,
+        }))
+    }
+}

@@ -1,0 +1,45 @@
+//! The rounds of a trial. Each tries one subject as often as it is told.
+pub mod places;
+pub mod plans;
+pub mod sizes;
+pub mod slices;
+pub mod walks;
+
+use crate::call::MOST_NODES;
+use crate::draft::Draft;
+use crate::random::Random;
+use crate::{families, random_plans};
+use reference::LETTERS;
+
+/// A valid plan with a forest small enough to unfold.
+fn small(random: &mut Random, most_rules: usize) -> Draft {
+    if random.once_in(4) {
+        let mut draft = families::any(random, most_rules);
+        random_plans::start_within(&mut draft, MOST_NODES as u64, random);
+        return draft;
+    }
+    let n = random.between(1, most_rules);
+    let mut draft = random_plans::any(random, n);
+    let most = random.pick(&[10, 100, 1000, MOST_NODES as u64]);
+    random_plans::start_within(&mut draft, most, random);
+    draft
+}
+
+/// Letters at random: evenly, with a liking for some, or nearly all the same, so that long rows and deep spines are gone through.
+fn letters(random: &mut Random, count: usize) -> Vec<u8> {
+    let liked: Vec<u8> = match random.below(5) {
+        0 => LETTERS.to_vec(),
+        1 => b"ffllnpnpuus".to_vec(),
+        2 => b"fffnnnnpu".to_vec(),
+        3 => b"lllppppnu".to_vec(),
+        _ => vec![random.pick(b"flnpu")],
+    };
+    let burst = random.pick(&[1, 1, 2, 4]);
+    let mut letters = Vec::with_capacity(count + burst);
+    while letters.len() < count {
+        let letter = if random.once_in(40) { random.pick(&LETTERS) } else { random.pick(&liked) };
+        letters.extend(std::iter::repeat_n(letter, random.between(1, burst)));
+    }
+    letters.truncate(count);
+    letters
+}

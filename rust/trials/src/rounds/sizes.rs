@@ -1,0 +1,51 @@
+//! Check, seal, unseal, measure and spread on valid plans of every size.
+use crate::call::{Call, Operation, Values};
+use crate::draft::Draft;
+use crate::trial::Trial;
+use crate::{families, random_plans, rounds};
+use reference::plan::{MAX_RULES, RECORD, TRAILER};
+
+pub fn agree(trial: &mut Trial, plans: usize) {
+    for round in 0..plans {
+        let draft = match round % 4 {
+            0 => families::any(&mut trial.random, MAX_RULES),
+            1 => {
+                let n = trial.random.between(1, MAX_RULES);
+                random_plans::any(&mut trial.random, n)
+            }
+            2 => families::leaves(u128::MAX >> trial.random.between(1, 127)),
+            _ => rounds::small(&mut trial.random, 60),
+        };
+        round_trip(trial, &draft);
+        count_and_write(trial, &draft);
+    }
+}
+
+/// Sealed then unsealed, rules and start are the same; a plan without prefix unsealed and sealed has the same bytes.
+fn round_trip(trial: &mut Trial, draft: &Draft) {
+    let n = draft.n();
+    let mut seal = Call::new(Operation::Seal, draft.words(), n);
+    seal.start = draft.start;
+    let longer = trial.random.below(20);
+    seal.out = trial.random.leftovers(RECORD * n + TRAILER + longer);
+    let sealed = &trial.accepted(&seal, "a valid plan is sealed").out[..RECORD * n + TRAILER];
+    assert!(draft.plan().ends_with(sealed), "a sealed plan is the plan without its prefix");
+    let mut unseal = Call::new(Operation::Unseal, draft.plan(), n);
+    unseal.out = trial.random.leftovers(RECORD * n + longer);
+    let after = trial.accepted(&unseal, "a valid plan is unsealed");
+    assert!(after.out[..RECORD * n] == draft.words(), "unsealed, the words are the same");
+    trial.judge(&Call::new(Operation::Check, draft.plan(), n));
+}
+
+/// Measure, and spread if the text isn't long.
+fn count_and_write(trial: &mut Trial, draft: &Draft) {
+    let mut call = Call::new(Operation::Measure, draft.plan(), draft.n());
+    let longer = trial.random.below(20);
+    call.work = trial.random.leftovers(call.work.len() + longer);
+    let Ok(Values::Measured(measured)) = trial.judge(&call).outcome else { return };
+    if measured.entries < 200_000 {
+        call.operation = Operation::Spread;
+        call.out = trial.random.leftovers(3 * measured.entries as usize + longer);
+        trial.judge(&call);
+    }
+}

@@ -1,0 +1,70 @@
+//! What has been tried, and whether it was enough.
+use crate::call::{Call, Operation, Outcome};
+use reference::{NOWHERE, words};
+use std::collections::BTreeMap;
+use std::fmt;
+
+/// How often each way to a refusal must have come up.
+pub const LEAST_EACH_WAY: u64 = 100;
+pub const LEAST_LETTERS: u64 = 1_000_000;
+
+#[derive(Default)]
+pub struct Tally {
+    calls: BTreeMap<Operation, u64>,
+    pub letters: u64,
+    /// Letters f, l, n, p, u that led to a node.
+    pub moves: u64,
+    /// How often a refusal came up: by its number, the way to it, and the operation.
+    ways: BTreeMap<(u32, String, Operation), u64>,
+}
+
+impl Tally {
+    pub fn count(&mut self, call: &Call, outcome: &Outcome, answers: &[u8]) {
+        *self.calls.entry(call.operation).or_default() += 1;
+        if call.operation == Operation::Walk && outcome.is_ok() {
+            let answers = answers.chunks_exact(2).map(|answer| words::get(answer, 0));
+            let moved = |letter: u8, answer: u16| b"flnpu".contains(&letter) && answer != NOWHERE;
+            self.letters += call.letters.len() as u64;
+            self.moves +=
+                call.letters.iter().zip(answers).filter(|(letter, answer)| moved(**letter, *answer)).count() as u64;
+        }
+    }
+
+    /// Notes that a way is to be tried, and whether it came up now.
+    pub fn way(&mut self, operation: Operation, number: u32, way: &str, came_up: bool) {
+        *self.ways.entry((number, way.to_string(), operation)).or_default() += u64::from(came_up);
+    }
+
+    /// What is still missing; nothing if all was tried often enough.
+    pub fn missing(&self) -> Vec<String> {
+        let rare = self.ways.iter().filter(|(_, count)| **count < LEAST_EACH_WAY);
+        let mut missing: Vec<String> =
+            rare.map(|((number, way, operation), count)| format!("{operation:?} {number}, {way}: {count}")).collect();
+        missing.extend(
+            (1..=11).filter(|number| !self.ways.keys().any(|key| key.0 == *number)).map(|number| format!("{number}")),
+        );
+        if self.letters < LEAST_LETTERS {
+            missing.push(format!("{} letters", self.letters));
+        }
+        if 3 * self.moves < self.letters {
+            missing.push(format!("{} moves of {} letters", self.moves, self.letters));
+        }
+        missing
+    }
+}
+
+impl fmt::Display for Tally {
+    fn fmt(&self, f: &mut fmt::Formatter) -> fmt::Result {
+        for (operation, calls) in &self.calls {
+            writeln!(f, "{operation:?}: {calls} calls")?;
+        }
+        writeln!(f, "letters: {}, of which {} moved", self.letters, self.moves)?;
+        for number in 1..=11 {
+            let of_number = self.ways.iter().filter(|(key, _)| key.0 == number);
+            let counts: Vec<u64> = of_number.map(|(_, count)| *count).collect();
+            let (least, total) = (counts.iter().min().unwrap_or(&0), counts.iter().sum::<u64>());
+            writeln!(f, "refusal {number}: {total} times in {} ways, each at least {least} times", counts.len())?;
+        }
+        Ok(())
+    }
+}

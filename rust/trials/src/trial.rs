@@ -1,0 +1,169 @@
+//! Calls run by every implementation on guarded memory, and compared.
+use crate::call::{ByRules, Call, Implementation, OnForest, Outcome, Slices};
+use crate::laws;
+use crate::library::{Interface, Library};
+use crate::random::Random;
+use crate::room::Room;
+use crate::tally::Tally;
+use reference::Refused;
+
+pub struct Trial {
+    pub random: Random,
+    pub tally: Tally,
+    pub forest: OnForest,
+    rooms: Rooms,
+    seed: u64,
+}
+
+/// What all implementations agreed on: the outcome, and the slices after the call.
+pub struct Judged {
+    pub outcome: Outcome,
+    pub after: Call,
+}
+
+impl Trial {
+    pub fn new(seed: u64) -> Trial {
+        Trial {
+            random: Random::new(seed),
+            tally: Tally::default(),
+            forest: OnForest::default(),
+            rooms: Rooms::default(),
+            seed,
+        }
+    }
+
+    /// Runs a call by every implementation. All must agree on the outcome and on every byte.
+    pub fn judge(&mut self, call: &Call) -> Judged {
+        let _told = Told { call, seed: self.seed };
+        let odd = self.random.once_in(2);
+        let outcome = self.rooms.run(&mut ByRules, call, odd).expect("it takes on every call");
+        let after = self.rooms.taken_back(call);
+        laws::ask(call, &outcome, &after);
+        let others: [&mut dyn Implementation; 3] = [&mut self.forest, &mut Library, &mut Interface];
+        for other in others {
+            let Some(answer) = self.rooms.run(other, call, odd) else { continue };
+            let name = other.name();
+            assert_eq!(answer, outcome, "{name} answers otherwise (left) than {} (right)", ByRules.name());
+            self.rooms.compare(name, &after);
+        }
+        self.tally.count(call, &outcome, &after.answers);
+        Judged { outcome, after }
+    }
+
+    /// A call that must be accepted; gives the slices after it.
+    pub fn accepted(&mut self, call: &Call, why: &str) -> Call {
+        let Judged { outcome, after } = self.judge(call);
+        let _told = Told { call, seed: self.seed };
+        assert!(outcome.is_ok(), "{why}, not refused with {outcome:?}");
+        after
+    }
+
+    /// A call that must be refused so.
+    pub fn refused(&mut self, call: &Call, way: &str, refused: Refused) {
+        let outcome = self.judge(call).outcome;
+        let _told = Told { call, seed: self.seed };
+        assert_eq!(outcome, Err(refused), "{way}");
+        self.tally.way(call.operation, refused.number, way, true);
+    }
+
+    /// A call that may be refused with this number.
+    pub fn perhaps_refused(&mut self, call: &Call, way: &str, number: u32) {
+        let outcome = self.judge(call).outcome;
+        let came_up = outcome.is_err_and(|refused| refused.number == number);
+        self.tally.way(call.operation, number, way, came_up);
+    }
+}
+
+/// The memory that is lent, one room a slice.
+#[derive(Default)]
+struct Rooms {
+    plan: Room,
+    work: Room,
+    cursor: Room,
+    letters: Room,
+    answers: Room,
+    out: Room,
+}
+
+impl Rooms {
+    fn run(&mut self, implementation: &mut dyn Implementation, call: &Call, odd: bool) -> Option<Outcome> {
+        self.plan.fill(&call.plan, odd);
+        self.work.fill(&call.work, odd);
+        self.cursor.fill(&call.cursor, odd);
+        self.letters.fill(&call.letters, odd);
+        self.answers.fill(&call.answers, odd);
+        self.out.fill(&call.out, odd);
+        let lent = Slices {
+            plan: self.plan.lend(),
+            start: call.start,
+            work: self.work.lend(),
+            cursor: self.cursor.lend(),
+            letters: self.letters.lend(),
+            answers: self.answers.lend(),
+            out: self.out.lend(),
+        };
+        let outcome = implementation.run(call.operation, lent);
+        for (name, room) in self.named() {
+            assert!(room.guarded(), "{} wrote outside {name}", implementation.name());
+        }
+        outcome
+    }
+
+    fn named(&self) -> [(&'static str, &Room); 6] {
+        [
+            ("plan", &self.plan),
+            ("work", &self.work),
+            ("cursor", &self.cursor),
+            ("letters", &self.letters),
+            ("answers", &self.answers),
+            ("output", &self.out),
+        ]
+    }
+
+    /// The slices as the last call left them.
+    fn taken_back(&self, call: &Call) -> Call {
+        let [plan, work, cursor, letters, answers, out] = self.named().map(|(_, room)| room.content().to_vec());
+        Call { operation: call.operation, start: call.start, plan, work, cursor, letters, answers, out }
+    }
+
+    fn compare(&self, name: &str, after: &Call) {
+        let wanted = [&after.plan, &after.work, &after.cursor, &after.letters, &after.answers, &after.out];
+        for ((slice, room), wanted) in self.named().into_iter().zip(wanted) {
+            let differs = room.content().iter().zip(wanted).position(|(got, want)| got != want);
+            if let Some(byte) = differs {
+                let (got, want) = (&room.content()[byte & !7..], &wanted[byte & !7..]);
+                panic!(
+                    "{name} left other {slice} than {} at byte {byte}: {:?}, not {:?}",
+                    ByRules.name(),
+                    &got[..got.len().min(16)],
+                    &want[..want.len().min(16)]
+                );
+            }
+        }
+    }
+}
+
+/// Tells the call that was tried if the trial ends in panic.
+struct Told<'a> {
+    call: &'a Call,
+    seed: u64,
+}
+
+impl Drop for Told<'_> {
+    fn drop(&mut self) {
+        if !std::thread::panicking() {
+            return;
+        }
+        let Call { operation, plan, start, work, cursor, letters, answers, out } = self.call;
+        eprintln!("TRIALS_SEED={}: {operation:?}, seal's start {start}", self.seed);
+        eprintln!("  plan ({} bytes) {}", plan.len(), hex(plan, 600));
+        eprintln!("  cursor ({} bytes) {}", cursor.len(), hex(cursor, 200));
+        eprintln!("  letters ({}) {}", letters.len(), String::from_utf8_lossy(&letters[..letters.len().min(200)]));
+        eprintln!("  bytes of work {}, answers {}, output {}", work.len(), answers.len(), out.len());
+    }
+}
+
+fn hex(bytes: &[u8], most: usize) -> String {
+    let shown = bytes.iter().take(most).map(|byte| format!("{byte:02x}")).collect::<String>();
+    if bytes.len() > most { shown + ".." } else { shown }
+}

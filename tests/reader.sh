@@ -1,0 +1,64 @@
+#!/usr/bin/env bash
+# Links the reader's shell (examples/reader.c) with the static library of what was proved and holds what it shows to what it must show.
+set -eu
+cd "$(dirname "$0")/.."
+build=$(mktemp -d)
+trap 'rm -rf "$build"' EXIT
+rt staticlib mealplan >"$build/log" 2>&1 || { cat "$build/log"; exit 1; }
+gcc -std=c99 -O1 -Wall -Wextra -Werror -Iinclude -o "$build/reader" examples/reader.c target/staticlib/libmealplan.a -lpthread -ldl -lm
+
+# Shows KEYS on PLAN, which must print what stands on standard input and end with STATUS.
+shows() { # PLAN KEYS STATUS
+    status=0
+    printf '%s' "$2" | "$build/reader" "$1" >"$build/shown" || status=$?
+    diff - "$build/shown" || { echo "reader: $2 on $1 shows something else"; exit 1; }
+    [ "$status" -eq "$3" ] || { echo "reader: $2 on $1 ends with status $status"; exit 1; }
+}
+
+shows samples/plan.bin 'af nnf nnnn
+ununnnxq' 0 <<'END'
+8 rules, start 7: 3 trees, 11 entries, 3 levels
+a  99 c
+f  97 a
+n  98 b
+n  99 c
+f  97 a
+n  98 b
+n  97 a
+n  98 b
+n  nowhere
+u  99 c
+n  98 b
+u  99 c
+n  97 a
+n  98 b
+n  nowhere
+x  no such key
+stopped with 3 cells
+END
+
+shows samples/plan.bin 'fnzps' 0 <<'END'
+8 rules, start 7: 3 trees, 11 entries, 3 levels
+f  nowhere
+n  nowhere
+z  98 b
+p  97 a
+s  97 a
+stopped with 4 cells
+END
+
+shows "$build/absent" 'a' 1 <<'END'
+refused 1 at 0
+END
+
+head -c 73 samples/plan.bin >"$build/cut"
+shows "$build/cut" 'a' 1 <<'END'
+refused 1 at 0
+END
+
+head -c 16385 /dev/zero >"$build/long"
+shows "$build/long" 'a' 1 <<'END'
+refused 8 at 0
+END
+
+echo "reader: as expected"
