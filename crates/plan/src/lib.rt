@@ -10,7 +10,7 @@ ghost use lib.ListN.{length, take, drop};
 ghost use mathlib.Core.Bool.{_&&_};
 ghost use lib.Dec.{leb, eqb};
 ghost use Rattle.rule.specs.Rule.{recordLength};
-ghost use Rattle.plan.specs.Check.{trailerLength, trailerBytes, countOf, startOf, distanceOf, marked, accepted, inLimits, checkedUpTo, checked};
+ghost use Rattle.plan.specs.Check.{trailerLength, trailerBytes, countOf, startOf, distanceOf, marked, accepted, mostRules, inLimits, checked};
 
 // What check answers: document 01's n and start, or the refusal.
 pub enum Checked {
@@ -84,10 +84,10 @@ impl Trailer {
     }
 
     // Is the number of rules in range?
-    fn in_limits(n: u16, most: u16) -> bool
-        ensures { λ r. ⌜ r ≡ inLimits most n ⌝ }
+    fn in_limits(n: u16) -> bool
+        ensures { λ r. ⌜ r ≡ inLimits mostRules n ⌝ }
     {
-        (1 <= n) & (n <= most)
+        (1 <= n) & (n <= Trailer::MOST_RULES)
     }
 
     // Is the distance that of n rules, and no longer than what stands before the trailer?
@@ -110,9 +110,9 @@ impl Checked {
     }
 }
 
-// Check, with the largest number of rules as a parameter.
-fn check_up_to(plan: &[u8], most: u16) -> Checked
-    ensures { λ r. ⌜ r ≡ checkedUpTo most (now (plan .entry)) ⌝ }
+// Check a plan: document 01's n and start, or why it is turned down.
+pub fn check(plan: &[u8]) -> Checked
+    ensures { λ r. ⌜ r ≡ checked (now (plan .entry)) ⌝ }
 {
     if plan.len() < Trailer::LENGTH {
         return Checked::Refused(Refusal::Magic);
@@ -123,7 +123,7 @@ fn check_up_to(plan: &[u8], most: u16) -> Checked
     let trailer = Trailer::read(plan);
     let n = trailer.n;
     let start = trailer.start;
-    if !Trailer::in_limits(n, most) {
+    if !Trailer::in_limits(n) {
         return Checked::Refused(Refusal::Count);
     }
     let end = plan.len() - Trailer::LENGTH;
@@ -132,11 +132,4 @@ fn check_up_to(plan: &[u8], most: u16) -> Checked
         return Checked::Refused(Refusal::Distance);
     }
     Checked::accepted(n, start, judge(plan, end - distance, n, start))
-}
-
-// Check a plan: document 01's n and start, or why it is turned down.
-pub fn check(plan: &[u8]) -> Checked
-    ensures { λ r. ⌜ r ≡ checked (now (plan .entry)) ⌝ }
-{
-    check_up_to(plan, Trailer::MOST_RULES)
 }

@@ -24,13 +24,13 @@ pub fn seal(words: &[u8], start: u16, out: &mut [u8]) -> Written
     ensures { λ r. ⌜ (r ≡ sealed (now (words .entry)) start (now (out .entry))) × (now (out .exit) ≡ sealedOutput (now (words .entry)) start (now (out .entry))) ⌝ }
 {
     let answer = sealing(words, start, out.len());
-    let Written::Length(_) = answer else {
+    let Written::Length(length) = answer else {
         return answer;
     };
     let n = words::word_count(words) / Record::WORDS;
     write_rules(words, out, n);
     Trailer::write(out, n as u16, start);
-    answer
+    Written::Length(length)
 }
 
 // Are so many words four to a rule, and the number of rules in range?

@@ -6,8 +6,9 @@ use refusal::Refusal;
 use rule::Record;
 ghost use Prim.Native.Nat.{_+_, _*_, _≤_};
 ghost use mathlib.Core.Path.{_≡_};
-ghost use lib.ListN.{length};
-ghost use Rattle.rule.specs.Rule.{recordLength};
+ghost use mathlib.Core.List.{_++_};
+ghost use lib.ListN.{length, take, drop};
+ghost use Rattle.rule.specs.Rule.{recordLength, recordBytes};
 ghost use Rattle.rule.specs.Records.{recordsFrom, recordsBytes};
 ghost use Rattle.seal.specs.Seal.{inFront};
 ghost use Rattle.unseal.specs.Unseal.{unsealed, unsealedOutput};
@@ -36,7 +37,15 @@ fn copy_records(plan: &[u8], first: usize, out: &mut [u8], n: usize)
 {
     let mut i = 0;
     while i < n {
-        Record::read(plan, first + Record::LENGTH * i).write(out, Record::LENGTH * i);
+        put(Record::read(plan, first + Record::LENGTH * i), out, i);
         i += 1;
     }
+}
+
+// A record, as the i-th of the output; the bytes around it stay.
+fn put(w: Record, out: &mut [u8], i: usize)
+    requires { ⌜ recordLength * i + recordLength ≤ length (now out) ⌝ }
+    ensures { λ _. ⌜ now (out .exit) ≡ take (recordLength * i) (now (out .entry)) ++ (recordBytes w ++ drop (recordLength * i + recordLength) (now (out .entry))) ⌝ }
+{
+    w.write(out, Record::LENGTH * i);
 }

@@ -18,11 +18,11 @@ use Rattle.seal.proofs.seal.Tie as tie
 sealing-requires : tie.Need-sealing-requires
 sealing-requires c κs = search needs
 
+enum-known-answer : tie.Need-enum-known-answer
+enum-known-answer c = search needs
+
 enum-told : tie.Need-enum-told
 enum-told c = search needs
-
-enum-told-2 : tie.Need-enum-told-2
-enum-told-2 c = search needs
 
 returns : tie.Need-returns
 unfolding sealedOutput outputAfter
@@ -30,28 +30,28 @@ returns c =
     let asked = c .before .before in
     let a = asked .before .before .before .args in
     let e = asked .sealing .ensures (now (a .out)) refl in
-    (e, sym (ap (λ (r : Written). outputAfter r (planBytes (given (now (a .words))) (a .start)) (now (a .out))) (sym e ∙ c .enum-told2 .given .1)))
+    (e, sym (ap (λ (r : Written). outputAfter r (planBytes (given (now (a .words))) (a .start)) (now (a .out))) (sym e ∙ c .enum-told .given .1)))
 
 word-count-requires : tie.Need-word-count-requires
 word-count-requires c κs = search needs
 
 -- the answer was a length
-length-is : (c : tie.After-enum-told)
-    → let a = c .before .before .before .before .before .args in
-    sealed (now (a .words)) (a .start) (now (a .out)) ≡ Written.Length (c .enum-told .given .0 .0)
+length-is : (c : tie.After-known-told)
+    → let a = c .before .before .before .before .before .before .args in
+    sealed (now (a .words)) (a .start) (now (a .out)) ≡ Written.Length (c .before .answer .given .0 .0)
 length-is c =
-    let asked = c .before .before in
-    sym (asked .sealing .ensures (now (asked .before .before .before .args .out)) refl) ∙ c .enum-told .given .1
+    let asked = c .before .before .before in
+    sym (asked .sealing .ensures (now (asked .before .before .before .args .out)) refl) ∙ c .before .answer .given .1
 
-accepting : (c : tie.After-enum-told)
-    → let a = c .before .before .before .before .before .args in
-    Sealed mostRules (now (a .words)) (a .start) (now (a .out)) (c .enum-told .given .0 .0)
+accepting : (c : tie.After-known-told)
+    → let a = c .before .before .before .before .before .before .args in
+    Sealed mostRules (now (a .words)) (a .start) (now (a .out)) (c .before .answer .given .0 .0)
 unfolding sealed
 accepting c = sealed-facts _ _ _ _ _ (length-is c)
 
 -- n is the number of rules given
 count-is : (c : tie.After-word-count)
-    → c .word-count .result / recordWords ≡ givenCount (now (c .before .before .before .before .before .before .args .words))
+    → c .word-count .result / recordWords ≡ givenCount (now (c .before .before .before .before .before .before .before .args .words))
 unfolding givenCount
 count-is c = ap (λ (k : ℕ). k / recordWords) (c .word-count .ensures)
 
@@ -81,10 +81,10 @@ returns-2 c =
     let rules = done .before .before .before .before in
     let counted = rules .before .before in
     let known = counted .before in
-    let a = known .before .before .before .before .before .args in
+    let a = known .before .before .before .before .before .before .args in
     let n = counted .word-count .result / recordWords in
     let e = length-is known in (
-      known .enum-told .given .1 ∙ sym e,
+      sym e,
       done .write .ensures
           ∙ ap (λ (l : List ℕ). take (recordLength * n) l ++ (trailerBytes n (a .start) ++ drop (recordLength * n + trailerLength) l)) (rules .write-rules .ensures)
           ∙ seal-written _ _ _ _ _ (accepting known) n (count-is counted)
@@ -96,8 +96,8 @@ seal-spec =
     tie.close
     (tie.spec
     sealing-requires
+    enum-known-answer
     enum-told
-    enum-told-2
     returns
     word-count-requires
     write-rules-requires

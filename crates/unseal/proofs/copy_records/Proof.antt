@@ -29,11 +29,8 @@ add-read c = omega arith
 read-requires : tie.Need-read-requires Inv-loop μ-loop
 read-requires c κs = omega arith
 
-mul-write : tie.Need-mul-write Inv-loop μ-loop
-mul-write c = omega arith
-
-write-requires : tie.Need-write-requires Inv-loop μ-loop
-write-requires c κs = omega arith
+put-requires : tie.Need-put-requires Inv-loop μ-loop
+put-requires c κs = omega arith
 
 add-i : tie.Need-add-i Inv-loop μ-loop
 add-i c = omega arith
@@ -48,7 +45,7 @@ loop-again c =
     let a = head .before .before .before .args in
     let i = head .loop .i in (
       omega arith,
-      c .before .before .write .ensures
+      c .before .before .put .ensures
           ∙ ap₂ (λ (l : List ℕ) (w : Record). take (recordLength * i) l ++ (recordBytes w ++ drop (recordLength * i + recordLength) l)) (head .loop .inv .1) (read .read .ensures)
           ∙ copied-more (now (a .plan)) (a .first) i (now (a .out)) (a .first + recordLength * i) refl,
       omega arith,
@@ -74,8 +71,7 @@ copy-records-spec =
     mul-read
     add-read
     read-requires
-    mul-write
-    write-requires
+    put-requires
     add-i
     loop-less
     loop-again
