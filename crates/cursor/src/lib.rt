@@ -224,7 +224,8 @@ fn ended(work: &[u8], cursor: &[u8], k: usize, side: Side) -> Outcome
     if k == 0 {
         return Outcome::Nowhere;
     }
-    if Cell::read(cursor, k).one == Cell::part_row(side.other()) {
+    let back = side.other();
+    if Cell::read(cursor, k).one == Cell::part_row(back) {
         return inward(work, cursor, k - 1);
     }
     Outcome::Nowhere
@@ -389,5 +390,5 @@ pub fn settle(work: &[u8], cursor: &mut [u8], k: usize, p: u16, o: Outcome) -> L
 
 impl Landing {
     // The answer of a letter that leads nowhere.
-    pub const NOWHERE: u32 = 65535;
+    const NOWHERE: u32 = 65535;
 }

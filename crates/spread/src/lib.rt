@@ -23,48 +23,48 @@ use rows::Row;
 use rule::Rule;
 
 // What a step writes.
-pub enum Said {
+enum Said {
     Nothing,
     Opening(u8),
     Closing,
 }
 
 // What a task comes to: bytes to write, and up to three tasks to do after them, the last one first.
-pub struct Step {
-    pub said: Said,
-    pub low: u16,
-    pub mid: u16,
-    pub high: u16,
+struct Step {
+    said: Said,
+    low: u16,
+    mid: u16,
+    high: u16,
 }
 
 // How far spread has come: tasks on the stack, and bytes written.
-pub struct State {
-    pub tasks: usize,
-    pub at: usize,
+struct State {
+    tasks: usize,
+    at: usize,
 }
 
 impl Step {
     // A task's word is 4 × rule + part: the whole text, what stands before the hole, after it, or the byte that closes the node.
-    pub const PARTS: u16 = 4;
+    const PARTS: u16 = 4;
 
-    pub const WHOLE: u16 = 0;
+    const WHOLE: u16 = 0;
 
-    pub const BEFORE: u16 = 1;
+    const BEFORE: u16 = 1;
 
-    pub const AFTER: u16 = 2;
+    const AFTER: u16 = 2;
 
-    pub const CLOSE: u16 = 3;
+    const CLOSE: u16 = 3;
 
     // No task: the whole text of an empty rule.
-    pub const NONE: u16 = 65535;
+    const NONE: u16 = 65535;
 
     // Where a row keeps the task of its whole rule.
-    pub const TASK: usize = 30;
+    const TASK: usize = 30;
 
     // The bytes around a node's children.
-    pub const OPENING: u8 = 40;
+    const OPENING: u8 = 40;
 
-    pub const CLOSING: u8 = 41;
+    const CLOSING: u8 = 41;
 
     // The task of a part of rule r.
     fn task(r: u16, p: u16) -> u16

@@ -16,11 +16,11 @@ returns : tie.Need-returns
 unfolding outcome
 returns c = sym (ended-none (known (now (c .before .before .before .args .work))) (now (c .before .before .before .args .cursor)) (c .before .before .before .args .k) (sideOf (c .before .before .before .args .side)) (c .if1 .taken))
 
-read-requires : tie.Need-read-requires
-read-requires c κs = search needs
-
 other-requires : tie.Need-other-requires
 other-requires c κs = search needs
+
+read-requires : tie.Need-read-requires
+read-requires c κs = search needs
 
 part-row-requires : tie.Need-part-row-requires
 part-row-requires c κs = search needs
@@ -32,19 +32,19 @@ inward-requires : tie.Need-inward-requires
 inward-requires c κs = held-less (c .before .before .before .before .before .before .before .before .pre) _ (omega arith)
 
 returns-2 : tie.Need-returns-2
-returns-2 c = c .inward .ensures ∙ sym (ended-arm (known (now (c .before .before .before .before .before .before .before .before .before .args .work))) (now (c .before .before .before .before .before .before .before .before .before .args .cursor)) (c .before .before .before .before .before .before .before .before .before .args .k) (sideOf (c .before .before .before .before .before .before .before .before .before .args .side)) (omega arith) (sym (top-one (c .before .before .before .before .before .read .ensures)) ∙ c .before .if2 .taken ∙ c .before .before .before .part-row .ensures ∙ ap rowOfPart (c .before .before .before .before .other .ensures)))
+returns-2 c = c .inward .ensures ∙ sym (ended-arm (known (now (c .before .before .before .before .before .before .before .before .before .args .work))) (now (c .before .before .before .before .before .before .before .before .before .args .cursor)) (c .before .before .before .before .before .before .before .before .before .args .k) (sideOf (c .before .before .before .before .before .before .before .before .before .args .side)) (omega arith) (sym (top-one (c .before .before .before .before .read .ensures)) ∙ c .before .if2 .taken ∙ c .before .before .before .part-row .ensures ∙ ap rowOfPart (c .before .before .before .before .before .other .ensures)))
 
 returns-3 : tie.Need-returns-3
 unfolding outcome
-returns-3 c = sym (ended-other (known (now (c .before .before .before .before .before .before .before .before .args .work))) (now (c .before .before .before .before .before .before .before .before .args .cursor)) (c .before .before .before .before .before .before .before .before .args .k) (sideOf (c .before .before .before .before .before .before .before .before .args .side)) (omega arith) (λ q. c .if2 .left (top-one (c .before .before .before .before .read .ensures) ∙ q ∙ sym (c .before .before .part-row .ensures ∙ ap rowOfPart (c .before .before .before .other .ensures)))))
+returns-3 c = sym (ended-other (known (now (c .before .before .before .before .before .before .before .before .args .work))) (now (c .before .before .before .before .before .before .before .before .args .cursor)) (c .before .before .before .before .before .before .before .before .args .k) (sideOf (c .before .before .before .before .before .before .before .before .args .side)) (omega arith) (λ q. c .if2 .left (top-one (c .before .before .before .read .ensures) ∙ q ∙ sym (c .before .before .part-row .ensures ∙ ap rowOfPart (c .before .before .before .before .other .ensures)))))
 
 pub ended-spec : {M : Type 1} → statement M
 ended-spec =
     tie.close
     (tie.spec
     returns
-    read-requires
     other-requires
+    read-requires
     part-row-requires
     sub-inward
     inward-requires
