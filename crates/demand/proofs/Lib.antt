@@ -4,4 +4,5 @@ pub mod OneCall
 pub mod Lists
 pub mod Worthless
 pub mod Plans
+pub mod Prefixed
 pub mod Demand3

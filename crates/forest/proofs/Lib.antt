@@ -28,3 +28,4 @@ pub mod Search
 pub mod Starred
 pub mod Stored
 pub mod Fit
+pub mod Prefixed
