@@ -65,47 +65,29 @@ impl Row {
 
     const TWO: usize = 8;
 
+    // A row with these words.
+    fn with(kind: u16, label: u32, one: u16, two: u16) -> Row
+        ensures { λ w. ⌜ w ≡ record { kind = kind; label = label; one = one; two = two } ⌝ }
+    {
+        Row {
+            kind,
+            label,
+            one,
+            two,
+        }
+    }
+
     // What a row keeps of a rule.
     fn of(rule: Rule) -> Row
         ensures { λ w. ⌜ w ≡ rowOf rule ⌝ }
     {
         match rule {
-            Rule::Empty => Row {
-                kind: Rule::EMPTY,
-                label: 0,
-                one: 0,
-                two: 0,
-            },
-            Rule::Pair { first, second } => Row {
-                kind: Rule::PAIR,
-                label: 0,
-                one: first,
-                two: second,
-            },
-            Rule::Node { label, under } => Row {
-                kind: Rule::NODE,
-                label,
-                one: under,
-                two: 0,
-            },
-            Rule::Fill { outer, inner } => Row {
-                kind: Rule::FILL,
-                label: 0,
-                one: outer,
-                two: inner,
-            },
-            Rule::Part { label, left, right } => Row {
-                kind: Rule::PART,
-                label,
-                one: left,
-                two: right,
-            },
-            Rule::Join { outer, inner } => Row {
-                kind: Rule::JOIN,
-                label: 0,
-                one: outer,
-                two: inner,
-            },
+            Rule::Empty => Row::with(Rule::EMPTY, 0, 0, 0),
+            Rule::Pair { first, second } => Row::with(Rule::PAIR, 0, first, second),
+            Rule::Node { label, under } => Row::with(Rule::NODE, label, under, 0),
+            Rule::Fill { outer, inner } => Row::with(Rule::FILL, 0, outer, inner),
+            Rule::Part { label, left, right } => Row::with(Rule::PART, label, left, right),
+            Rule::Join { outer, inner } => Row::with(Rule::JOIN, 0, outer, inner),
         }
     }
 

@@ -146,12 +146,13 @@ fn rule_step(work: &[u8], r: u16, p: u16, rule: Rule) -> Step
     requires { ⌜ Steppable (now work) r rule ⌝ }
     ensures { λ x. ⌜ x ≡ ruleStep (tasksAt (now (work .entry))) r p rule ⌝ }
 {
+    let none = Step::NONE;
     match rule {
-        Rule::Empty => Step::nothing(Step::NONE, Step::NONE, Step::NONE),
+        Rule::Empty => Step::nothing(none, none, none),
         Rule::Pair { first, second } => Step::nothing(
             whole(work, second),
             whole(work, first),
-            Step::NONE,
+            none,
         ),
         Rule::Node { label, under } => Step::opening(
             label,
@@ -165,22 +166,22 @@ fn rule_step(work: &[u8], r: u16, p: u16, rule: Rule) -> Step
         ),
         Rule::Part { label, left, right } => {
             if p == Step::BEFORE {
-                return Step::opening(label, whole(work, left), Step::NONE);
+                return Step::opening(label, whole(work, left), none);
             }
-            Step::nothing(Step::task(r, Step::CLOSE), whole(work, right), Step::NONE)
+            Step::nothing(Step::task(r, Step::CLOSE), whole(work, right), none)
         }
         Rule::Join { outer, inner } => {
             if p == Step::BEFORE {
                 return Step::nothing(
                     Step::task(inner, Step::BEFORE),
                     Step::task(outer, Step::BEFORE),
-                    Step::NONE,
+                    none,
                 );
             }
             Step::nothing(
                 Step::task(outer, Step::AFTER),
                 Step::task(inner, Step::AFTER),
-                Step::NONE,
+                none,
             )
         }
     }
