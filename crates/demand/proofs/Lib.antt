@@ -4,4 +4,5 @@ pub mod OneCall
 pub mod Lists
 pub mod Worthless
 pub mod Plans
+pub mod FromAbove
 pub mod Demand3
