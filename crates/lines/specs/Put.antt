@@ -19,6 +19,10 @@ pub record Put (text : List ℕ) (at : ℕ) (s t : List ℕ) (end : ℕ) : Type 
   pub ends : end ≡ at + length text
   pub room : at + length text ≤ length s
 
+-- the room of a refusal's line: its two texts, a number of 32 bits, a position of 64 bits, the line end
+abbrev pub refusedLength : ℕ
+refusedLength = 8 + 10 + 4 + 20 + 1
+
 -- the answer that a word of answers says
 unfoldable pub answerOf : ℕ → Option ℕ
 answerOf w = cond (eqb w nowhere) none (some w)
@@ -33,7 +37,7 @@ pub record Accepted (plan : List ℕ) : Type 0 where
   pub start : ℕ
   pub accepted : checked plan ≡ Checked.Accepted n start
 
--- a text at the front of the output, whose later bytes stay, and its length
+-- a text at the front of the output, whose later bytes stay, and its length; the last two fields follow, for who lends the text on
 pub record Printed (text s t : List ℕ) (m : ℕ) : Type 0 where
   pub front : t ≡ inFront text s
   pub counts : m ≡ length text

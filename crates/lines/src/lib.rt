@@ -14,7 +14,7 @@ ghost use Rattle.lines.specs.Decimal.{decimal};
 ghost use Rattle.lines.specs.Decimal.{digit as Decimal·digit};
 ghost use Rattle.lines.specs.Lines.{lineLength, shown, line, lines, refusedLine};
 ghost use Rattle.lines.specs.Stroll.{mostLetters, checkPrinted, strollOutput};
-ghost use Rattle.lines.specs.Put.{Put, answerOf, answersFrom, Accepted, Printed};
+ghost use Rattle.lines.specs.Put.{Put, refusedLength, answerOf, answersFrom, Accepted, Printed};
 
 // Bytes of a plan, and letters, at most.
 pub const MOST_PLAN: usize = 16384;
@@ -80,7 +80,7 @@ fn put_decimal(out: &mut [u8], at: usize, v: u64) -> usize
 
 // The line of a refusal, at the front of the output.
 fn put_refusal(out: &mut [u8], why: Refusal) -> usize
-    requires { ⌜ 48 ≤ length (now out) ⌝ }
+    requires { ⌜ refusedLength ≤ length (now out) ⌝ }
     ensures { λ r. ⌜ Put (refusedLine why) 0 (now (out .entry)) (now (out .exit)) r ⌝ }
 {
     let end = put_text(out, 0, b"refused ");
