@@ -51,7 +51,7 @@ impl Cell {
     // Words of a cell, bytes of a cell.
     pub const WORDS: usize = 4;
 
-    const LENGTH: usize = 8;
+    pub const LENGTH: usize = 8;
 
     // Cells of the cursor a rule, with as many more.
     pub const A_RULE: usize = 4;

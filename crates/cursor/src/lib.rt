@@ -390,5 +390,5 @@ pub fn settle(work: &[u8], cursor: &mut [u8], k: usize, p: u16, o: Outcome) -> L
 
 impl Landing {
     // The answer of a letter that leads nowhere.
-    const NOWHERE: u32 = 65535;
+    pub const NOWHERE: u32 = 65535;
 }

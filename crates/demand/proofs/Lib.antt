@@ -5,4 +5,5 @@ pub mod Lists
 pub mod Worthless
 pub mod Plans
 pub mod Prefixed
+pub mod FromAbove
 pub mod Demand3

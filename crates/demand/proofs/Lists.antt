@@ -71,7 +71,7 @@ module _ (s : List ℕ) (n start : ℕ) (first : List ℕ) (accepted : checked s
   all-went (c ∷ cs) cursor p was S k = more-went cursor p was c cs (one-call s n start first accepted W cursor p S c) S k (λ x q b. all-went cs x q b)
 
   -- the first cursor is above the forest
-  above-stands : Above first → Stands (placedForest (rulesOf s) start) first first []
+  pub above-stands : Above first → Stands (placedForest (rulesOf s) start) first first []
   unfolding Above placeAt cellsOf labelAt cellsIn
   above-stands a = record { named = Named.above; same-length = refl; head = a; cells = refl }
 

@@ -115,7 +115,7 @@ module _ (s : List ℕ) (n start : ℕ) (first : List ℕ) (accepted : checked s
   placed-judged cursor p S = rw (stands-headed W S, stands-found W S)
 
   -- a call begins as 8 and 9 say, and else at the node
-  begins : (cursor : List ℕ) (p : Path) → Stands (placedForest (rulesOf s) start) first cursor p → (c : Call)
+  pub begins : (cursor : List ℕ) (p : Path) → Stands (placedForest (rulesOf s) start) first cursor p → (c : Call)
       → begun s (c .work) cursor (c .letters) (c .answers) ≡ cond (enoughLent (c .work) first (c .letters) (c .answers) n) (lettersJudged (firstOther (c .letters) 0) (Begun.at n start p)) (Begun.refused Refusal.Lent)
   unfolding begun begunFrom
   begins cursor p S c = rw (accepted, stands-lent W S (c .work) (c .letters) (c .answers), placed-judged cursor p S)

@@ -22,6 +22,11 @@ abbrev pub AllWords : List ℕ → Type 0
 AllWords [] = Unit {0}
 AllWords (v ∷ vs) = (v < 65536) × AllWords vs
 
+-- words read one by one
+pub words-more : (m : ℕ) (s : List ℕ) (at : ℕ) → wordsFrom (suc m) s at ≡ number wordLength s at ∷ wordsFrom m s (at + wordLength)
+unfolding wordsFrom
+words-more m s at = refl
+
 -- words read behind p
 words-behind : (vs p rest : List ℕ) (at : ℕ) → length p ≡ at → AllWords vs → wordsFrom (length vs) (p ++ (wordsBytes vs ++ rest)) at ≡ vs
 unfolding wordsFrom wordsBytes

@@ -209,7 +209,7 @@ pub fn clear(s: &mut [u8], m: usize)
 // The 16-bit words of work that a rule needs, and their bytes.
 const WORK_WORDS: usize = 32;
 
-const WORK_LENGTH: usize = 2 * WORK_WORDS;
+pub const WORK_LENGTH: usize = 2 * WORK_WORDS;
 
 // Whether work has the words that n rules need.
 pub fn enough_work(work: &[u8], n: u16) -> bool

@@ -1,0 +1,81 @@
+-- One call from above the forest, where enough is lent: it is refused for its first byte that is no letter, and else its answers
+-- are the finger's from the empty path on. Assumes nothing.
+use Prim.Native.Nat.{ℕ, zero, suc, _+_, _*_, _≤_}
+use native.Mathlib.Omega.{arith}
+use mathlib.Core.Path.{_≡_, refl, sym, ap, _∙_}
+use mathlib.Core.Bool.{Bool, true, false, _&&_, false≢true}
+use mathlib.Core.List.{List, [], map}
+use mathlib.Core.Option.{Option, none, some}
+use lib.ListN.{length, getD, replicate}
+use borrow.Author.Tests.{le-leb}
+use Rattle.words.specs.Number.{number, wordCount}
+use Rattle.refusal.specs.declared.Refusal.{Refusal}
+use Rattle.plan.specs.declared.Checked.{Checked}
+use Rattle.rule.specs.Rule.{wordLength}
+use Rattle.plan.specs.Check.{checked, rulesOf}
+use Rattle.forest.specs.declared.Walked.{Walked}
+use Rattle.forest.specs.Forest.{forest}
+use Rattle.forest.specs.Place.{placedForest}
+use Rattle.forest.specs.Reference.{answers}
+use Rattle.forest.specs.Outcome.{workWords, enoughWork}
+use Rattle.forest.specs.Walk.{cellLength, cursorWords, enoughLent, lettersOf, firstOther, cellAt, Begun, lettersJudged, begun, walked, answerWord}
+use Rattle.demand.specs.Calls.{Call, Left, lent, walkOf}
+use Rattle.demand.specs.Demand.{Above, isRefused, wordsFrom}
+use Rattle.demand.proofs.Walkable.{Stands}
+use Rattle.demand.proofs.OneCall.{Came, begins, one-call}
+use Rattle.demand.proofs.Lists.{above-stands}
+use Rattle.demand.proofs.Plans.{walkable}
+
+-- a cursor of zeros
+zero-at : (m i : ℕ) → getD {A = ℕ} (replicate m 0) i 0 ≡ 0
+zero-at zero i = refl
+zero-at (suc m) zero = refl
+zero-at (suc m) (suc i) = zero-at m i
+
+number-zeros : (w m at : ℕ) → number w (replicate m 0) at ≡ 0
+unfolding number
+number-zeros zero m at = refl
+number-zeros (suc w) m at = rw (zero-at m at, number-zeros w m (suc at))
+
+pub zeros-above : (m : ℕ) → Above (replicate m 0)
+unfolding Above cellAt
+zeros-above m = simp number-zeros
+
+module _ (s work cursor letters given : List ℕ) (n start : ℕ) (accepted : checked s ≡ Checked.Accepted n start) (above : Above cursor)
+    (worked : 64 * n ≤ length work) (room : 32 * (n + 1) ≤ length cursor) (answerable : 2 * length letters ≤ length given) where
+  abbrev call : Call
+  call = record { work = work; letters = letters; answers = given }
+
+  abbrev left : Left
+  left = walkOf (record { plan = s; work = work; cursor = cursor; letters = letters; answers = given })
+
+  enough-work : enoughWork n work ≡ true
+  unfolding enoughWork
+  enough-work = le-leb (32 * n) (wordCount work) (omega arith)
+
+  enough : enoughLent work cursor letters given n ≡ true
+  unfolding enoughLent cursorWords
+  enough = rw (enough-work, le-leb (16 * (n + 1)) (wordCount cursor) (omega arith), le-leb (length letters) (wordCount given) (omega arith))
+
+  stands : Stands (placedForest (rulesOf s) start) cursor cursor []
+  stands = above-stands s n start cursor accepted (walkable s n start accepted) above
+
+  begins-above : begun s work cursor letters given ≡ lettersJudged (firstOther letters 0) (Begun.at n start [])
+  begins-above = begins s n start cursor accepted (walkable s n start accepted) cursor [] stands call ∙ rw enough
+
+  pub above-accepted : firstOther letters 0 ≡ none → left .answer ≡ Walked.Accepted
+  unfolding walkOf walked lettersJudged
+  above-accepted e = rw (begins-above, e)
+
+  pub above-refused : (i : ℕ) → firstOther letters 0 ≡ some i → left .answer ≡ Walked.Refused (Refusal.Letter i)
+  unfolding walkOf walked lettersJudged
+  above-refused i e = rw (begins-above, e)
+
+  pub above-answers : firstOther letters 0 ≡ none → wordsFrom (length letters) (left .answers) 0 ≡ map answerWord (answers (forest (rulesOf s) start) (lettersOf letters) [])
+  unfolding lent isRefused
+  above-answers e = go (one-call s n start cursor accepted (walkable s n start accepted) cursor [] stands call)
+    where
+      go : Came s n (forest (rulesOf s) start) (placedForest (rulesOf s) start) cursor cursor [] call left
+          → wordsFrom (length letters) (left .answers) 0 ≡ map answerWord (answers (forest (rulesOf s) start) (lettersOf letters) [])
+      go (Came.turned d r k) = absurd (false≢true (sym (ap isRefused (above-accepted e)) ∙ r))
+      go (Came.went d r t k w) = w
