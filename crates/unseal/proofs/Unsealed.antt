@@ -1,10 +1,11 @@
 -- Unseal's answer and output for each outcome of check and of the test for room, and where an accepted plan's records lie.
 -- Assumes nothing.
-use Prim.Native.Nat.{ℕ, _+_, _-_, _*_, _≤_, _<_}
+use Prim.Native.Nat.{ℕ, _+_, _-_, _*_, _≤_}
 use mathlib.Core.List.{List, _++_}
 use mathlib.Core.Path.{_≡_, ap, ap₂, _∙_}
 use lib.ListN.{length}
-use borrow.Author.Tests.{le-leb, lt-leb}
+use mathlib.Core.Bool.{true, false}
+use lib.Dec.{leb}
 use Rattle.words.specs.Number.{wordCount}
 use Rattle.rule.specs.declared.Record.{Record}
 use Rattle.refusal.specs.declared.Refusal.{Refusal}
@@ -29,10 +30,10 @@ module _ (s out : List ℕ) where
       (e, unsealed-as (Checked.Refused r) e)
 
   module _ (n start : ℕ) (h : checked s ≡ Checked.Accepted n start) where
-    pub unsealed-no-room : wordCount out < recordWords * n → (unsealed s out ≡ Checked.Refused Refusal.Room) × (unsealedOutput s out ≡ out)
+    pub unsealed-no-room : leb (recordWords * n) (wordCount out) ≡ false → (unsealed s out ≡ Checked.Refused Refusal.Room) × (unsealedOutput s out ≡ out)
     unfolding unsealed wordsRoomed wordsAfter
     unsealed-no-room l =
-        let e : unsealed s out ≡ Checked.Refused Refusal.Room = ap (wordsRoomed out) h ∙ rw (lt-leb (recordWords * n) (wordCount out) l) in
+        let e : unsealed s out ≡ Checked.Refused Refusal.Room = ap (wordsRoomed out) h ∙ rw l in
         (e, unsealed-as (Checked.Refused Refusal.Room) e)
 
     pub unsealed-long : recordLength * n + trailerLength ≤ length s
@@ -43,12 +44,12 @@ module _ (s out : List ℕ) where
         plan-records mostRules s n start (checked-plan s n start h)
         ∙ ap (λ (at : ℕ). recordsFrom s at n) (plan-first mostRules s n start (checked-plan s n start h))
 
-    pub unsealed-roomed : recordWords * n ≤ wordCount out
+    pub unsealed-roomed : leb (recordWords * n) (wordCount out) ≡ true
         → (unsealed s out ≡ Checked.Accepted n start)
         × (unsealedOutput s out ≡ inFront (recordsBytes (recordsFrom s (length s - trailerLength - recordLength * n) n)) out)
     unfolding unsealed wordsRoomed wordsAfter
     unsealed-roomed l =
-        let e : unsealed s out ≡ Checked.Accepted n start = ap (wordsRoomed out) h ∙ rw (le-leb (recordWords * n) (wordCount out) l) in
+        let e : unsealed s out ≡ Checked.Accepted n start = ap (wordsRoomed out) h ∙ rw l in
         (e, unsealed-as (Checked.Accepted n start) e ∙ ap (λ (ws : List Record). inFront (recordsBytes ws) out) unsealed-records)
 
 -- bytes before a plan change nothing here either

@@ -4,12 +4,15 @@ use plan::Trailer;
 use plan::check;
 use refusal::Refusal;
 use rule::Record;
-ghost use Prim.Native.Nat.{_+_, _*_, _≤_};
+ghost use Prim.Native.Nat.{_+_, _-_, _*_, _≤_};
 ghost use mathlib.Core.Path.{_≡_};
 ghost use mathlib.Core.List.{_++_};
 ghost use lib.ListN.{length, take, drop};
-ghost use Rattle.rule.specs.Rule.{recordLength, recordBytes};
+ghost use lib.Dec.{leb};
+ghost use Rattle.words.specs.Number.{wordCount};
+ghost use Rattle.rule.specs.Rule.{recordLength, recordWords, recordBytes};
 ghost use Rattle.rule.specs.Records.{recordsFrom, recordsBytes};
+ghost use Rattle.plan.specs.Check.{trailerLength};
 ghost use Rattle.seal.specs.Seal.{inFront};
 ghost use Rattle.unseal.specs.Unseal.{unsealed, unsealedOutput};
 
@@ -21,20 +24,27 @@ pub fn unseal(plan: &[u8], out: &mut [u8]) -> Checked
     let Checked::Accepted { n, start: _ } = answer else {
         return answer;
     };
-    let n = n as usize;
-    if words::word_count(out) < Record::WORDS * n {
+    if !roomed(out, n) {
         return Checked::Refused(Refusal::Room);
     }
-    let first = plan.len() - Trailer::LENGTH - Record::LENGTH * n;
-    copy_records(plan, first, out, n);
+    copy_records(plan, out, n);
     answer
 }
 
-// The n records of the plan from its first on, at the front of the output.
-fn copy_records(plan: &[u8], first: usize, out: &mut [u8], n: usize)
-    requires { ⌜ (first + recordLength * n ≤ length (now plan)) × (recordLength * n ≤ length (now out)) ⌝ }
-    ensures { λ _. ⌜ now (out .exit) ≡ inFront (recordsBytes (recordsFrom (now (plan .entry)) first n)) (now (out .entry)) ⌝ }
+// Has the output four words for each of n rules?
+fn roomed(out: &[u8], n: u16) -> bool
+    ensures { λ r. ⌜ r ≡ leb (recordWords * n) (wordCount (now (out .entry))) ⌝ }
 {
+    Record::WORDS * (n as usize) <= words::word_count(out)
+}
+
+// The n records right before the plan's trailer, at the front of the output.
+fn copy_records(plan: &[u8], out: &mut [u8], n: u16)
+    requires { ⌜ (recordLength * n + trailerLength ≤ length (now plan)) × (recordLength * n ≤ length (now out)) ⌝ }
+    ensures { λ _. ⌜ now (out .exit) ≡ inFront (recordsBytes (recordsFrom (now (plan .entry)) (length (now (plan .entry)) - trailerLength - recordLength * n) n)) (now (out .entry)) ⌝ }
+{
+    let n = n as usize;
+    let first = plan.len() - Trailer::LENGTH - Record::LENGTH * n;
     let mut i = 0;
     while i < n {
         put(Record::read(plan, first + Record::LENGTH * i), out, i);

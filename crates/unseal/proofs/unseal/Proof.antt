@@ -1,13 +1,16 @@
 -- `unseal` answers as check does, but for the test for room; each answer is the law for the tests that led there. Assumes nothing.
-use Prim.Native.Nat.{_+_, _*_, _≤_}
 use mathlib.Core.Path.{_≡_, sym, _∙_}
+use mathlib.Core.Bool.{true}
 use native.Mathlib.Omega.{arith}
-use lib.ListN.{length}
+use Prim.Native.Nat.{_*_}
+use lib.Dec.{leb}
 use denote.Ref.{now}
+use borrow.Author.Tests.{not-true, not-false, leb-true}
 use borrow.Author.Needs.{needs}
+use Rattle.words.specs.Number.{wordCount}
+use Rattle.rule.specs.Rule.{recordWords}
 use Rattle.plan.specs.declared.Checked.{Checked}
-use Rattle.rule.specs.Rule.{recordLength}
-use Rattle.plan.specs.Check.{trailerLength, checked}
+use Rattle.plan.specs.Check.{checked}
 use Rattle.unseal.proofs.Unsealed.{unsealed-refused, unsealed-no-room, unsealed-roomed, unsealed-long}
 use Rattle.unseal.proofs.unseal.Statement.{statement}
 use Rattle.unseal.proofs.unseal.Tie as tie
@@ -33,14 +36,8 @@ accepted-is : (c : tie.After-known-told)
     → checked (now (c .before .before .before .before .before .before .args .plan)) ≡ Checked.Accepted (c .before .answer .given .0 .0) (c .before .answer .given .0 .1 .0)
 accepted-is c = sym (c .before .before .before .check .ensures) ∙ c .before .answer .given .1
 
-cast-n : tie.Need-cast-n
-cast-n c = search needs
-
-word-count-requires : tie.Need-word-count-requires
-word-count-requires c κs = search needs
-
-mul-if1 : tie.Need-mul-if1
-mul-if1 c = search needs
+roomed-requires : tie.Need-roomed-requires
+roomed-requires c κs = search needs
 
 same-length : tie.Need-same-length
 same-length c = search needs
@@ -49,23 +46,20 @@ returns-2 : tie.Need-returns-2
 returns-2 c =
     let known = c .before .before .before in
     let a = known .before .before .before .before .before .before .args in
-    let r = unsealed-no-room (now (a .plan)) (now (a .out)) _ _ (accepted-is known) (omega arith) in
+    let r = unsealed-no-room (now (a .plan)) (now (a .out)) _ _ (accepted-is known) (sym (c .before .roomed .ensures) ∙ not-true (c .before .roomed .result) (c .if1 .taken)) in
     (sym (r .0), sym (r .1))
 
-long : (c : tie.After-known-told) → recordLength * c .before .answer .given .0 .0 + trailerLength ≤ length (now (c .before .before .before .before .before .before .args .plan))
-long c = let a = c .before .before .before .before .before .before .args in unsealed-long (now (a .plan)) (now (a .out)) _ _ (accepted-is c)
-
-sub-first : tie.Need-sub-first
-sub-first c = omega (arith, long (c .before .before .before))
-
-mul-first : tie.Need-mul-first
-mul-first c = search needs
-
-sub-first-2 : tie.Need-sub-first-2
-sub-first-2 c = omega (arith, long (c .before .before .before))
+-- and the output has room
+room-is : (c : tie.Else1)
+    → let known = c .before .before .before in
+    leb (recordWords * known .before .answer .given .0 .0) (wordCount (now (known .before .before .before .before .before .before .args .out))) ≡ true
+room-is c = sym (c .before .roomed .ensures) ∙ not-false (c .before .roomed .result) (c .if1 .left)
 
 copy-records-requires : tie.Need-copy-records-requires
-copy-records-requires c κs = (omega (arith, long (c .before .before .before .before)), omega arith)
+copy-records-requires c κs =
+    let known = c .before .before .before .before in
+    let a = known .before .before .before .before .before .before .args in
+    (unsealed-long (now (a .plan)) (now (a .out)) _ _ (accepted-is known), omega (arith, leb-true (recordWords * known .before .answer .given .0 .0) (wordCount (now (a .out))) (room-is (c .before))))
 
 same-length-2 : tie.Need-same-length-2
 same-length-2 c = search needs
@@ -73,9 +67,10 @@ same-length-2 c = search needs
 returns-3 : tie.Need-returns-3
 returns-3 c =
     let done = c .before .before in
-    let known = done .before .before .before .before .before in
+    let roomed = done .before .before in
+    let known = roomed .before .before .before in
     let a = known .before .before .before .before .before .before .args in
-    let r = unsealed-roomed (now (a .plan)) (now (a .out)) _ _ (accepted-is known) (omega arith) in
+    let r = unsealed-roomed (now (a .plan)) (now (a .out)) _ _ (accepted-is known) (room-is roomed) in
     (sym (r .0), done .copy-records .ensures ∙ sym (r .1))
 
 pub unseal-spec : {M : Type 1} → statement M
@@ -86,14 +81,9 @@ unseal-spec =
     enum-known-answer
     enum-told
     returns
-    cast-n
-    word-count-requires
-    mul-if1
+    roomed-requires
     same-length
     returns-2
-    sub-first
-    mul-first
-    sub-first-2
     copy-records-requires
     same-length-2
     returns-3)
