@@ -24,6 +24,9 @@ pub const MOST_LETTERS: usize = 4096;
 // Bytes of a line: a letter, a space, three digits, a line end.
 const LINE: usize = 6;
 
+// What ends a line.
+const LINE_END: u8 = 10;
+
 // Bytes of output.
 pub const MOST_OUTPUT: usize = LINE * MOST_LETTERS;
 
@@ -87,7 +90,7 @@ fn put_refusal(out: &mut [u8], why: Refusal) -> usize
     let end = put_decimal(out, end, why.number() as u64);
     let end = put_text(out, end, b" at ");
     let end = put_decimal(out, end, why.position());
-    put_byte(out, end, b'\n')
+    put_byte(out, end, LINE_END)
 }
 
 // A label in decimal, or "-" for nowhere.
@@ -109,7 +112,7 @@ fn put_line(out: &mut [u8], at: usize, letter: u8, word: u16) -> usize
     let end = put_byte(out, at, letter);
     let end = put_byte(out, end, b' ');
     let end = put_answer(out, end, word);
-    put_byte(out, end, b'\n')
+    put_byte(out, end, LINE_END)
 }
 
 // A line for each letter and its word of answers, at the front of the output.

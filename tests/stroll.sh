@@ -1,0 +1,86 @@
+#!/usr/bin/env bash
+# Runs stroll, by its script and by itself, on document 01's sample and on inputs that it turns down.
+set -u
+cd "$(dirname "$0")/.." || exit 1
+root=$PWD
+room=$(mktemp -d)
+trap 'rm -rf "$room"' EXIT
+mkdir "$room/tmp" "$room/folder" "$room/unbuilt"
+export TMPDIR=$room/tmp
+sample=$root/samples/plan.bin
+
+# holds WHAT STATUS EXPECTED COMMAND..: the command ends with this status and prints exactly this
+holds() {
+    local what=$1 status=$2 ended
+    printf '%b' "$3" >"$room/expected"
+    shift 3
+    "$@" >"$room/printed" 2>"$room/said"
+    ended=$?
+    if [ "$ended" -ne "$status" ] || ! cmp -s "$room/expected" "$room/printed"; then
+        echo "stroll, $what: it ended with $ended and printed"
+        head -n 20 "$room/printed" "$room/said"
+        exit 1
+    fi
+}
+
+# says WORDS: the last command said this on standard error
+says() {
+    grep -qF -- "$1" "$room/said" && return
+    echo "stroll: '$1' is not in what it said"
+    cat "$room/said"
+    exit 1
+}
+
+# many N X: X, so many times
+many() {
+    printf "%*s" "$1" '' | sed "s/ /$2/g"
+}
+
+# alone FOLDER LETTERS: the program itself, in a folder
+alone() {
+    (cd "$1" && printf '%s' "$2" | "$root/target/bin/stroll")
+}
+
+cmp "$sample" crates/stroll/data/plan.bin || exit 1
+holds "the sample" 0 "$(cat crates/stroll/stdout)\n" ./stroll samples/plan.bin afnnfnnnnununnn
+cd "$room/folder" || exit 1
+holds "from another folder" 0 'a 99\nz 98\np 97\ns 97\nu -\n' "$root/stroll" "$sample" azpsu
+holds "no letters" 0 '' "$root/stroll" "$sample" ''
+holds "a byte that is no letter" 0 'refused 9 at 2\n' "$root/stroll" "$sample" afxn
+holds "a line end among the letters" 0 'refused 9 at 1\n' "$root/stroll" "$sample" $'a\n'
+
+holds "an absent file" 0 'refused 1 at 0\n' alone "$room/folder" a
+: >"$room/plan"
+holds "an empty file" 0 'refused 1 at 0\n' "$root/stroll" "$room/plan" a
+{ many 16310 x && cat "$sample"; } >"$room/plan"
+holds "a plan of 16,384 bytes" 0 'a 99\n' "$root/stroll" "$room/plan" a
+{ many 16311 x && cat "$sample"; } >"$room/plan"
+holds "a plan of 16,385 bytes" 0 'refused 8 at 0\n' "$root/stroll" "$room/plan" a
+many 16385 x >"$room/plan"
+holds "16,385 bytes that are no plan" 0 'refused 8 at 0\n' "$root/stroll" "$room/plan" x
+
+holds "4,096 letters" 0 "a 99\n$(many 4095 's 99\\n')" "$root/stroll" "$sample" "a$(many 4095 s)"
+holds "4,097 letters" 0 'refused 8 at 0\n' "$root/stroll" "$sample" "a$(many 4096 s)"
+holds "4,097 bytes that are no letters" 0 'refused 8 at 0\n' "$root/stroll" "$sample" "$(many 4097 x)"
+printf 'no plan' >"$room/plan"
+holds "4,097 letters on no plan" 0 'refused 1 at 0\n' "$root/stroll" "$room/plan" "$(many 4097 a)"
+
+for arguments in '' "$sample" "$sample a b"; do
+    # shellcheck disable=SC2086
+    holds "a wrong number of arguments" 2 '' "$root/stroll" $arguments
+    says "usage: stroll PLAN LETTERS"
+done
+holds "a plan that is not there" 1 '' "$root/stroll" "$room/nothing" a
+says "cannot read the plan $room/nothing"
+holds "a plan that is a folder" 1 '' "$root/stroll" "$room/folder" a
+says "cannot read the plan $room/folder"
+
+# without the kit, where nothing is built
+cp "$root/stroll" "$root/crates.txt" "$room/unbuilt"
+mkdir "$room/unbuilt/crates" "$room/tools"
+for tool in bash env dirname readlink mktemp rm cat find; do ln -s "$(command -v $tool)" "$room/tools/$tool"; done
+holds "no kit" 1 '' env PATH="$room/tools" "$room/unbuilt/stroll" "$sample" a
+says "the Rattle kit (rt) is not installed"
+
+left=$(find "$room/tmp" "$room/folder" -mindepth 1)
+[ -z "$left" ] || { echo "stroll left behind: $left"; exit 1; }
