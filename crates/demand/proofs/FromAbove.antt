@@ -3,22 +3,21 @@
 use Prim.Native.Nat.{ℕ, zero, suc, _+_, _*_, _≤_}
 use native.Mathlib.Omega.{arith}
 use mathlib.Core.Path.{_≡_, refl, sym, ap, _∙_}
-use mathlib.Core.Bool.{Bool, true, false, _&&_, false≢true}
+use mathlib.Core.Bool.{true, false, false≢true}
 use mathlib.Core.List.{List, [], map}
-use mathlib.Core.Option.{Option, none, some}
+use mathlib.Core.Option.{none, some}
 use lib.ListN.{length, getD, replicate}
 use borrow.Author.Tests.{le-leb}
 use Rattle.words.specs.Number.{number, wordCount}
 use Rattle.refusal.specs.declared.Refusal.{Refusal}
 use Rattle.plan.specs.declared.Checked.{Checked}
-use Rattle.rule.specs.Rule.{wordLength}
 use Rattle.plan.specs.Check.{checked, rulesOf}
 use Rattle.forest.specs.declared.Walked.{Walked}
 use Rattle.forest.specs.Forest.{forest}
 use Rattle.forest.specs.Place.{placedForest}
 use Rattle.forest.specs.Reference.{answers}
-use Rattle.forest.specs.Outcome.{workWords, enoughWork}
-use Rattle.forest.specs.Walk.{cellLength, cursorWords, enoughLent, lettersOf, firstOther, cellAt, Begun, lettersJudged, begun, walked, answerWord}
+use Rattle.forest.specs.Outcome.{enoughWork}
+use Rattle.forest.specs.Walk.{cursorWords, enoughLent, lettersOf, firstOther, cellAt, Begun, lettersJudged, begun, walked, answerWord}
 use Rattle.demand.specs.Calls.{Call, Left, lent, walkOf}
 use Rattle.demand.specs.Demand.{Above, isRefused, wordsFrom}
 use Rattle.demand.proofs.Walkable.{Stands}

@@ -3,10 +3,9 @@
 -- Assumes nothing.
 use Prim.Native.Nat.{ℕ, _+_, _*_, _<_, _≤_}
 use native.Mathlib.Omega.{arith}
-use mathlib.Core.Path.{_≡_, refl, sym, ap, _∙_}
-use mathlib.Core.Bool.{true}
+use mathlib.Core.Path.{_≡_, sym, ap, _∙_}
 use mathlib.Core.List.{List, [], map}
-use mathlib.Core.Option.{Option, none, some}
+use mathlib.Core.Option.{none, some}
 use lib.ListN.{length}
 use borrow.Author.Tests.{le-leb, lt-leb}
 use Rattle.refusal.specs.declared.Refusal.{Refusal}
@@ -16,7 +15,7 @@ use Rattle.plan.proofs.Sound.{checked-plan}
 use Rattle.forest.specs.declared.Walked.{Walked}
 use Rattle.forest.specs.Forest.{forest}
 use Rattle.forest.specs.Reference.{answers}
-use Rattle.forest.specs.Walk.{lettersOf, firstOther, answerWord}
+use Rattle.forest.specs.Walk.{lettersOf, firstOther}
 use Rattle.forest.proofs.Cases.{by-option}
 use Rattle.demand.specs.Calls.{Left, walkOf}
 use Rattle.demand.specs.Demand.{Above, wordsFrom}

@@ -4,7 +4,7 @@ use mathlib.Core.Path.{_≡_}
 use mathlib.Core.Bool.{cond}
 use mathlib.Core.List.{List, map}
 use mathlib.Core.Option.{Option, none, some}
-use lib.ListN.{length, take}
+use lib.ListN.{length, take, drop}
 use lib.Seq.{sets}
 use lib.Dec.{eqb}
 use Rattle.plan.specs.declared.Checked.{Checked}
@@ -19,9 +19,18 @@ pub record Put (text : List ℕ) (at : ℕ) (s t : List ℕ) (end : ℕ) : Type 
   pub ends : end ≡ at + length text
   pub room : at + length text ≤ length s
 
+-- a text at the end of a slice of so many digits, from first on
+abbrev pub mostDigits : ℕ
+mostDigits = 20
+
+pub record Spelt (text digits : List ℕ) (first : ℕ) : Type 0 where
+  pub long : length digits ≡ mostDigits
+  pub within : first ≤ mostDigits
+  pub text-last : drop first digits ≡ text
+
 -- the room of a refusal's line: its two texts, a number of 32 bits, a position of 64 bits, the line end
 abbrev pub refusedLength : ℕ
-refusedLength = 8 + 10 + 4 + 20 + 1
+refusedLength = 8 + 10 + 4 + mostDigits + 1
 
 -- the answer that a word of answers says
 unfoldable pub answerOf : ℕ → Option ℕ

@@ -14,7 +14,7 @@ ghost use Rattle.lines.specs.Decimal.{decimal};
 ghost use Rattle.lines.specs.Decimal.{digit as Decimal·digit};
 ghost use Rattle.lines.specs.Lines.{lineLength, shown, line, lines, refusedLine};
 ghost use Rattle.lines.specs.Stroll.{mostLetters, checkPrinted, strollOutput};
-ghost use Rattle.lines.specs.Put.{Put, refusedLength, answerOf, answersFrom, Accepted, Printed};
+ghost use Rattle.lines.specs.Put.{Put, mostDigits, Spelt, refusedLength, answerOf, answersFrom, Accepted, Printed};
 
 // Bytes of a plan, and letters, at most.
 pub const MOST_PLAN: usize = 16384;
@@ -23,6 +23,9 @@ pub const MOST_LETTERS: usize = 4096;
 
 // Bytes of a line: a letter, a space, three digits, a line end.
 const LINE: usize = 6;
+
+// Digits of a number of 64 bits, at most.
+const DIGITS: usize = 20;
 
 // What ends a line.
 const LINE_END: u8 = 10;
@@ -69,16 +72,31 @@ fn digit(v: u64) -> u8
     b'0' + (v % 10) as u8
 }
 
-// A number in decimal: the digits before the last, then the last.
+// The digits of a number, at the end of what is lent; gives where the first stands.
+fn spell(v: u64, digits: &mut [u8]) -> usize
+    requires { ⌜ length (now digits) ≡ mostDigits ⌝ }
+    ensures { λ r. ⌜ Spelt (decimal v) (now (digits .exit)) r ⌝ }
+{
+    let mut first = DIGITS;
+    let mut rest = v;
+    while 10 <= rest {
+        first -= 1;
+        digits[first] = digit(rest);
+        rest = rest / 10;
+    }
+    first -= 1;
+    digits[first] = digit(rest);
+    first
+}
+
+// A number in decimal.
 fn put_decimal(out: &mut [u8], at: usize, v: u64) -> usize
     requires { ⌜ at + length (decimal v) ≤ length (now out) ⌝ }
     ensures { λ r. ⌜ Put (decimal v) at (now (out .entry)) (now (out .exit)) r ⌝ }
 {
-    if v < 10 {
-        return put_byte(out, at, digit(v));
-    }
-    let end = put_decimal(out, at, v / 10);
-    put_byte(out, end, digit(v))
+    let mut digits = [0u8; DIGITS];
+    let first = spell(v, &mut digits);
+    put_text(out, at, &digits[first..])
 }
 
 // The line of a refusal, at the front of the output.

@@ -1,5 +1,5 @@
 -- The loop's invariant: the lines from letter i on, put where the loop stands, give what all lines give. Assumes nothing.
-use Prim.Native.Nat.{_+_, _-_, _*_, _≤_}
+use Prim.Native.Nat.{_+_, _-_, _≤_}
 use native.Mathlib.Omega.{arith}
 use mathlib.Core.Path.{_≡_, refl, ap}
 use denote.Ref.{now}
