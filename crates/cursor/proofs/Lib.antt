@@ -2,4 +2,4 @@ pub mod Held
 pub mod Turns
 pub mod Kept
 pub mod Outcomes
-pub mod Settles
+pub mod Arrives

@@ -1,2 +1,2 @@
+pub mod Arrived
 pub mod Moves
-pub mod Settled

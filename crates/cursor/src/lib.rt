@@ -12,8 +12,8 @@ ghost use Rattle.tables.specs.Table.{sideOf, known, In};
 ghost use Rattle.tables.specs.Closes.{Closes};
 ghost use Rattle.cells.specs.Cells.{runCell};
 ghost use Rattle.cells.specs.Changes.{add, stepCells, stemCells, stemNode, changeNode};
-ghost use Rattle.cursor.specs.Moves.{reached, outcome, Kept, Held, aboveTop, Turns};
-ghost use Rattle.cursor.specs.Settled.{Room, Settled};
+ghost use Rattle.cursor.specs.Moves.{reached, outcome, Held, aboveTop, Turns};
+ghost use Rattle.cursor.specs.Arrived.{Fitting, Arrived};
 use cells::Cell;
 use cells::Change;
 use cells::Stem;
@@ -369,19 +369,11 @@ fn label(work: &[u8], r: u16) -> u32
     }
 }
 
-// What a letter that leads to an outcome comes to, from k cells and rule p: nowhere keeps the place, and before any cell is
-// written it is dealt with.
-pub fn settle(work: &[u8], cursor: &mut [u8], k: usize, p: u16, o: Outcome) -> Landing
-    requires { ⌜ Room (now cursor) (outcome o (now cursor)) × Kept (In (now work)) (outcome o (now cursor)) ⌝ }
-    ensures { λ r. ⌜ Settled (known (now (work .entry))) k p (outcome o (now (cursor .entry))) (now (cursor .entry)) (now (cursor .exit)) r ⌝ }
+// What a letter that leads to a node comes to: its cells are written.
+pub fn arrive(work: &[u8], cursor: &mut [u8], change: Change) -> Landing
+    requires { ⌜ Fitting (now work) (now cursor) (changeNode change (now cursor)) ⌝ }
+    ensures { λ r. ⌜ Arrived (known (now (work .entry))) (changeNode change (now (cursor .entry))) (now (cursor .entry)) (now (cursor .exit)) r ⌝ }
 {
-    let Outcome::Node(change) = o else {
-        return Landing {
-            used: k,
-            rule: p,
-            answer: Landing::NOWHERE,
-        };
-    };
     let rule = change.rule;
     let answer = label(work, rule);
     let used = cells::write(cursor, change);

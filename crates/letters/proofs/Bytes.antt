@@ -1,9 +1,9 @@
 -- A byte that is none of the eight is no letter. Assumes nothing.
 use Prim.Native.Nat.{ℕ}
 use mathlib.Core.Path.{_≡_}
-use mathlib.Core.Option.{Option, none}
+use mathlib.Core.Option.{none}
 use borrow.Author.Tests.{ne-eqb}
-use Rattle.forest.specs.Letter.{Letter, letterOf}
+use Rattle.forest.specs.Letter.{letterOf}
 
 pub no-letter : (b : ℕ) → (b ≡ 97 → ⊥) → (b ≡ 122 → ⊥) → (b ≡ 102 → ⊥) → (b ≡ 108 → ⊥) → (b ≡ 110 → ⊥) → (b ≡ 112 → ⊥) → (b ≡ 117 → ⊥) → (b ≡ 115 → ⊥) → letterOf b ≡ none
 unfolding letterOf

@@ -1,27 +1,28 @@
 -- Letters taken one by one: what is answered so far and what the letters still to come will give make up what all of them give.
 -- One word more at the front of the answers. Assumes nothing.
-use Prim.Native.Nat.{ℕ, zero, suc, _+_, _*_, _^_, _≤_, _<_}
+use Prim.Native.Nat.{ℕ, _+_, _*_, _≤_, _<_}
 use native.Mathlib.Omega.{arith}
 use native.Mathlib.Numerals.{add-one}
 use mathlib.Core.Path.{_≡_, refl, sym, ap, ap₂, _∙_}
 use mathlib.Core.List.{List, [], _∷_, _++_, map, append-assoc, append-nil}
-use mathlib.Core.Option.{Option, none, some}
+use mathlib.Core.Option.{none, some}
 use lib.ListN.{length, take, drop, getD, length-append, length-drop, drop-of-length-le}
-use lib.Seq.{take-suc, take-at, drop-at, drop-drop, drop-cons}
+use lib.Seq.{take-at, drop-at, drop-drop, drop-cons}
 use Rattle.words.specs.Number.{bytes, put}
 use Rattle.words.proofs.Laws.{put-split, length-put, length-bytes}
 use Rattle.seal.specs.Seal.{inFront}
 use Rattle.forest.specs.Letter.{Letter, letterOf}
 use Rattle.forest.specs.Walk.{cellLength, cellsIn, andLetters, lettersOf, wordsBytes, answerWord}
 use Rattle.model.specs.Model.{Node}
-use Rattle.model.specs.Walk.{answer, answers, moved, after}
+use Rattle.model.specs.Walk.{answer, answers, after}
 use Rattle.rows.specs.Rows.{Within}
 use Rattle.tables.specs.Table.{rows, known}
 use Rattle.rows.proofs.Rows.{within-none, within-both}
 use Rattle.cursor.specs.declared.Landing.{Landing}
 use Rattle.cells.specs.Cells.{cursorLength}
-use Rattle.letters.specs.Standing.{Stands, Stepped, Ran, Answerable}
-use Rattle.letters.proofs.Standing.{stands-few, stands-after}
+use Rattle.states.specs.Standing.{Stands, Stepped}
+use Rattle.letters.specs.Ran.{Ran, Answerable}
+use Rattle.states.proofs.Stands.{stands-few, stands-after}
 
 pub length-wordsBytes : (vs : List ℕ) → length (wordsBytes vs) ≡ 2 * length vs
 unfolding wordsBytes

@@ -1,17 +1,8 @@
--- The code's letters as the definitions have them.
+-- What a byte is, as the definitions have it.
 use mathlib.Core.Option.{Option, none, some}
 use Rattle.forest.specs.Letter as spec
-use Rattle.tables.specs.Table.{sideOf}
-use Rattle.letters.specs.declared.Letter.{Letter}
+use Rattle.states.specs.Letters.{moveOf}
 use Rattle.letters.specs.declared.Read.{Read}
-
--- a letter
-unfoldable pub moveOf : Letter → spec.Letter
-moveOf (Letter.Root s) = spec.Letter.root (sideOf s)
-moveOf (Letter.Child s) = spec.Letter.child (sideOf s)
-moveOf (Letter.Sibling s) = spec.Letter.sibling (sideOf s)
-moveOf Letter.Parent = spec.Letter.parent
-moveOf Letter.Stay = spec.Letter.stay
 
 unfoldable pub readAs : Read → Option spec.Letter
 unfolding moveOf

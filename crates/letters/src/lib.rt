@@ -1,26 +1,10 @@
-// Letters: one by one from a place, and a string of them (document 01, "Letters").
-use cursor::Landing;
-use cursor::Outcome;
-use tables::Side;
+// A string of letters from a place (document 01, "Letters").
+use states::Letter;
 ghost use mathlib.Core.Path.{_≡_};
-ghost use Prim.Native.Nat.{ℕ};
-ghost use mathlib.Core.List.{List, []};
 ghost use Rattle.forest.specs.Letter.{letterOf};
-ghost use Rattle.forest.specs.Walk.{cellsIn};
-ghost use Rattle.model.specs.Walk.{move};
-ghost use Rattle.tables.specs.Table.{known};
-ghost use Rattle.cursor.specs.Moves.{outcome};
-ghost use Rattle.letters.specs.Letters.{readAs, moveOf};
-ghost use Rattle.letters.specs.Standing.{Table, Stands, Stepped, Ran, Answerable};
-
-// A letter as a move over a side.
-pub enum Letter {
-    Root(Side),
-    Child(Side),
-    Sibling(Side),
-    Parent,
-    Stay,
-}
+ghost use Rattle.states.specs.Standing.{Stands};
+ghost use Rattle.letters.specs.Letters.{readAs};
+ghost use Rattle.letters.specs.Ran.{Ran, Answerable};
 
 // What a byte is: a letter, or something else.
 pub enum Read {
@@ -33,56 +17,16 @@ pub fn letter_of(b: u8) -> Read
     ensures { λ r. ⌜ readAs r ≡ letterOf b ⌝ }
 {
     match b {
-        b'a' => Read::Move(Letter::Root(Side::Left)),
-        b'z' => Read::Move(Letter::Root(Side::Right)),
-        b'f' => Read::Move(Letter::Child(Side::Left)),
-        b'l' => Read::Move(Letter::Child(Side::Right)),
-        b'n' => Read::Move(Letter::Sibling(Side::Right)),
-        b'p' => Read::Move(Letter::Sibling(Side::Left)),
-        b'u' => Read::Move(Letter::Parent),
-        b's' => Read::Move(Letter::Stay),
+        b'a' => Read::Move(Letter::A),
+        b'z' => Read::Move(Letter::Z),
+        b'f' => Read::Move(Letter::F),
+        b'l' => Read::Move(Letter::L),
+        b'n' => Read::Move(Letter::N),
+        b'p' => Read::Move(Letter::P),
+        b'u' => Read::Move(Letter::U),
+        b's' => Read::Move(Letter::S),
         _ => Read::Other,
     }
-}
-
-// Where a letter leads from above the forest: only a and z lead anywhere.
-fn from_above(table: &[u8], r: u16, letter: Letter) -> Outcome
-    requires { ⌜ Table r (now table) ⌝ }
-    ensures { λ o. ⌜ ((s : List ℕ) (p : ℕ) → outcome o s ≡ move (known (now (table .entry))) r (moveOf letter) (p, [])) ⌝ }
-{
-    match letter {
-        Letter::Root(side) => cursor::root(table, side, r),
-        Letter::Child(_) => Outcome::Nowhere,
-        Letter::Sibling(_) => Outcome::Nowhere,
-        Letter::Parent => Outcome::Nowhere,
-        Letter::Stay => Outcome::Nowhere,
-    }
-}
-
-// Where a letter leads from k cells and rule p; r is the walked rule.
-fn decide(table: &[u8], cursor: &[u8], k: usize, p: u16, r: u16, letter: Letter) -> Outcome
-    requires { ⌜ Stands r (now table) (now cursor) k p ⌝ }
-    ensures { λ o. ⌜ outcome o (now (cursor .entry)) ≡ move (known (now (table .entry))) r (moveOf letter) (p, cellsIn (now (cursor .entry)) k) ⌝ }
-{
-    if k == 0 {
-        return from_above(table, r, letter);
-    }
-    match letter {
-        Letter::Root(side) => cursor::root(table, side, r),
-        Letter::Child(side) => cursor::child(table, cursor, k, p, side),
-        Letter::Sibling(side) => cursor::sibling(table, cursor, k, p, side),
-        Letter::Parent => cursor::parent(table, cursor, k, p),
-        Letter::Stay => cursor::stay(k, p),
-    }
-}
-
-// A letter from k cells and rule p: decided on the cells as they are, and then written.
-fn step(table: &[u8], cursor: &mut [u8], k: usize, p: u16, r: u16, letter: Letter) -> Landing
-    requires { ⌜ Stands r (now table) (now cursor) k p ⌝ }
-    ensures { λ x. ⌜ Stepped r (now (table .entry)) (moveOf letter) k p (now (cursor .entry)) (now (cursor .exit)) x ⌝ }
-{
-    let o = decide(table, cursor, k, p, r, letter);
-    cursor::settle(table, cursor, k, p, o)
 }
 
 // Letters in turn from k cells and rule p, a word of answers each; gives the number of cells that they lead to.
@@ -105,7 +49,7 @@ pub fn run(
         let Read::Move(letter) = letter_of(letters[i]) else {
             return used;
         };
-        let landing = step(table, cursor, used, rule, r, letter);
+        let landing = states::step(table, cursor, used, rule, r, letter);
         words::write16(answers, 2 * i, landing.answer as u16);
         used = landing.used;
         rule = landing.rule;

@@ -27,9 +27,9 @@ use Rattle.model.specs.Walk as model
 use Rattle.model.proofs.Rules.{facts-agree}
 use Rattle.model.proofs.Walk.{Same}
 use Rattle.model.proofs.Outcome.{Found, accepted-path, refused-path, call-answers, call-cells}
-use Rattle.letters.specs.Standing.{Valid}
+use Rattle.states.specs.Standing.{Valid}
 use Rattle.walk.specs.Calls.{placed}
-use Rattle.letters.proofs.Valid.{good, fit}
+use Rattle.states.proofs.Valid.{good, fit}
 
 module _ {R : List Rule} {rank : ℕ → ℕ} (S : Sound R rank) {r : ℕ} (C : Closed R r) where
   -- a place of the walked rule's forest: its path and the walker's node there

@@ -22,7 +22,7 @@ use Rattle.tables.proofs.Entries.{known-rule}
 use Rattle.tables.proofs.Filling.{kept-holds}
 use Rattle.tables.proofs.Known.{built-walkable}
 use Rattle.rows.proofs.Work.{rules-first, beyond-work}
-use Rattle.letters.specs.Standing.{rulesKept, Table}
+use Rattle.states.specs.Standing.{rulesKept, Table}
 use Rattle.walk.specs.Calls.{Planned, Filled, Travels, Lendable, Walks}
 
 -- rows that are known as the facts of rules keep these

@@ -21,7 +21,7 @@ use Rattle.model.proofs.Accepted.{first-holds, second-holds}
 use Rattle.demand.specs.Calls.{Left, walkOf}
 use Rattle.rows.specs.Rows.{workLength, Within}
 use Rattle.rows.proofs.Work.{enough-room, work-cleared}
-use Rattle.letters.specs.Standing.{Answerable}
+use Rattle.letters.specs.Ran.{Answerable}
 use Rattle.walk.specs.Calls.{lends, leaves, Lendable, Walks}
 
 module _ (s work cursor letters given : List ℕ) where

@@ -30,7 +30,8 @@ use Rattle.cells.specs.Cells.{Lies}
 use Rattle.cells.specs.Cells.{cursorLength}
 use Rattle.cells.proofs.Stack.{cells-none, cells-top, top-kind}
 use Rattle.cells.proofs.Writes.{length-cells}
-use Rattle.letters.specs.Standing.{Valid, rulesKept, Table, Stands, Ran}
+use Rattle.states.specs.Standing.{Valid, rulesKept, Table, Stands}
+use Rattle.letters.specs.Ran.{Ran}
 use Rattle.walk.specs.Calls.{placed, Travels, Walks}
 use Rattle.walk.proofs.Begin.{Stood, stood-valid, begins, begins-not, place-not-headed, answers-left, cursor-left}
 

@@ -18,7 +18,8 @@ use Rattle.rows.specs.Rows.{workLength}
 use Rattle.tables.specs.Table.{rows, known, Climbs}
 use Rattle.cells.specs.Cells.{cursorLength}
 use Rattle.walk.specs.declared.Found.{Found}
-use Rattle.letters.specs.Standing.{rulesKept, Table, Answerable}
+use Rattle.states.specs.Standing.{rulesKept, Table}
+use Rattle.letters.specs.Ran.{Answerable}
 
 -- where the first byte that is no letter stands
 unfoldable pub foundAt : Found → Option ℕ

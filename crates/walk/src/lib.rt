@@ -15,7 +15,7 @@ ghost use Rattle.demand.specs.Calls.{walkOf};
 ghost use Rattle.rows.specs.Rows.{workLength, rowLength, Within};
 ghost use Rattle.tables.specs.Table.{known};
 ghost use Rattle.cells.specs.Cells.{Lies};
-ghost use Rattle.letters.specs.Standing.{rulesKept, Table};
+ghost use Rattle.states.specs.Standing.{rulesKept, Table};
 ghost use Rattle.walk.specs.Calls.{foundAt, placed, Filled, Travels, Walks, Planned, Lendable, lends, leaves};
 
 // Where the first byte that is no letter stands, if there is one.

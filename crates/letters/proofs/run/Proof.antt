@@ -1,11 +1,10 @@
 -- The loop's invariant: the words written and the letters still to come make up what all letters give. Assumes nothing.
 use Prim.Native.Nat.{_≤_, _-_}
 use native.Mathlib.Omega.{arith}
-use mathlib.Core.Path.{_≡_, sym, ap, _∙_}
+use mathlib.Core.Path.{sym, ap, _∙_}
 use lib.ListN.{length}
-use denote.Ref.{now}
-use Rattle.letters.specs.Letters.{moveOf, readAs}
-use Rattle.letters.proofs.Standing.{answer-small}
+use Rattle.letters.specs.Letters.{readAs}
+use Rattle.states.proofs.Stands.{answer-small}
 use Rattle.letters.proofs.Letters.{Partway, partway-none, partway-more, ran-all, ran-other}
 use borrow.Author.Needs.{needs}
 use Rattle.letters.proofs.run.Statement.{statement}

@@ -6,7 +6,7 @@ use Rattle.forest.specs.Walk.{cellsIn}
 use Rattle.tables.specs.Table.{known}
 use Rattle.cells.proofs.Stack.{cells-none, cells-top}
 use Rattle.walk.specs.Calls.{placed}
-use Rattle.letters.proofs.Standing.{table-held, walked-in}
+use Rattle.states.proofs.Stands.{table-held, walked-in}
 use Rattle.walk.proofs.Places.{placed-above, placed-node}
 use native.Mathlib.Omega.{arith}
 use Rattle.walk.proofs.placed.Statement.{statement}

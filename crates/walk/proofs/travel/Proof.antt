@@ -7,7 +7,7 @@ use denote.Ref.{now}
 use Rattle.forest.specs.Walk.{cellAt, usedCells, headed, cursorWords}
 use Rattle.cells.specs.Cells.{cell}
 use Rattle.cells.specs.declared.Cell.{Cell}
-use Rattle.letters.proofs.Standing.{held}
+use Rattle.states.proofs.Stands.{held}
 use Rattle.walk.proofs.Places.{not-headed, used-lies, not-placed, begun-stands, arrived-lies, arrived, head-lies, used}
 use borrow.Author.Needs.{needs}
 use Rattle.walk.proofs.travel.Statement.{statement}

@@ -1,10 +1,10 @@
 -- At a place of the walked rule's forest, or above it: what the moves ask for holds, each letter has room for its cells, and it
 -- leads to such a place again. Assumes nothing.
-use Prim.Native.Nat.{ℕ, zero, suc, _+_, _*_, _≤_, _<_}
+use Prim.Native.Nat.{ℕ, _+_, _*_, _≤_, _<_}
 use native.Mathlib.Omega.{arith}
-use mathlib.Core.Path.{_≡_, refl, sym, ap, subst, _∙_}
+use mathlib.Core.Path.{_≡_, sym, ap, subst, _∙_}
 use mathlib.Core.List.{List, [], _∷_, cons≢nil}
-use mathlib.Core.Option.{Option, none, some, Option·map, Option·getD}
+use mathlib.Core.Option.{Option, none, some, Option·map}
 use native.Mathlib.Decide.{decLt}
 use lib.ListN.{length, List·getD-eq-default}
 use lib.Dec.{T, leb→le}
@@ -14,28 +14,25 @@ use Rattle.rule.specs.Sound.{rule, Sound}
 use Rattle.forest.specs.Place.{Cells}
 use Rattle.forest.specs.Letter.{Letter}
 use Rattle.forest.specs.Walk.{cellLength, cursorWords, cellsIn, nowhere, answerWord}
-use Rattle.model.specs.Facts.{Facts, factsOf}
+use Rattle.model.specs.Facts.{factsOf}
 use Rattle.model.specs.Model.{Node}
 use Rattle.model.specs.Walk.{label, fromNode, move, moved, answer}
 use Rattle.model.proofs.Rules.{Agrees, facts-agree}
 use Rattle.model.proofs.Ranged.{Numbers}
-use Rattle.rows.specs.Rows.{Within}
 use Rattle.tables.specs.Table.{rows, In, known}
 use Rattle.rows.proofs.Rows.{within-none, within-wider}
 use Rattle.tables.proofs.Filling.{length-kept}
 use Rattle.cursor.specs.declared.Landing.{Landing}
 use Rattle.tables.specs.Closes.{Closes}
-use Rattle.cells.specs.Cells.{Lies}
 use Rattle.cursor.specs.Moves.{Held, Kept, Node-has, Each, Fits}
-use Rattle.cells.specs.Cells.{cursorLength}
-use Rattle.cells.specs.Changes.{Wrote}
-use Rattle.cursor.specs.Settled.{Room, Left, landing, Settled}
-use Rattle.cells.proofs.Stack.{cells-top}
+use Rattle.cells.specs.Cells.{Lies, cursorLength}
+use Rattle.cursor.specs.Arrived.{Fitting, Arrived}
+use Rattle.cells.proofs.Stack.{cells-none, cells-top}
 use Rattle.cells.proofs.Writes.{length-cells}
 use Rattle.cursor.proofs.Kept.{child-kept, sibling-kept, parent-kept, root-kept}
-use Rattle.letters.specs.Standing.{Valid, rulesKept, Table, Stands, Stepped}
-use Rattle.letters.proofs.Valid.{valid-moved, valid-short, valid-numbers, valid-rule}
-use Rattle.letters.proofs.Holding.{numbers-fit, table-closes}
+use Rattle.states.specs.Standing.{Valid, rulesKept, Table, Stands, Stepped}
+use Rattle.states.proofs.Valid.{valid-moved, valid-short, valid-numbers, valid-rule}
+use Rattle.states.proofs.Holding.{numbers-fit, table-closes}
 
 labelled-small : (x : Rule) → T (labelled x) → label x < 65536
 unfolding labelled label
@@ -112,6 +109,10 @@ no-cells : (s : List ℕ) (k : ℕ) → cellsIn s k ≡ [] → k ≡ 0
 no-cells s k e = sym (length-cells s k) ∙ ap length e
 
 -- a letter other than a and z moves only from a node
+pub from-none : (s : List ℕ) (k : ℕ) (y : Option Node) → k ≡ 0 → none ≡ fromNode (cellsIn s k) y
+unfolding fromNode
+from-none s k y e = rw (cells-none s k e)
+
 pub from-cells : (s : List ℕ) (k : ℕ) (y : Option Node) → (k ≡ 0 → ⊥) → y ≡ fromNode (cellsIn s k) y
 unfolding fromNode
 from-cells s k y h = rw (cells-top s k (omega arith))
@@ -135,20 +136,10 @@ module _ {r : ℕ} {t s : List ℕ} {k p : ℕ} (S : Stands r t s k p) where
   pub at-rule : (k ≡ 0 → ⊥) → In t p
   at-rule more = rule-in (S .table) (p, cellsIn s k) (S .valid) (λ e. more (no-cells s k e))
 
-  -- a letter has room for its cells, and they name rules that have rows
-  room-for : (y : Option Node) → Valid (rulesKept t) r (Option·getD y (p, cellsIn s k)) → Room s y
-  unfolding Room
-  room-for none v = tt
-  room-for (some x) v = fits (S .table) s (S .room) x v
-
-  pub move-room : (l : Letter) → Room s (move (known t) r l (p, cellsIn s k))
-  unfolding moved
-  move-room l = room-for (move (known t) r l (p, cellsIn s k)) (next (S .table) l (p, cellsIn s k) (S .valid))
-
   here : (cellsIn s k ≡ [] → ⊥) → Node-has (In t) (p, cellsIn s k)
   here e = (rule-in (S .table) (p, cellsIn s k) (S .valid) e, numbers (S .table) (p, cellsIn s k) (S .valid))
 
-  pub move-kept : (l : Letter) → Kept (In t) (move (known t) r l (p, cellsIn s k))
+  move-kept : (l : Letter) → Kept (In t) (move (known t) r l (p, cellsIn s k))
   unfolding move Kept
   move-kept (Letter.root side) = root-kept (known t) (In t) (table-held (S .table)) side r (walked-in (S .table))
   move-kept (Letter.child side) = from-kept (In t) (cellsIn s k) _ (λ e. child-kept (known t) (In t) (table-held (S .table)) side (p, cellsIn s k) (here e))
@@ -156,26 +147,30 @@ module _ {r : ℕ} {t s : List ℕ} {k p : ℕ} (S : Stands r t s k p) where
   move-kept Letter.parent = from-kept (In t) (cellsIn s k) _ (λ e. parent-kept (known t) (In t) (table-held (S .table)) (p, cellsIn s k) (here e))
   move-kept Letter.stay = from-kept (In t) (cellsIn s k) _ (λ e. here e)
 
-  -- what a letter came to
-  stepped-as : (l : Letter) (y : Option Node) → move (known t) r l (p, cellsIn s k) ≡ y → Room s y → {s′ : List ℕ} {x : Landing}
-      → Valid (rulesKept t) r (moved (known t) r l (p, cellsIn s k))
-      → Settled (known t) k p y s s′ x → Stepped r t l k p s s′ x
-  unfolding moved answer answerWord landing Left Room
-  stepped-as l none e room {s′} {x} v z =
-      record {
-        node = rw (e, z .landed, z .left);
-        answered = rw (e, z .landed);
-        within = rw (z .left) (within-none cellLength (cursorLength (rows t)) s);
-      }
-  stepped-as l (some n) e room {s′} {x} v z =
-      record {
-        node = rw (e, z .landed) (λ i. (n .0, z .left .cells i));
-        answered = rw (e, z .landed);
-        within = within-wider cellLength (cursorLength (rows t)) (omega arith) (few (S .table) n (rw e at v)) (z .left .within);
-      }
+  -- a letter that leads to a node has room for its cells, and its rule has a row
+  module _ (l : Letter) {x : Node} (e : move (known t) r l (p, cellsIn s k) ≡ some x) where
+    valid-node : Valid (rulesKept t) r x
+    unfolding moved
+    valid-node = rw e at (next (S .table) l (p, cellsIn s k) (S .valid))
 
-  pub stepped : (l : Letter) {s′ : List ℕ} {x : Landing} {y : Option Node} → y ≡ move (known t) r l (p, cellsIn s k) → Settled (known t) k p y s s′ x → Stepped r t l k p s s′ x
-  stepped l e z = stepped-as l _ (sym e) (rw e (move-room l)) (next (S .table) l (p, cellsIn s k) (S .valid)) z
+    pub move-fitting : Fitting t s x
+    unfolding Kept
+    move-fitting = (fits (S .table) s (S .room) x valid-node, (rw e at (move-kept l)) .0)
+
+    -- what it comes to
+    pub stepped-node : {s′ : List ℕ} {y : Landing} → Arrived (known t) x s s′ y → Stepped r t l k p s s′ y
+    unfolding moved answer answerWord
+    stepped-node z =
+        record {
+          node = rw (e, z .landed) (λ i. (x .0, z .wrote .cells i));
+          answered = rw (e, z .landed);
+          within = within-wider cellLength (cursorLength (rows t)) (omega arith) (few (S .table) x valid-node) (z .wrote .within);
+        }
+
+  -- one that leads nowhere leaves the place
+  pub stepped-nowhere : (l : Letter) → move (known t) r l (p, cellsIn s k) ≡ none → Stepped r t l k p s s (record { used = k; rule = p; answer = nowhere })
+  unfolding moved answer answerWord
+  stepped-nowhere l e = record { node = rw e; answered = rw e; within = within-none cellLength (cursorLength (rows t)) s }
 
   -- and where it stands
   pub stands-after : (l : Letter) {s′ : List ℕ} {x : Landing} → Stepped r t l k p s s′ x → Stands r t s′ (x .used) (x .rule)

@@ -1,26 +1,25 @@
 -- What holds while letters run: the table is that of a sound plan's rules, and the place is that of a node of the walked rule's
--- forest, or above it. What a letter does, and what a string of letters does, as the model has it.
-use Prim.Native.Nat.{ℕ, _+_, _*_, _≤_}
+-- forest, or above it. What a letter does, as the model has it.
+use Prim.Native.Nat.{ℕ, _≤_}
 use mathlib.Core.Path.{_≡_}
-use mathlib.Core.List.{List, map}
+use mathlib.Core.List.{List}
 use mathlib.Core.Option.{Option}
 use lib.ListN.{length}
 use Rattle.rule.specs.declared.Rule.{Rule}
-use Rattle.rule.specs.Rule.{wordLength}
 use Rattle.rule.specs.Sound.{Sound, Closed}
-use Rattle.seal.specs.Seal.{inFront}
 use Rattle.forest.specs.Expression.{expression}
 use Rattle.forest.specs.Letter.{Letter}
-use Rattle.forest.specs.Walk.{cellLength, cellsIn, lettersOf, answerWord, wordsBytes}
+use Rattle.forest.specs.Walk.{cellLength, cellsIn, answerWord}
 use Rattle.forest.proofs.Position.{Located}
 use Rattle.model.specs.Facts.{factsOf}
 use Rattle.model.specs.Model.{Node}
-use Rattle.model.specs.Walk.{answer, answers, moved, after}
+use Rattle.model.specs.Walk.{answer, moved}
 use Rattle.model.proofs.Walk.{Same}
 use Rattle.rows.specs.Rows.{Within}
 use Rattle.tables.specs.Table.{rows, known, kept, Climbs}
 use Rattle.cursor.specs.declared.Landing.{Landing}
 use Rattle.cells.specs.Cells.{cursorLength}
+use Rattle.states.specs.declared.Standing.{Standing}
 
 -- a node on cells that is the place of a node of rule r's forest, or above it
 pub record Valid (R : List Rule) (r : ℕ) (n : Node) : Type 0 where
@@ -44,19 +43,12 @@ pub record Stands (r : ℕ) (t s : List ℕ) (k p : ℕ) : Type 0 where
   pub room : cursorLength (rows t) ≤ length s
   pub valid : Valid (rulesKept t) r (p, cellsIn s k)
 
+-- what a letter came to, by the state that it left and its answer
+abbrev pub landed : Standing → ℕ → Landing
+landed at answer = record { used = at .used; rule = at .rule; answer = answer }
+
 -- a letter from k cells and rule p
 pub record Stepped (r : ℕ) (t : List ℕ) (l : Letter) (k p : ℕ) (s s′ : List ℕ) (x : Landing) : Type 0 where
   pub node : (x .rule, cellsIn s′ (x .used)) ≡ moved (known t) r l (p, cellsIn s k)
   pub answered : x .answer ≡ answerWord (answer (known t) r l (p, cellsIn s k))
   pub within : Within cellLength (cursorLength (rows t)) s s′
-
--- letters from k cells and rule p: the cells that they lead to, and a word for each
-pub record Ran (r : ℕ) (t letters : List ℕ) (k p : ℕ) (s s′ given given′ : List ℕ) (used : ℕ) : Type 0 where
-  pub cells : cellsIn s′ used ≡ (after (known t) r (lettersOf letters) (p, cellsIn s k)) .1
-  pub answered : given′ ≡ inFront (wordsBytes (map answerWord (answers (known t) r (lettersOf letters) (p, cellsIn s k)))) given
-  pub within : Within cellLength (cursorLength (rows t)) s s′
-  pub few : cellLength * (used + 1) ≤ cursorLength (rows t)
-
--- a word of answers for each letter
-abbrev pub Answerable : List ℕ → List ℕ → Type 0
-Answerable letters given = wordLength * length letters ≤ length given

@@ -2,31 +2,30 @@
 -- cells, and every rule number in them is below n. Assumes nothing.
 use Prim.Native.Nat.{ℕ, _*_, _≤_, _<_}
 use native.Mathlib.Omega.{arith}
-use mathlib.Core.Path.{_≡_, refl, sym, ap, _∙_, subst}
-use mathlib.Core.List.{List, [], _∷_}
-use mathlib.Core.Option.{Option, none, some, Option·map}
+use mathlib.Core.Path.{_≡_, refl, ap, _∙_, subst}
+use mathlib.Core.List.{List, []}
+use mathlib.Core.Option.{Option, none, Option·map}
 use lib.ListN.{length}
 use Rattle.rule.specs.declared.Rule.{Rule}
 use Rattle.rule.specs.Sound.{Sound, Closed}
-use Rattle.forest.specs.Expression.{Expression, expression, ruleNumber}
-use Rattle.forest.specs.Place.{Cells, Placed, placedOf, placedForest}
+use Rattle.forest.specs.Expression.{expression}
+use Rattle.forest.specs.Place.{placedForest}
 use Rattle.forest.specs.Letter.{Letter}
-use Rattle.forest.specs.Reference.{labelAt}
 use Rattle.forest.proofs.Good.{Sort, Good}
 use Rattle.forest.proofs.Unfold.{unfolding-equation, ruleNumber-expression, expression-known, closed-row}
 use Rattle.forest.proofs.Bound.{place-bound}
-use Rattle.forest.proofs.Position.{Located, Where, At, cells, labelOf, locatedOf}
+use Rattle.forest.proofs.Position.{Located, cells, labelOf}
 use Rattle.forest.proofs.Finger.{placed-labelAt}
 use Rattle.forest.proofs.Placed.{placedAs}
 use Rattle.forest.proofs.Covered.{at-node}
 use Rattle.model.specs.Facts.{Facts}
 use Rattle.model.specs.Model.{Node}
-use Rattle.model.specs.Walk.{moved, after}
+use Rattle.model.specs.Walk.{moved}
 use Rattle.model.proofs.Fit.{Fit}
 use Rattle.model.proofs.Rules.{Agrees, rules-fit, rules-inside}
 use Rattle.model.proofs.Ranged.{Every, Numbers, node-number, cell-numbers}
 use Rattle.model.proofs.Walk.{movedAt, Same, moved-same}
-use Rattle.letters.specs.Standing.{Valid}
+use Rattle.states.specs.Standing.{Valid}
 
 module _ {R : List Rule} {rank : ℕ → ℕ} (S : Sound R rank) {r : ℕ} (C : Closed R r) (F : Facts) (agrees : (k : ℕ) → k < length R → Agrees F R k) where
   pub good : Good Sort.row (expression R r)

@@ -2,21 +2,21 @@
 -- so what they name has a row, and the cells of a place name only rules of the plan. Assumes nothing.
 use Prim.Native.Nat.{ℕ, _<_}
 use native.Mathlib.Omega.{arith}
-use mathlib.Core.Path.{_≡_, refl, sym, ap, subst}
-use mathlib.Core.List.{List, [], _∷_}
+use mathlib.Core.Path.{_≡_, refl, sym, subst}
+use mathlib.Core.List.{List}
 use lib.ListN.{length}
 use lib.Dec.{T, ltb, ltb→lt}
 use Rattle.rule.specs.declared.Rule.{Rule}
 use Rattle.rule.specs.Rule.{every}
 use Rattle.rule.specs.Sound.{rule, Sound}
-use Rattle.forest.specs.Place.{Cell, Cells, Side, cellRow, cellSpine, cellRun}
+use Rattle.forest.specs.Place.{Cells, Side, cellRow, cellRun}
 use Rattle.forest.proofs.Unfold.{T-left, T-right}
 use Rattle.model.specs.Facts.{Facts, factsOf}
 use Rattle.model.proofs.Ranged.{Numbers}
 use Rattle.tables.specs.Table.{rows, In, known}
 use Rattle.tables.specs.Closes.{Names, Closed, Closes}
 use Rattle.cursor.specs.Moves.{Each, Fits}
-use Rattle.letters.proofs.Inside.{representative-below, toward-below, last-below}
+use Rattle.states.proofs.Inside.{representative-below, toward-below, last-below}
 
 -- a run's kind is no row's
 run-no-row : (s : Side) → cellRun s ≡ cellRow → ⊥

@@ -1,7 +1,6 @@
 -- What the facts of a plan's rules name are rules of the plan: each fact of a rule is the number of a rule inside its expression.
 -- Assumes nothing.
 use Prim.Native.Nat.{ℕ, _<_}
-use mathlib.Core.Path.{_≡_}
 use mathlib.Core.Bool.{Bool, true, false, cond}
 use mathlib.Core.List.{List}
 use lib.ListN.{length}
@@ -11,7 +10,7 @@ use Rattle.forest.specs.Expression.{Expression, expression, ruleNumber}
 use Rattle.forest.specs.Place.{Side, isEmpty, representative}
 use Rattle.forest.proofs.Position.{pick}
 use Rattle.forest.proofs.Unfold.{unfolding-equation, ruleNumber-expression, expression-known}
-use Rattle.model.specs.Facts.{Facts, toward, last, factsOf}
+use Rattle.model.specs.Facts.{toward, last, factsOf}
 use Rattle.model.proofs.Rules.{facts-agree, rules-inside}
 use Rattle.model.proofs.Ranged.{Every, number-in, representative-in}
 

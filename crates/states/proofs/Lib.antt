@@ -1,0 +1,9 @@
+pub mod Lent
+pub mod Thin
+pub mod Walks
+pub mod Walked
+pub mod Arm
+pub mod Valid
+pub mod Inside
+pub mod Holding
+pub mod Stands
