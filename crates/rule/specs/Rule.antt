@@ -1,8 +1,7 @@
 -- The rule record and the rule that it means (document 01, "A plan's bytes").
 use Prim.Native.Nat.{ℕ, _+_, _*_}
 use mathlib.Core.Bool.{Bool, true, false, cond, _&&_, _||_}
-use mathlib.Core.List.{List, [], _∷_, _++_}
-use lib.ListN.{getD}
+use mathlib.Core.List.{List, _++_}
 use lib.Dec.{leb, eqb}
 use Rattle.words.specs.Number.{number, bytes}
 use Rattle.rule.specs.declared.Record.{Record}

@@ -1,7 +1,6 @@
 -- What every accepted plan has, and all that the meaning of a plan rests on (document 01, "A plan's bytes": rules named
 -- are in range and of the right sort, and "a rule names only lower-numbered rules").
 use Prim.Native.Nat.{ℕ, _<_}
-use mathlib.Core.Bool.{Bool}
 use mathlib.Core.List.{List}
 use lib.ListN.{length, getD}
 use lib.Dec.{T, ltb}

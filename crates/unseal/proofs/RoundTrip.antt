@@ -14,7 +14,7 @@ use Rattle.plan.specs.declared.Checked.{Checked}
 use Rattle.plan.specs.declared.Written.{Written}
 use Rattle.rule.specs.Rule.{recordLength, recordWords}
 use Rattle.rule.specs.Records.{recordsFrom, recordsBytes}
-use Rattle.plan.specs.Check.{trailerLength, magic, trailerBytes, mostRules, trailerAt, countOf, startOf, distanceOf, same, marked, firstAt, recordsOf, accepted, inLimits, checkedUpTo, checked}
+use Rattle.plan.specs.Check.{trailerLength, magic, trailerBytes, mostRules, trailerAt, countOf, startOf, distanceOf, marked, firstAt, recordsOf, accepted, inLimits, checkedUpTo, checked}
 use Rattle.seal.specs.Seal.{planBytes, givenCount, given, roomed, sealedUpTo, sealed, inFront, outputAfter, sealedOutput}
 use Rattle.unseal.specs.Unseal.{wordsRoomed, unsealed, wordsAfter, unsealedOutput}
 use Rattle.plan.proofs.Sound.{Plan, checked-plan}

@@ -7,8 +7,8 @@ use mathlib.Core.List.{List, [], _∷_, _++_, append-assoc}
 use native.Mathlib.Nat.{add-zero, add-suc, suc-add, add-assoc, pow-suc}
 use native.Mathlib.Numerals.{add-two}
 use native.Mathlib.Omega.{arith}
-use lib.ListN.{length, getD, take, drop, set, length-append, List·getD-append}
-use lib.Seq.{sets, sets-eq, length-sets, length-take-le, getD-append-add, getD-set-other, getD-take, getD-drop, drop-cons, take-set-le, drop-set-lt}
+use lib.ListN.{length, getD, take, drop, set, List·getD-append}
+use lib.Seq.{sets-eq, length-sets, length-take-le, getD-append-add, getD-set-other, getD-take, getD-drop, drop-cons, take-set-le, drop-set-lt}
 use Rattle.words.specs.Number.{base, number, bytes, put}
 
 -- a number depends only on its own bytes
