@@ -4,7 +4,8 @@ use mathlib.Core.Path.{_≡_}
 use mathlib.Core.List.{List}
 use Rattle.seal.specs.Seal.{sealedOutput}
 use Rattle.unseal.specs.Unseal.{unsealedOutput}
-use Rattle.cases.specs.Cases.{zeros, sample}
+use Rattle.forest.proofs.Starred.{sample}
+use Rattle.cases.specs.Cases.{zeros}
 
 pub resealed : (s : List ℕ) → s ≡ sample → sealedOutput (unsealedOutput s (zeros 64)) 7 (zeros 74) ≡ s
 unfolding sealedOutput unsealedOutput

@@ -1,4 +1,6 @@
-// The cases of document 01 ("One sample plan" and the limits) that concern check, seal and unseal. Each prints one line.
+// Every case of document 01, a line each. Those of check, and of unseal and seal on the sample plan, are proved as well: a function's
+// contract names the answer, and `expect` holds it. The others stand in the file `stdin` with what document 01 says of them; the first
+// of which something else comes ends the run.
 mod rules;
 mod sample;
 mod trailer;
@@ -92,8 +94,18 @@ fn rule_cases() {
     refuses(b"start isn't closed", rules::start_not_closed(), 7, 0);
 }
 
+// The cases of standard input: whether all are as document 01 says.
+fn read_cases() -> bool {
+    let mut text = io::large_buffer();
+    let length = io::read_full(0, &mut text);
+    script::run(&text[..length])
+}
+
 fn main() {
     sample_cases();
     trailer_cases();
     rule_cases();
+    if read_cases() {
+        io::write_all(1, b"every case is as document 01 says\n");
+    }
 }
