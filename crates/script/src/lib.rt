@@ -4,6 +4,7 @@
 // that it is lent, and the start for seal or the letters for walk; the case's words; what is to come of it. Other lines say what is lent
 // to the cases behind them: "sample", the sample plan behind so many bytes; "plan" or "rules", words; "from", words from a byte on, with
 // what stands before it; "zeros", so many; "cursor", its first words. Lent work and output, and the rest of the cursor, are full stops.
+// An empty line and one that begins with # say nothing.
 mod line;
 pub mod sample;
 mod text;
@@ -27,6 +28,7 @@ enum Operation {
     Measure,
     Spread,
     Walk,
+    Unknown,
 }
 
 // What a case is lent, and where the text behind that and what is expected begin.
@@ -46,10 +48,11 @@ impl Operation {
             b'u' => Operation::Unseal,
             b'm' => Operation::Measure,
             b'w' => Operation::Walk,
-            _ => match byte_at(name, 1) {
+            b's' => match byte_at(name, 1) {
                 b'e' => Operation::Seal,
                 _ => Operation::Spread,
             },
+            _ => Operation::Unknown,
         }
     }
 }
@@ -172,6 +175,7 @@ fn case_holds(text: &[u8], plan: &[u8], cursor: &mut [u8]) -> bool {
         Operation::Measure => measures(expected, plan, case.work),
         Operation::Spread => spreads(expected, plan, case.work, case.out),
         Operation::Walk => walks(expected, plan, case, cursor, tail),
+        Operation::Unknown => false,
     }
 }
 
@@ -215,12 +219,13 @@ fn set_cursor(line: &[u8], cursor: &mut [u8]) {
     }
 }
 
-// Whether a line is no case, or one that holds.
+// Whether a line is a case that holds, one that lends, a comment, or empty.
 fn holds(line: &[u8], plan: &[u8], cursor: &mut [u8]) -> bool {
-    if byte_at(line, 0) != b'|' {
-        return true;
+    match byte_at(line, 0) {
+        b'|' => case_holds(behind(line, 0), plan, cursor),
+        0 | b'#' | b'c' | b'f' | b'p' | b'r' | b's' | b'z' => true,
+        _ => false,
     }
-    case_holds(behind(line, 0), plan, cursor)
 }
 
 // The lines of a text one after another, up to a case that doesn't hold: whether all do.
