@@ -1,6 +1,7 @@
 #!/usr/bin/env bash
 # Tries the static library of what was proved against the independent implementation in rust/reference: every call of the trials must
-# agree in its answer and in every byte, and enough must have been tried. Also runs the cases of document 01 by the safe functions.
+# agree in its answer and in every byte, and enough must have been tried. Also runs the cases of document 01 by the safe functions: those
+# of its sample plan, and those of tests/cases.txt, whose number is printed.
 # TRIALS_SEED gives the seed of a run to have again; it is printed.
 set -eu
 cd "$(dirname "$0")/.."

@@ -1,63 +1,23 @@
-// Every case of document 01, a line each. Those of check, and of unseal and seal on the sample plan, are proved as well: a function's
-// contract names the answer, and `expect` holds it. The others stand in the file `stdin` with what document 01 says of them; the first
-// of which something else comes ends the run.
-mod rules;
-mod sample;
-mod trailer;
-
+// Every case of document 01 ("One sample plan"), a line each: a function's contract names what comes of it, and `expect` holds it to
+// that. Further cases, for each of document 01's sentences on the operations, stand in tests/cases.txt with what it says of them; the
+// Rust tests run them through the C interface.
 use check::expect;
-use plan::Checked;
-ghost use mathlib.Core.Path.{_≡_};
-ghost use Rattle.plan.specs.declared.Checked.{Checked};
-ghost use Rattle.cases.specs.Cases.{Refuses};
-
-// One line: a case's words, what came of it, and its two numbers.
-fn say(words: &[u8], outcome: &[u8], first: u64, between: &[u8], second: u64) {
-    io::write_all(1, words);
-    io::write_all(1, outcome);
-    io::print_decimal(1, first);
-    io::write_all(1, between);
-    io::print_decimal(1, second);
-    io::write_all(1, b"\n");
-}
-
-// The case's words, and n and start of an answer that is held to them.
-fn accepts(words: &[u8], answer: Checked, n: u16, start: u16)
-    requires { ⌜ answer ≡ Checked.Accepted n start ⌝ }
-{
-    let Checked::Accepted {
-        n: count,
-        start: first,
-    } = answer
-    else {
-        expect(false);
-        return;
-    };
-    expect(count == n);
-    expect(first == start);
-    say(words, b": accepted ", count as u64, b" ", first as u64);
-}
-
-// The case's words, and number and position of a refusal that is held to them.
-fn refuses(words: &[u8], answer: Checked, number: u32, position: u64)
-    requires { ⌜ Refuses number position answer ⌝ }
-{
-    let Checked::Refused(refusal) = answer else {
-        expect(false);
-        return;
-    };
-    let which = refusal.number();
-    let at = refusal.position();
-    expect(which == number);
-    expect(at == position);
-    say(words, b": refused ", which as u64, b" at ", at);
-}
+use held::accepts;
+use held::counts;
+use held::lacks_room;
+use held::refuses;
+use held::words_are;
+use held::writes;
+use worked::rules;
+use worked::sampled;
+use worked::trailer;
+use worked::walks;
 
 // The sample, checked, unsealed, and sealed again.
 fn sample_cases() {
-    accepts(b"the sample plan", sample::checked(), 8, 7);
-    accepts(b"the sample plan, unsealed", sample::unsealed(), 8, 7);
-    expect(sample::resealed());
+    accepts(b"the sample plan", sampled::checked(), 8, 7);
+    accepts(b"the sample plan, unsealed", sampled::unsealed(), 8, 7);
+    expect(sampled::resealed());
     io::write_all(1, b"the sample plan, unsealed and sealed: the same bytes\n");
 }
 
@@ -94,18 +54,60 @@ fn rule_cases() {
     refuses(b"start isn't closed", rules::start_not_closed(), 7, 0);
 }
 
-// The cases of standard input: whether all are as document 01 says.
-fn read_cases() -> bool {
-    let mut text = io::large_buffer();
-    let length = io::read_full(0, &mut text);
-    script::run(&text[..length])
+// Measure's three numbers; spread's text, into just enough bytes and into one less.
+fn forest_cases() {
+    counts(b"measure", sampled::measured(), 3, 11, 3);
+    writes(
+        b"spread into 33 bytes",
+        sampled::length(),
+        &sampled::text(),
+        b"(c(a)(b)(c(a)(b)(a)(b))(b))(a)(b)",
+    );
+    lacks_room(b"spread into 32 bytes", sampled::short());
+}
+
+// The answers to document 01's letters, and those on one empty rule.
+fn answer_cases() {
+    words_are(
+        b"the answers to afnnfnnnnununnn:",
+        &walks::answers(&sample::bytes(), b"afnnfnnnnununnn"),
+        b"\x63\x00\x61\x00\x62\x00\x63\x00\x61\x00\x62\x00\x61\x00\x62\x00\xff\xff\x63\x00\x62\x00\x63\x00\x61\x00\x62\x00\xff\xff",
+    );
+    words_are(
+        b"one empty rule, a and z nowhere:",
+        &walks::answers(
+            b"\x00\x00\x00\x00\x00\x00\x00\x00\x01\x00\x00\x00\x08\x00\x00\x00mp",
+            b"az",
+        ),
+        b"\xff\xff\xff\xff",
+    );
+}
+
+// Cell 0 and the cells behind it.
+fn cell_cases() {
+    words_are(
+        b"after a, cells (1,0,7,0) (3,7,6,0) (2,6,0,0) (3,5,4,0):",
+        &walks::cursor(&sample::bytes(), b"a"),
+        b"\x04\x00\x00\x00\x00\x00\x00\x00\x01\x00\x00\x00\x07\x00\x00\x00\x03\x00\x07\x00\x06\x00\x00\x00\x02\x00\x06\x00\x00\x00\x00\x00\x03\x00\x05\x00\x04\x00\x00\x00",
+    );
+    words_are(
+        b"after afnnfnn, (1,0,7,0) (3,7,6,0) (2,6,0,0) (4,5,4,0) (2,1,0,0):",
+        &walks::cursor(&sample::bytes(), b"afnnfnn"),
+        b"\x05\x00\x00\x00\x00\x00\x00\x00\x01\x00\x00\x00\x07\x00\x00\x00\x03\x00\x07\x00\x06\x00\x00\x00\x02\x00\x06\x00\x00\x00\x00\x00\x04\x00\x05\x00\x04\x00\x00\x00\x02\x00\x01\x00\x00\x00\x00\x00",
+    );
+    words_are(
+        b"one more n, the last cell becomes (1,2,2,0) (2,2,0,0):",
+        &walks::cursor(&sample::bytes(), b"afnnfnnn"),
+        b"\x06\x00\x00\x00\x00\x00\x00\x00\x01\x00\x00\x00\x07\x00\x00\x00\x03\x00\x07\x00\x06\x00\x00\x00\x02\x00\x06\x00\x00\x00\x00\x00\x04\x00\x05\x00\x04\x00\x00\x00\x01\x00\x02\x00\x02\x00\x00\x00\x02\x00\x02\x00\x00\x00\x00\x00",
+    );
 }
 
 fn main() {
     sample_cases();
     trailer_cases();
     rule_cases();
-    if read_cases() {
-        io::write_all(1, b"every case is as document 01 says\n");
-    }
+    forest_cases();
+    answer_cases();
+    cell_cases();
+    io::write_all(1, b"every case is as document 01 says\n");
 }

@@ -20,8 +20,7 @@ use Rattle.cells.specs.declared.Cell.{Cell as Words}
 use Rattle.cells.specs.declared.Stem.{Stem}
 use Rattle.cells.specs.declared.Change.{Change}
 use Rattle.cells.specs.Cells.{words, putCell}
-use Rattle.cells.specs.Changes.{add, stepCells, stemCells, changed}
-use Rattle.cells.specs.Changes.{Wrote, high, stemHigh, changeHigh}
+use Rattle.cells.specs.Changes.{add, stepCells, stemCells, changed, Wrote, high, stemHigh, changeHigh}
 
 -- a cell that lies before what has changed, and cells 1 to k
 word-before : {a e : ℕ} {s t : List ℕ} → Within a e s t → (at : ℕ) → at + 2 ≤ a → number 2 t at ≡ number 2 s at

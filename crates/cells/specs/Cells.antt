@@ -1,8 +1,8 @@
 -- The code's cells as the definitions write them, and what the cursor holds of them.
-use Prim.Native.Nat.{ℕ, _+_, _-_, _*_, _≤_}
+use Prim.Native.Nat.{ℕ, _+_, _*_, _≤_}
 use mathlib.Core.Bool.{cond}
-use mathlib.Core.List.{List, _++_}
-use lib.ListN.{length, take, drop, replicate}
+use mathlib.Core.List.{List}
+use lib.ListN.{length}
 use lib.Dec.{eqb}
 use Rattle.words.specs.Number.{put}
 use Rattle.rule.specs.Rule.{wordLength}
@@ -41,10 +41,6 @@ runCell F s a = cond (eqb (F .depth s a) 0) noCell (cell (cellRun s, a, F .last 
 abbrev pub Lies : List ℕ → ℕ → Type 0
 Lies s k = cellLength * (k + 1) ≤ length s
 
--- the bytes of the cursor that n rules need, and those with zeros past cell k
+-- the bytes of the cursor that n rules need
 abbrev pub cursorLength : ℕ → ℕ
 cursorLength n = wordLength * cursorWords n
-
-unfoldable pub clearedPast : ℕ → ℕ → List ℕ → List ℕ
-clearedPast k n s =
-    take (cellLength * (k + 1)) s ++ (replicate (cursorLength n - cellLength * (k + 1)) 0 ++ drop (cursorLength n) s)

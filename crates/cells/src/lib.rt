@@ -1,13 +1,13 @@
-// The cells of the stored place, in the lent cursor: what each holds, how they change, and how they are stored.
+// The cells of the stored place, in the lent cursor: what each holds, and how they change.
 ghost use mathlib.Core.Path.{_≡_};
 ghost use Prim.Native.Nat.{ℕ, _+_, _*_, _≤_};
 ghost use mathlib.Core.List.{List};
 ghost use lib.ListN.{length};
 ghost use Rattle.forest.specs.Place.{cellRow, cellSpine, cellRun, rowOfPart, step};
-ghost use Rattle.forest.specs.Walk.{cellLength, cellAt, cellsIn, headed, storedCursor};
+ghost use Rattle.forest.specs.Walk.{cellLength, cellAt, cellsIn};
 ghost use Rattle.model.specs.Model.{tail, popRun, under, belowRow};
 ghost use Rattle.tables.specs.Table.{sideOf};
-ghost use Rattle.cells.specs.Cells.{cell, putCell, noCell, Lies, cursorLength, clearedPast};
+ghost use Rattle.cells.specs.Cells.{cell, putCell, noCell, Lies};
 ghost use Rattle.cells.specs.Changes.{add, stepCells, stemCells, changed, stemNode, changeNode, high, stemHigh, changeHigh, Wrote};
 use tables::Side;
 
@@ -98,7 +98,7 @@ impl Cell {
     }
 
     // The four words into the cell with a number.
-    fn write(self, s: &mut [u8], i: usize)
+    pub fn write(self, s: &mut [u8], i: usize)
         requires { ⌜ cellLength * (i + 1) ≤ length (now s) ⌝ }
         ensures { λ x. ⌜ now (s .exit) ≡ putCell (now (s .entry)) i self ⌝ }
     {
@@ -322,42 +322,4 @@ pub fn write(cursor: &mut [u8], change: Change) -> usize
     let k = push(cursor, k, change.across);
     let k = push(cursor, k, change.spine);
     push(cursor, k, change.down)
-}
-
-// Zeros past k cells, in what n rules need of the cursor.
-fn clear_past(cursor: &mut [u8], k: usize, n: u16)
-    requires { ⌜ (cellLength * (k + 1) ≤ cursorLength n) × (cursorLength n ≤ length (now cursor)) ⌝ }
-    ensures { λ x. ⌜ now (cursor .exit) ≡ clearedPast k n (now (cursor .entry)) ⌝ }
-{
-    let from = Cell::LENGTH * (k + 1);
-    let to = Cell::LENGTH * Cell::A_RULE * (n as usize + 1);
-    rows::clear(&mut cursor[from..], to - from);
-}
-
-// The place of cells 1 to k: their number into cell 0, with no later word, and zeros past them.
-pub fn store(cursor: &mut [u8], k: usize, n: u16)
-    requires { ⌜ (cellLength * (k + 1) ≤ cursorLength n) × (cursorLength n ≤ length (now cursor)) ⌝ }
-    ensures { λ x. ⌜ now (cursor .exit) ≡ storedCursor n (cellsIn (now (cursor .entry)) k) (now (cursor .entry)) ⌝ }
-{
-    let head = Cell {
-        kind: (k % 65536) as u16,
-        one: 0,
-        two: 0,
-        three: 0,
-    };
-    head.write(cursor, 0);
-    clear_past(cursor, k, n);
-}
-
-// Cell 0 is in order: it has no later word, and its cells lie in what n rules need of the cursor.
-pub fn headed(cursor: &[u8], n: u16) -> bool
-    requires { ⌜ cellLength ≤ length (now cursor) ⌝ }
-    ensures { λ b. ⌜ b ≡ headed n (now (cursor .entry)) ⌝ }
-{
-    let head = Cell::read(cursor, 0);
-    let used = head.kind as usize;
-    (head.one == 0)
-        & ((head.two == 0)
-            & ((head.three == 0)
-                & (Cell::WORDS * (used + 1) <= Cell::WORDS * Cell::A_RULE * (n as usize + 1))))
 }

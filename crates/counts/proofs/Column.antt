@@ -1,15 +1,15 @@
 -- Columns of rows: a write to one place of a row leaves every other place of every row alone, and what lies past the rows. So a
 -- column grows by one row a write, and the rules and the other columns stay. Assumes nothing.
-use Prim.Native.Nat.{ℕ, suc, _+_, _*_, _^_, _≤_, _<_}
+use Prim.Native.Nat.{ℕ, _+_, _*_, _^_, _≤_, _<_}
 use native.Mathlib.Omega.{arith}
 use native.Mathlib.Decide.{decLt}
-use mathlib.Core.Path.{_≡_, refl, sym, ap, _∙_}
+use mathlib.Core.Path.{_≡_, refl, _∙_}
 use mathlib.Core.List.{List}
 use lib.ListN.{length}
 use Rattle.words.specs.Number.{base}
 use Rattle.rows.specs.Rows.{rowLength, ownEnd, field, putField, atKind, atLabel, atOne, atTwo, rowIn, ruleIn}
-use Rattle.rows.proofs.Rows.{field-same, field-other, length-putField, within-none, within-both, beyond-put}
-use Rattle.counts.specs.Count.{capped, countLength}
+use Rattle.rows.proofs.Rows.{field-same, field-other, within-none, within-both, beyond-put}
+use Rattle.count.specs.Count.{capped, countLength}
 use Rattle.counts.specs.Tally.{Besides, Column}
 
 -- two places of rows lie apart: the rows or the places differ

@@ -1,5 +1,4 @@
 pub mod Meaning
-pub mod Digits
 pub mod Reach
 pub mod Column
 pub mod Pass

@@ -1,80 +1,23 @@
 -- One row of a pass: what a tally comes to depends on the named rules' counts alone, and counts that are capped first come to the
--- same, capped. So a column that obeys the tally's recurrence below r obeys it below r + 1 when r's count is written.
+-- same, capped (ByRule). So a column that obeys the tally's recurrence below r obeys it below r + 1 when r's count is written.
 -- Assumes nothing.
-use Prim.Native.Nat.{ℕ, suc, _+_, _*_, _≤_, _<_, max, min}
+use Prim.Native.Nat.{ℕ, _+_, _*_, _≤_, _<_}
 use native.Mathlib.Omega.{arith}
-use mathlib.Core.Path.{_≡_, refl, sym, ap, ap₂, _∙_}
+use mathlib.Core.Path.{_≡_, refl, sym, ap, _∙_}
 use mathlib.Core.List.{List}
 use lib.ListN.{length}
 use lib.Dec.{T, ltb}
 use Rattle.rule.specs.declared.Rule.{Rule}
 use Rattle.rule.specs.Rule.{every}
-use Rattle.forest.proofs.Unfold.{Names, pair-one, pair-two, node-one, fill-one, fill-two, part-one, part-two, join-one, join-two}
+use Rattle.forest.proofs.Unfold.{Names}
 use Rattle.rows.specs.Rows.{rowLength, ownEnd, field, putField, ruleIn}
-use Rattle.counts.specs.declared.Weight.{Weight}
 use Rattle.counts.specs.declared.Tally.{Tally}
-use Rattle.counts.specs.Count.{capped, countLength}
-use Rattle.counts.specs.Tally.{weightOf, ownOf, sumOf, treesOf, depthOf, levelsOf, tallyOf, Helped, Besides, Column, Recurs, Readable, Passable, RowTallied, Tallied}
+use Rattle.count.specs.Count.{capped, countLength}
+use Rattle.tally.specs.ByRule.{sumOf}
+use Rattle.counts.specs.Tally.{tallyOf, Helped, Besides, Column, Recurs, Readable, Passable, RowTallied, Tallied}
+use Rattle.tally.proofs.ByRule.{sum-capped, trees-capped, depth-capped, levels-capped, sum-same, trees-same, depth-same, levels-same}
 use Rattle.counts.proofs.Reach.{named-lower}
 use Rattle.counts.proofs.Column.{besides-none, besides-rule, besides-both, besides-put, column-kept, column-more, column-none}
-
--- capping first
-capped-plus : (a b : ℕ) → capped (capped a + capped b) ≡ capped (a + b)
-capped-plus a b = omega arith
-
-capped-plus-three : (a b c : ℕ) → capped (capped a + capped b + capped c) ≡ capped (a + b + c)
-capped-plus-three a b c = omega arith
-
-capped-max : (a b : ℕ) → capped (max (capped a) (capped b)) ≡ capped (max a b)
-capped-max a b = omega arith
-
-capped-suc : (a : ℕ) → capped (suc (capped a)) ≡ capped (suc a)
-capped-suc a = omega arith
-
-capped-filled : (a b c : ℕ) → capped (max (capped a) (capped b + capped c)) ≡ capped (max a (b + c))
-capped-filled a b c = sym (capped-max (capped a) (capped b + capped c)) ∙ ap₂ (λ (x y : ℕ). capped (max x y)) (twice a) (capped-plus b c) ∙ capped-max a (b + c)
-  where
-    twice : (n : ℕ) → capped (capped n) ≡ capped n
-    twice n = omega arith
-
-capped-higher : (a b : ℕ) → capped (suc (max (capped a) (capped b))) ≡ capped (suc (max a b))
-capped-higher a b = sym (capped-suc (max (capped a) (capped b))) ∙ ap (λ (n : ℕ). capped (suc n)) (capped-max a b) ∙ capped-suc (max a b)
-
-sum-capped : (own : ℕ) (f : ℕ → ℕ) (x : Rule) → capped (sumOf (capped own) (λ k. capped (f k)) x) ≡ capped (sumOf own f x)
-unfolding sumOf
-sum-capped own f Rule.Empty = refl
-sum-capped own f (Rule.Pair b c) = capped-plus (f b) (f c)
-sum-capped own f (Rule.Node a c) = capped-plus own (f c)
-sum-capped own f (Rule.Fill b c) = capped-plus (f b) (f c)
-sum-capped own f (Rule.Part a b c) = capped-plus-three own (f b) (f c)
-sum-capped own f (Rule.Join b c) = capped-plus (f b) (f c)
-
-trees-capped : (f : ℕ → ℕ) (x : Rule) → capped (treesOf (λ k. capped (f k)) x) ≡ capped (treesOf f x)
-unfolding treesOf
-trees-capped f Rule.Empty = refl
-trees-capped f (Rule.Pair b c) = capped-plus (f b) (f c)
-trees-capped f (Rule.Node a c) = refl
-trees-capped f (Rule.Fill b c) = refl
-trees-capped f (Rule.Part a b c) = refl
-trees-capped f (Rule.Join b c) = refl
-
-depth-capped : (f : ℕ → ℕ) (x : Rule) → capped (depthOf (λ k. capped (f k)) x) ≡ capped (depthOf f x)
-unfolding depthOf
-depth-capped f Rule.Empty = refl
-depth-capped f (Rule.Pair b c) = refl
-depth-capped f (Rule.Node a c) = refl
-depth-capped f (Rule.Fill b c) = refl
-depth-capped f (Rule.Part a b c) = refl
-depth-capped f (Rule.Join b c) = capped-plus (f b) (f c)
-
-levels-capped : (d f : ℕ → ℕ) (x : Rule) → capped (levelsOf (λ k. capped (d k)) (λ k. capped (f k)) x) ≡ capped (levelsOf d f x)
-unfolding levelsOf
-levels-capped d f Rule.Empty = refl
-levels-capped d f (Rule.Pair b c) = capped-max (f b) (f c)
-levels-capped d f (Rule.Node a c) = capped-suc (f c)
-levels-capped d f (Rule.Fill b c) = capped-filled (f b) (d b) (f c)
-levels-capped d f (Rule.Part a b c) = capped-higher (f b) (f c)
-levels-capped d f (Rule.Join b c) = capped-filled (f b) (d b) (f c)
 
 tally-capped : (what : Tally) (d f : ℕ → ℕ) (r : ℕ) (x : Rule) → capped (tallyOf what (λ k. capped (d k)) (λ k. capped (f k)) r x) ≡ capped (tallyOf what d f r x)
 unfolding tallyOf
@@ -83,45 +26,6 @@ tally-capped Tally.Sum d f r x = sum-capped (d r) f x
 tally-capped Tally.Trees d f r x = trees-capped f x
 tally-capped Tally.Depth d f r x = depth-capped f x
 tally-capped Tally.Levels d f r x = levels-capped d f x
-
--- equal counts of the named rules
-module _ (f g : ℕ → ℕ) where
-  sum-same : (own : ℕ) (x : Rule) → ((k : ℕ) → Names x k → f k ≡ g k) → sumOf own f x ≡ sumOf own g x
-  unfolding sumOf
-  sum-same own Rule.Empty h = refl
-  sum-same own (Rule.Pair b c) h = ap₂ _+_ (h b pair-one) (h c pair-two)
-  sum-same own (Rule.Node a c) h = ap (λ (n : ℕ). own + n) (h c node-one)
-  sum-same own (Rule.Fill b c) h = ap₂ _+_ (h b fill-one) (h c fill-two)
-  sum-same own (Rule.Part a b c) h = ap₂ (λ (m n : ℕ). own + m + n) (h b part-one) (h c part-two)
-  sum-same own (Rule.Join b c) h = ap₂ _+_ (h b join-one) (h c join-two)
-
-  trees-same : (x : Rule) → ((k : ℕ) → Names x k → f k ≡ g k) → treesOf f x ≡ treesOf g x
-  unfolding treesOf
-  trees-same Rule.Empty h = refl
-  trees-same (Rule.Pair b c) h = ap₂ _+_ (h b pair-one) (h c pair-two)
-  trees-same (Rule.Node a c) h = refl
-  trees-same (Rule.Fill b c) h = refl
-  trees-same (Rule.Part a b c) h = refl
-  trees-same (Rule.Join b c) h = refl
-
-  depth-same : (x : Rule) → ((k : ℕ) → Names x k → f k ≡ g k) → depthOf f x ≡ depthOf g x
-  unfolding depthOf
-  depth-same Rule.Empty h = refl
-  depth-same (Rule.Pair b c) h = refl
-  depth-same (Rule.Node a c) h = refl
-  depth-same (Rule.Fill b c) h = refl
-  depth-same (Rule.Part a b c) h = refl
-  depth-same (Rule.Join b c) h = ap₂ _+_ (h b join-one) (h c join-two)
-
-  levels-same : (d e : ℕ → ℕ) (x : Rule) → ((k : ℕ) → Names x k → d k ≡ e k) → ((k : ℕ) → Names x k → f k ≡ g k)
-      → levelsOf d f x ≡ levelsOf e g x
-  unfolding levelsOf
-  levels-same d e Rule.Empty i h = refl
-  levels-same d e (Rule.Pair b c) i h = ap₂ max (h b pair-one) (h c pair-two)
-  levels-same d e (Rule.Node a c) i h = ap suc (h c node-one)
-  levels-same d e (Rule.Fill b c) i h = ap₂ max (h b fill-one) (ap₂ _+_ (i b fill-one) (h c fill-two))
-  levels-same d e (Rule.Part a b c) i h = ap suc (ap₂ max (h b part-one) (h c part-two))
-  levels-same d e (Rule.Join b c) i h = ap₂ max (h b join-one) (ap₂ _+_ (i b join-one) (h c join-two))
 
 tally-same : (what : Tally) (d e f g : ℕ → ℕ) (n r : ℕ) (x : Rule) → r < n → ((k : ℕ) → Names x k → k < n)
     → Helped what ((k : ℕ) → k < n → d k ≡ e k) → ((k : ℕ) → Names x k → f k ≡ g k) → tallyOf what d f r x ≡ tallyOf what e g r x

@@ -1,14 +1,14 @@
 -- Two passes, the second over the column that the first wrote: each leaves the rules and what lies past the rows alone.
 -- Assumes nothing.
-use Prim.Native.Nat.{ℕ, _+_, _*_, _≤_, _<_}
+use Prim.Native.Nat.{ℕ, _+_, _*_, _≤_}
 use native.Mathlib.Omega.{arith}
-use mathlib.Core.Path.{_≡_, sym, _∙_}
+use mathlib.Core.Path.{_≡_}
 use mathlib.Core.List.{List}
 use lib.ListN.{length}
-use Rattle.rows.specs.Rows.{rowLength, ownEnd, ruleIn}
+use Rattle.rows.specs.Rows.{rowLength, ownEnd}
 use Rattle.counts.specs.declared.Tally.{Tally}
-use Rattle.counts.specs.Count.{countLength}
-use Rattle.counts.specs.Tally.{tallyOf, Helped, Besides, Column, Recurs, Ready, Passable, Tallied, Counted, atHelp, atCount}
+use Rattle.count.specs.Count.{countLength}
+use Rattle.counts.specs.Tally.{Helped, Besides, Recurs, Ready, Passable, Tallied, Counted, atHelp, atCount}
 use Rattle.counts.proofs.Column.{besides-rule, besides-both, besides-wider}
 use Rattle.counts.proofs.Pass.{helped}
 

@@ -1,5 +1,5 @@
 -- What a pass may read: the rules that a row names are lower, so their rows lie in work when its own does. Assumes nothing.
-use Prim.Native.Nat.{ℕ, suc, _+_, _*_, _≤_, _<_}
+use Prim.Native.Nat.{ℕ, _+_, _*_, _≤_, _<_}
 use native.Mathlib.Omega.{arith}
 use mathlib.Core.Path.{_≡_}
 use mathlib.Core.List.{List}
@@ -9,8 +9,9 @@ use Rattle.rule.specs.declared.Rule.{Rule}
 use Rattle.rule.specs.Rule.{every}
 use Rattle.forest.proofs.Unfold.{Names, every-named}
 use Rattle.rows.specs.Rows.{rowLength, ruleIn}
-use Rattle.counts.specs.Count.{countLength}
-use Rattle.counts.specs.Tally.{Reach, Readable}
+use Rattle.count.specs.Count.{countLength}
+use Rattle.tally.specs.ByRule.{Reach}
+use Rattle.counts.specs.Tally.{Readable}
 
 -- a named rule is lower
 pub named-lower : {x : Rule} (r : ℕ) {k : ℕ} → T (every (λ y. ltb y r) x) → Names x k → k < r
@@ -19,10 +20,6 @@ named-lower r {k} t n = ltb→lt k r (every-named (λ y. ltb y r) n t)
 reach-lower : (t : List ℕ) (o r : ℕ) (x : Rule) → T (every (λ y. ltb y r) x) → rowLength * (r + 1) ≤ length t → o + countLength ≤ rowLength
     → Reach t o x
 reach-lower t o r x low room fits = record { reaches = λ k n. let l : k < r = named-lower r low n in omega arith }
-
--- seen at the rule that a match found
-pub reach-at : {t : List ℕ} {o : ℕ} {x y : Rule} → x ≡ y → Reach t o x → (k : ℕ) → Names y k → rowLength * k + o + countLength ≤ length t
-reach-at q h = (rw q at h) .reaches
 
 -- from a row that may be read: the counts themselves, and those of the helping column
 pub reach-own : {t : List ℕ} {r help o : ℕ} {x : Rule} → Readable t r help o → x ≡ ruleIn t r → Reach t o x

@@ -1,15 +1,16 @@
 -- The recurrences over rules are those over expressions: where the expression of each rule is its right-hand side over those of the
 -- rules that it names, each count of the expressions obeys its tally. Assumes nothing.
-use Prim.Native.Nat.{ℕ, suc, _+_, _<_, max}
+use Prim.Native.Nat.{ℕ}
 use mathlib.Core.Path.{_≡_, refl}
 use mathlib.Core.List.{List}
 use Rattle.rule.specs.declared.Rule.{Rule}
 use Rattle.forest.specs.Expression.{Expression, rhs}
 use Rattle.rows.specs.Rows.{ruleIn}
-use Rattle.counts.specs.declared.Weight.{Weight}
+use Rattle.tally.specs.declared.Weight.{Weight}
 use Rattle.counts.specs.declared.Tally.{Tally}
 use Rattle.counts.specs.Recurrence.{ownIn, nodesIn, treesIn, depthIn, levelsIn}
-use Rattle.counts.specs.Tally.{weightOf, ownOf, sumOf, treesOf, depthOf, levelsOf, tallyOf, Recurs, Unfolds}
+use Rattle.tally.specs.ByRule.{weightOf, ownOf, sumOf, treesOf, depthOf, levelsOf}
+use Rattle.counts.specs.Tally.{tallyOf, Recurs, Unfolds}
 
 module _ (r : ℕ) (E : ℕ → Expression) where
   own-rhs : (w : ℕ → ℕ) (x : Rule) → ownIn w (rhs r x E) ≡ ownOf w x

@@ -9,12 +9,13 @@ use Rattle.forest.specs.Algebra.{value}
 use Rattle.forest.specs.Forest.{trees, count, weigh, levels}
 use Rattle.forest.proofs.Good.{Sort, Good}
 use Rattle.rows.specs.Rows.{field}
-use Rattle.counts.specs.declared.Count.{Count}
+use Rattle.count.specs.declared.Count.{Count}
 use Rattle.counts.specs.declared.Tally.{Tally}
-use Rattle.counts.specs.declared.Weight.{Weight}
-use Rattle.counts.specs.Count.{capped, numberOf, countLength}
+use Rattle.tally.specs.declared.Weight.{Weight}
+use Rattle.count.specs.Count.{capped, numberOf, countLength}
 use Rattle.counts.specs.Recurrence.{ownIn, nodesIn, treesIn, depthIn, levelsIn}
-use Rattle.counts.specs.Tally.{weightOf, Counted, Unfolds, atCount}
+use Rattle.tally.specs.ByRule.{weightOf}
+use Rattle.counts.specs.Tally.{Counted, Unfolds, atCount}
 use Rattle.counts.specs.Total.{Startable, Totalled}
 use Rattle.counts.proofs.Meaning.{nodes-value, trees-value, levels-value}
 use Rattle.counts.proofs.Column.{besides-rule}

@@ -1,4 +1,3 @@
-pub mod Count
 pub mod Recurrence
 pub mod Says
 pub mod Tally

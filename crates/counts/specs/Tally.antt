@@ -1,6 +1,5 @@
--- The counts at the level of rules: what each column holds for a rule, from what it and the helping column hold for the rules that
--- it names. Each is one recurrence of Recurrence.antt read off a right-hand side.
-use Prim.Native.Nat.{ℕ, suc, _+_, _*_, _≤_, _<_, max}
+-- What a pass writes: each row's tally, from what its column and the helping column hold for the rules that its rule names.
+use Prim.Native.Nat.{ℕ, _+_, _*_, _≤_, _<_}
 use mathlib.Core.Path.{_≡_}
 use mathlib.Core.List.{List}
 use lib.ListN.{length}
@@ -8,62 +7,10 @@ use lib.Dec.{T, ltb}
 use Rattle.rule.specs.declared.Rule.{Rule}
 use Rattle.rule.specs.Rule.{every}
 use Rattle.forest.specs.Expression.{Expression, rhs}
-use Rattle.forest.specs.Forest.{one}
-use Rattle.forest.specs.Outcome.{entry}
-use Rattle.forest.proofs.Unfold.{Names}
 use Rattle.rows.specs.Rows.{rowLength, field, putField, ownEnd, ruleIn, Beyond}
-use Rattle.counts.specs.declared.Weight.{Weight}
 use Rattle.counts.specs.declared.Tally.{Tally}
-use Rattle.counts.specs.Count.{capped, countLength}
-
--- a label's weight
-unfoldable pub weightOf : Weight → ℕ → ℕ
-unfolding entry
-weightOf Weight.Node = one
-weightOf Weight.Entry = entry
-
--- the weight of a rule's own label
-unfoldable pub ownOf : (ℕ → ℕ) → Rule → ℕ
-ownOf w Rule.Empty = 0
-ownOf w (Rule.Pair b c) = 0
-ownOf w (Rule.Node a c) = w a
-ownOf w (Rule.Fill b c) = 0
-ownOf w (Rule.Part a b c) = w a
-ownOf w (Rule.Join b c) = 0
-
--- own is the rule's own weight, f the sums of the rules named
-unfoldable pub sumOf : ℕ → (ℕ → ℕ) → Rule → ℕ
-sumOf own f Rule.Empty = 0
-sumOf own f (Rule.Pair b c) = f b + f c
-sumOf own f (Rule.Node a c) = own + f c
-sumOf own f (Rule.Fill b c) = f b + f c
-sumOf own f (Rule.Part a b c) = own + f b + f c
-sumOf own f (Rule.Join b c) = f b + f c
-
-unfoldable pub treesOf : (ℕ → ℕ) → Rule → ℕ
-treesOf f Rule.Empty = 0
-treesOf f (Rule.Pair b c) = f b + f c
-treesOf f (Rule.Node a c) = 1
-treesOf f (Rule.Fill b c) = 1
-treesOf f (Rule.Part a b c) = 1
-treesOf f (Rule.Join b c) = 1
-
-unfoldable pub depthOf : (ℕ → ℕ) → Rule → ℕ
-depthOf f Rule.Empty = 0
-depthOf f (Rule.Pair b c) = 0
-depthOf f (Rule.Node a c) = 0
-depthOf f (Rule.Fill b c) = 0
-depthOf f (Rule.Part a b c) = 1
-depthOf f (Rule.Join b c) = f b + f c
-
--- d is the depth of each rule's hole
-unfoldable pub levelsOf : (ℕ → ℕ) → (ℕ → ℕ) → Rule → ℕ
-levelsOf d f Rule.Empty = 0
-levelsOf d f (Rule.Pair b c) = max (f b) (f c)
-levelsOf d f (Rule.Node a c) = suc (f c)
-levelsOf d f (Rule.Fill b c) = max (f b) (d b + f c)
-levelsOf d f (Rule.Part a b c) = suc (max (f b) (f c))
-levelsOf d f (Rule.Join b c) = max (f b) (d b + f c)
+use Rattle.count.specs.Count.{capped, countLength}
+use Rattle.tally.specs.ByRule.{weightOf, ownOf, sumOf, treesOf, depthOf, levelsOf}
 
 -- what rule r adds: d is the helping column, f the column itself
 unfoldable pub tallyOf : Tally → (ℕ → ℕ) → (ℕ → ℕ) → ℕ → Rule → ℕ
@@ -81,16 +28,6 @@ Helped Tally.Sum P = P
 Helped Tally.Trees P = Unit {0}
 Helped Tally.Depth P = Unit {0}
 Helped Tally.Levels P = P
-
--- the counts at offset o of the rules that x names lie in t
-pub record Reach (t : List ℕ) (o : ℕ) (x : Rule) : Type 0 where
-  pub reaches : (k : ℕ) → Names x k → rowLength * k + o + countLength ≤ length t
-
--- the counts of B at help and o, and that of C at o, lie in t
-pub record Between (t : List ℕ) (help o b c : ℕ) : Type 0 where
-  pub outer-help : rowLength * b + help + countLength ≤ length t
-  pub outer : rowLength * b + o + countLength ≤ length t
-  pub inner : rowLength * c + o + countLength ≤ length t
 
 -- row r lies in t with its places for counts, and names lower rules only
 pub record Readable (t : List ℕ) (r help o : ℕ) : Type 0 where

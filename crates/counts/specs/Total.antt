@@ -2,9 +2,9 @@
 use Prim.Native.Nat.{ℕ, _<_}
 use mathlib.Core.Path.{_≡_}
 use mathlib.Core.List.{List}
-use Rattle.counts.specs.declared.Count.{Count}
+use Rattle.count.specs.declared.Count.{Count}
 use Rattle.counts.specs.declared.Tally.{Tally}
-use Rattle.counts.specs.Count.{capped, numberOf}
+use Rattle.count.specs.Count.{capped, numberOf}
 use Rattle.counts.specs.Tally.{Helped, Recurs, Ready, Counted}
 
 -- the rows of n rules may be read, and r is one of them

@@ -18,11 +18,11 @@ use Rattle.model.specs.Walk.{answer, answers, after}
 use Rattle.rows.specs.Rows.{Within}
 use Rattle.tables.specs.Table.{rows, known}
 use Rattle.rows.proofs.Rows.{within-none, within-both}
-use Rattle.cursor.specs.declared.Landing.{Landing}
+use Rattle.landing.specs.declared.Landing.{Landing}
 use Rattle.cells.specs.Cells.{cursorLength}
-use Rattle.states.specs.Standing.{Stands, Stepped}
+use Rattle.ways.specs.Standing.{Stands, Stepped}
 use Rattle.letters.specs.Ran.{Ran, Answerable}
-use Rattle.states.proofs.Stands.{stands-few, stands-after}
+use Rattle.ways.proofs.Stands.{stands-few, stands-after}
 
 pub length-wordsBytes : (vs : List ℕ) → length (wordsBytes vs) ≡ 2 * length vs
 unfolding wordsBytes

@@ -1,8 +1,8 @@
 // A string of letters from a place (document 01, "Letters").
-use states::Letter;
+use ways::Letter;
 ghost use mathlib.Core.Path.{_≡_};
 ghost use Rattle.forest.specs.Letter.{letterOf};
-ghost use Rattle.states.specs.Standing.{Stands};
+ghost use Rattle.ways.specs.Standing.{Stands};
 ghost use Rattle.letters.specs.Letters.{readAs};
 ghost use Rattle.letters.specs.Ran.{Ran, Answerable};
 

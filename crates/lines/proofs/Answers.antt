@@ -18,10 +18,10 @@ use Rattle.forest.specs.Walk.{nowhere, answerWord}
 use Rattle.forest.proofs.Each.{each-labelAt}
 use Rattle.forest.proofs.Labels.{forest-labels}
 use Rattle.forest.proofs.Steps.{answer-label}
-use Rattle.lines.specs.Lines.{lineLength, shown, line, lines}
-use Rattle.lines.specs.Put.{answerOf}
-use Rattle.lines.proofs.Decimals.{decimal-length}
-use Rattle.lines.proofs.Shown.{line-length}
+use Rattle.printing.specs.Lines.{lineLength, shown, line, lines}
+use Rattle.printing.specs.Said.{answerOf}
+use Rattle.decimal.proofs.Decimals.{decimal-length}
+use Rattle.printing.proofs.Shown.{line-length}
 
 -- nowhere, or a label
 abbrev Labelled : Option ℕ → Type 0

@@ -1,6 +1,4 @@
-pub mod Puts
-pub mod Decimals
-pub mod Shown
 pub mod Answers
+pub mod Printed
 pub mod Strolls
 pub mod Sample

@@ -11,8 +11,8 @@ use Rattle.forest.specs.Letter.{letterOf}
 use Rattle.forest.specs.Reference.{answers}
 use Rattle.forest.specs.Walk.{andLetters, lettersOf, otherAt, firstOther}
 use Rattle.forest.proofs.Starred.{sample}
-use Rattle.lines.specs.Decimal.{digits, decimal}
-use Rattle.lines.specs.Lines.{shown, line, lines, refusedLine}
+use Rattle.decimal.specs.Decimal.{digits, decimal}
+use Rattle.printing.specs.Lines.{shown, line, lines, refusedLine}
 use Rattle.lines.specs.Stroll.{walkPrinted, checkPrinted, strollOutput}
 
 -- afnnfnnnnununnn

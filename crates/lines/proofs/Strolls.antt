@@ -6,7 +6,7 @@ use native.Mathlib.Omega.{arith}
 use mathlib.Core.Path.{_≡_, sym, ap, _∙_}
 use mathlib.Core.List.{List, [], map}
 use mathlib.Core.Option.{none, some}
-use lib.ListN.{length}
+use lib.ListN.{length, replicate, length-replicate}
 use borrow.Author.Tests.{le-leb, lt-leb}
 use Rattle.refusal.specs.declared.Refusal.{Refusal}
 use Rattle.plan.specs.declared.Checked.{Checked}
@@ -19,12 +19,13 @@ use Rattle.forest.specs.Walk.{lettersOf, firstOther}
 use Rattle.forest.proofs.Cases.{by-option}
 use Rattle.demand.specs.Calls.{Left, walkOf}
 use Rattle.demand.specs.Demand.{Above, wordsFrom}
-use Rattle.demand.proofs.FromAbove.{above-accepted, above-refused, above-answers}
+use Rattle.demand.proofs.FromAbove.{zeros-above, above-accepted, above-refused, above-answers}
 use Rattle.walk.specs.Calls.{lends, leaves}
-use Rattle.lines.specs.Lines.{lineLength, lines, refusedLine}
+use Rattle.printing.specs.Lines.{lineLength, lines, refusedLine}
 use Rattle.lines.specs.Stroll.{mostPlan, mostLetters, walkPrinted, checkPrinted, strollOutput}
-use Rattle.lines.specs.Put.{answerOf, answersFrom, Accepted}
-use Rattle.lines.proofs.Shown.{allLines}
+use Rattle.printing.specs.Said.{answerOf, answersFrom}
+use Rattle.lines.specs.Printed.{Accepted, Strollable, Strolled}
+use Rattle.printing.proofs.Shown.{allLines}
 use Rattle.lines.proofs.Answers.{plan-answers, words-said, lines-length}
 
 module _ (plan letters : List ℕ) where
@@ -48,18 +49,30 @@ pub too-many : (plan letters : List ℕ) → Accepted plan → mostLetters < len
 unfolding checkPrinted
 too-many plan letters A h = rw (A .accepted, lt-leb (length letters) mostLetters h)
 
--- the buffers
-pub record Lends (work cursor given : List ℕ) : Type 0 where
+-- the walk is lent enough
+pub record Lends (letters work cursor given : List ℕ) : Type 0 where
   pub work-length : 65536 ≡ length work
   pub cursor-length : 32800 ≡ length cursor
-  pub given-length : 8192 ≡ length given
   pub above : Above cursor
+  pub answerable : 2 * length letters ≤ length given
 
-module _ {plan : List ℕ} (letters : List ℕ) {work cursor given : List ℕ} (A : Accepted plan) (few : length letters ≤ mostLetters) (L : Lends work cursor given)
+pub zeros-lent : {letters given : List ℕ} → 2 * length letters ≤ length given → Lends letters (replicate 65536 0) (replicate 32800 0) given
+zeros-lent h =
+    record {
+      work-length = sym (length-replicate {0} {A = ℕ} 65536 0);
+      cursor-length = sym (length-replicate {0} {A = ℕ} 32800 0);
+      above = zeros-above 32800;
+      answerable = h;
+    }
+
+module _ {plan letters work cursor given : List ℕ} (S : Strollable plan letters) (L : Lends letters work cursor given)
     {x : Walked} {work′ cursor′ given′ : List ℕ} (W : leaves x work′ cursor′ given′ ≡ walkOf (lends plan work cursor letters given)) where
+  abbrev A : Accepted plan
+  A = S .accepted
+
   printed : checkPrinted plan letters (checked plan) ≡ walkPrinted (forest (rulesOf plan) (A .start)) letters (firstOther letters 0)
   unfolding checkPrinted
-  printed = rw (A .accepted, le-leb (length letters) mostLetters few)
+  printed = rw (A .accepted, le-leb (length letters) mostLetters (S .few))
 
   worked : 64 * A .n ≤ length work
   worked = let h = (checked-plan plan (A .n) (A .start) (A .accepted)) .greatest in omega arith
@@ -67,14 +80,11 @@ module _ {plan : List ℕ} (letters : List ℕ) {work cursor given : List ℕ} (
   room : 32 * (A .n + 1) ≤ length cursor
   room = let h = (checked-plan plan (A .n) (A .start) (A .accepted)) .greatest in omega arith
 
-  answerable : 2 * length letters ≤ length given
-  answerable = omega arith
-
   accepted : firstOther letters 0 ≡ none → x ≡ Walked.Accepted
-  accepted e = ap (λ (l : Left). l .answer) W ∙ above-accepted plan work cursor letters given (A .n) (A .start) (A .accepted) (L .above) worked room answerable e
+  accepted e = ap (λ (l : Left). l .answer) W ∙ above-accepted plan work cursor letters given (A .n) (A .start) (A .accepted) (L .above) worked room (L .answerable) e
 
   refused : (i : ℕ) → firstOther letters 0 ≡ some i → x ≡ Walked.Refused (Refusal.Letter i)
-  refused i e = ap (λ (l : Left). l .answer) W ∙ above-refused plan work cursor letters given (A .n) (A .start) (A .accepted) (L .above) worked room answerable i e
+  refused i e = ap (λ (l : Left). l .answer) W ∙ above-refused plan work cursor letters given (A .n) (A .start) (A .accepted) (L .above) worked room (L .answerable) i e
 
   -- accepted, every byte is a letter, and the words are the reference walker's answers
   every-letter : x ≡ Walked.Accepted → firstOther letters 0 ≡ none
@@ -85,19 +95,22 @@ module _ {plan : List ℕ} (letters : List ℕ) {work cursor given : List ℕ} (
   answered q =
       ap (map answerOf)
       (ap (λ (l : Left). wordsFrom (length letters) (l .answers) 0) W
-      ∙ above-answers plan work cursor letters given (A .n) (A .start) (A .accepted) (L .above) worked room answerable (every-letter q))
+      ∙ above-answers plan work cursor letters given (A .n) (A .start) (A .accepted) (L .above) worked room (L .answerable) (every-letter q))
       ∙ words-said _ (plan-answers plan (A .n) (A .start) (A .accepted) (lettersOf letters) [])
 
-  pub walk-printed : x ≡ Walked.Accepted → allLines letters given′ ≡ checkPrinted plan letters (checked plan)
+  walk-printed : x ≡ Walked.Accepted → allLines letters given′ ≡ checkPrinted plan letters (checked plan)
   unfolding walkPrinted
   walk-printed q = ap (lines letters) (answered q) ∙ sym (printed ∙ rw (every-letter q))
 
-  pub walk-short : x ≡ Walked.Accepted → length (allLines letters given′) ≤ lineLength * length letters
+  walk-short : x ≡ Walked.Accepted → length (allLines letters given′) ≤ lineLength * length letters
   walk-short q = rw (answered q) (lines-length letters _ (plan-answers plan (A .n) (A .start) (A .accepted) (lettersOf letters) []))
 
-  pub walk-refused : (why : Refusal) → x ≡ Walked.Refused why → refusedLine why ≡ checkPrinted plan letters (checked plan)
+  walk-refused : (why : Refusal) → x ≡ Walked.Refused why → refusedLine why ≡ checkPrinted plan letters (checked plan)
   unfolding walkPrinted
   walk-refused why q =
       by-option (firstOther letters 0)
       (λ e. let r = accepted e in cc)
       (λ i e. let r = refused i e in let same : why ≡ Refusal.Letter i = cc in ap refusedLine same ∙ sym (printed ∙ rw e))
+
+  pub strolled : Strolled plan letters x given′
+  strolled = record { said = walk-printed; short = walk-short; refused = walk-refused }

@@ -11,7 +11,7 @@ use Rattle.plan.specs.Check.{checked, rulesOf}
 use Rattle.forest.specs.Forest.{Forest, forest}
 use Rattle.forest.specs.Reference.{answers}
 use Rattle.forest.specs.Walk.{lettersOf, firstOther}
-use Rattle.lines.specs.Lines.{lines, refusedLine}
+use Rattle.printing.specs.Lines.{lines, refusedLine}
 
 -- "file plan.bin (at most 16,384 bytes) and letters from standard input (at most 4,096 ..)"
 abbrev pub mostPlan : ℕ

@@ -15,11 +15,11 @@ use Rattle.forest.specs.Outcome.{counted, entry}
 use Rattle.forest.proofs.Good.{Sort, Good}
 use Rattle.forest.proofs.Counts.{count-nodes, levels-nodes}
 use Rattle.rows.proofs.Rows.{within-both}
-use Rattle.counts.specs.declared.Count.{Count}
+use Rattle.count.specs.declared.Count.{Count}
 use Rattle.counts.specs.declared.Tally.{Tally}
-use Rattle.counts.specs.declared.Weight.{Weight}
-use Rattle.counts.specs.Count.{capped, limit, numberOf}
-use Rattle.counts.specs.Tally.{weightOf}
+use Rattle.tally.specs.declared.Weight.{Weight}
+use Rattle.count.specs.Count.{capped, limit, numberOf}
+use Rattle.tally.specs.ByRule.{weightOf}
 use Rattle.counts.specs.Total.{Totalled}
 use Rattle.counts.proofs.Meaning.{entries-nodes}
 use Rattle.counts.proofs.Totals.{unfolds-after, nodes-total, trees-total, levels-total}

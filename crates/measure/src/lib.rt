@@ -5,10 +5,10 @@ ghost use Rattle.forest.specs.Outcome.{measured, measuredWork};
 ghost use Rattle.counts.specs.Total.{Startable};
 ghost use Rattle.measure.specs.Answer.{Answered};
 use counts::Tally;
-use counts::Weight;
 use forest::Measured;
 use plan::Checked;
 use refusal::Refusal;
+use tally::Weight;
 
 // The answer for rule r of the rules in the rows. Trees and levels are at most as many as nodes, and so are entries.
 fn answer(work: &mut [u8], n: u16, r: u16) -> Measured

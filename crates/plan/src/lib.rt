@@ -6,7 +6,7 @@ use rule::Record;
 ghost use mathlib.Core.Path.{_≡_};
 ghost use mathlib.Core.List.{_++_};
 ghost use Prim.Native.Nat.{_+_, _*_, _≤_};
-ghost use lib.ListN.{length, take, drop};
+ghost use lib.ListN.{length, take, drop, set};
 ghost use mathlib.Core.Bool.{_&&_};
 ghost use lib.Dec.{leb, eqb};
 ghost use Rattle.rule.specs.Rule.{recordLength};
@@ -68,9 +68,17 @@ impl Trailer {
         words::write16(out, distance, n);
         words::write16(out, distance + Trailer::START, start);
         words::write32(out, distance + Trailer::DISTANCE, distance as u32);
+        Trailer::sign(out, distance + Trailer::MARK);
+    }
+
+    // The mark, its first byte at `at`.
+    fn sign(out: &mut [u8], at: usize)
+        requires { ⌜ at + 2 ≤ length (now out) ⌝ }
+        ensures { λ _. ⌜ now (out .exit) ≡ set (set (now (out .entry)) at 0x6d) (at + 1) 0x70 ⌝ }
+    {
         let magic = Trailer::MAGIC;
-        out[distance + Trailer::MARK] = magic[0];
-        out[distance + Trailer::MARK + 1] = magic[1];
+        out[at] = magic[0];
+        out[at + 1] = magic[1];
     }
 
     // Does the plan end in the mark?

@@ -1,9 +1,9 @@
 -- The answer for one rule: its nodes are counted, three bytes of room for each decide, and where they are there the rows get their tasks
 -- and the rule's text is written. Assumes nothing.
-use Prim.Native.Nat.{ℕ, zero, suc, _+_, _*_, _/_, _^_, _≤_, _<_}
+use Prim.Native.Nat.{ℕ, _*_, _/_, _≤_, _<_}
 use native.Mathlib.Omega.{arith}
-use mathlib.Core.Path.{_≡_, refl, sym, ap, subst, _∙_}
-use mathlib.Core.Bool.{Bool, true, false}
+use mathlib.Core.Path.{_≡_, refl, sym, ap, _∙_}
+use mathlib.Core.Bool.{true, false}
 use mathlib.Core.List.{List}
 use lib.ListN.{length}
 use lib.Dec.{leb}
@@ -11,33 +11,30 @@ use borrow.Author.Tests.{leb-true, leb-false, le-leb, lt-leb}
 use Rattle.refusal.specs.declared.Refusal.{Refusal}
 use Rattle.rule.specs.declared.Rule.{Rule}
 use Rattle.plan.specs.declared.Written.{Written}
-use Rattle.rule.specs.Rule.{wordLength}
-use Rattle.rule.specs.Sound.{rule, Sound, Closed}
-use Rattle.seal.specs.Seal.{inFront, outputAfter}
-use Rattle.forest.specs.Expression.{Expression, expression}
-use Rattle.forest.specs.Algebra.{value}
-use Rattle.forest.specs.Forest.{Forest, trees, forest, weigh, one, text}
+use Rattle.seal.specs.Seal.{outputAfter}
+use Rattle.forest.specs.Forest.{forest, weigh, one, text}
 use Rattle.forest.specs.Outcome.{nodeLength, textRoomed}
 use Rattle.forest.proofs.Good.{Sort, Good}
 use Rattle.forest.proofs.Unfold.{unfolding-equation, closed-row}
 use Rattle.forest.proofs.Counts.{text-length}
-use Rattle.rows.specs.Rows.{rowLength, ownEnd, ruleIn, Within}
+use Rattle.rows.specs.Rows.{ownEnd}
 use Rattle.rows.proofs.Rows.{within-both, within-wider}
-use Rattle.counts.specs.declared.Count.{Count}
+use Rattle.count.specs.declared.Count.{Count}
 use Rattle.counts.specs.declared.Tally.{Tally}
-use Rattle.counts.specs.declared.Weight.{Weight}
-use Rattle.counts.specs.Count.{capped, limit, numberOf}
+use Rattle.tally.specs.declared.Weight.{Weight}
+use Rattle.count.specs.Count.{capped, limit, numberOf}
 use Rattle.counts.specs.Says.{whole, says}
-use Rattle.counts.specs.Tally.{weightOf, Besides, Ready, Unfolds}
+use Rattle.tally.specs.ByRule.{weightOf}
+use Rattle.counts.specs.Tally.{Besides, Unfolds}
 use Rattle.counts.specs.Total.{Startable, Totalled}
 use Rattle.counts.proofs.Meaning.{told}
 use Rattle.counts.proofs.Column.{besides-rule}
 use Rattle.counts.proofs.Totals.{nodes-total}
-use Rattle.spread.specs.Task.{taskIn}
-use Rattle.spread.specs.Stack.{atTask, tasksAt}
-use Rattle.spread.specs.Run.{rowsIn, meant, stackAt, workEnd, Taskable, Tasked, Tabled, Ran, Spreadable, Answerable, Answered}
-use Rattle.spread.proofs.Tasks.{by-test}
-use Rattle.spread.proofs.Rows.{rows-length, rows-rule, rows-same, task-recurs}
+use Rattle.steps.specs.Task.{taskIn}
+use Rattle.tasks.specs.Run.{rowsIn, meant, workEnd, Taskable, Tasked, Tabled, Ran, Spreadable}
+use Rattle.spread.specs.Answer.{Answerable, Answered}
+use Rattle.steps.proofs.Tasks.{by-test}
+use Rattle.tasks.proofs.Rows.{rows-length, rows-rule, rows-same, task-recurs}
 
 -- two tests that say the same
 same-test : (a b c d : ℕ) → (a ≤ b → c ≤ d) → (c ≤ d → a ≤ b) → leb a b ≡ leb c d

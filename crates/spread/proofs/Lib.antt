@@ -1,11 +1,2 @@
-pub mod Tasks
-pub mod Steps
-pub mod Turns
-pub mod Named
-pub mod Stacks
-pub mod Tasking
-pub mod Rows
-pub mod Runs
-pub mod Begins
 pub mod Answers
 pub mod Outcome

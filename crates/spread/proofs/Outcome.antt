@@ -1,18 +1,16 @@
 -- Spread's answer, work and output, by the ways through its code: refused by check, refused for its work, or answered over the loaded rules
 -- and then cleared. Assumes nothing.
-use Prim.Native.Nat.{ℕ, _+_, _-_, _*_}
+use Prim.Native.Nat.{ℕ, _-_, _*_}
 use native.Mathlib.Omega.{arith}
-use mathlib.Core.Path.{_≡_, refl, sym, ap, subst, _∙_}
-use mathlib.Core.Bool.{Bool, true, false}
+use mathlib.Core.Path.{_≡_, sym, ap, _∙_}
+use mathlib.Core.Bool.{true, false}
 use mathlib.Core.List.{List}
-use lib.ListN.{length}
 use Rattle.refusal.specs.declared.Refusal.{Refusal}
 use Rattle.rule.specs.declared.Rule.{Rule}
 use Rattle.plan.specs.declared.Checked.{Checked}
 use Rattle.plan.specs.declared.Written.{Written}
 use Rattle.rule.specs.Rule.{wordLength}
 use Rattle.plan.specs.Check.{checked, rulesOf}
-use Rattle.rule.specs.Sound.{Sound, Closed}
 use Rattle.seal.specs.Seal.{outputAfter}
 use Rattle.forest.specs.Forest.{forest, text}
 use Rattle.forest.specs.Outcome.{workWords, enoughWork, cleared, measuredWork, textRoomed, spread, textOf, spreadOutput}
@@ -20,8 +18,9 @@ use Rattle.rows.specs.Rows.{workLength, Within}
 use Rattle.rows.proofs.Rows.{within-both}
 use Rattle.rows.proofs.Work.{work-refused, work-lent, work-cleared}
 use Rattle.counts.proofs.Work.{Held}
-use Rattle.spread.specs.Run.{rowsIn, Answerable, Answered}
-use Rattle.spread.proofs.Rows.{rows-are}
+use Rattle.tasks.specs.Run.{rowsIn}
+use Rattle.spread.specs.Answer.{Answerable, Answered}
+use Rattle.tasks.proofs.Rows.{rows-are}
 
 -- the answer, the work and the output that spread gives
 abbrev pub Outcome : List ℕ → List ℕ → List ℕ → Written → List ℕ → List ℕ → Type 0

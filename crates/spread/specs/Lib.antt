@@ -1,3 +1,1 @@
-pub mod Task
-pub mod Stack
-pub mod Run
+pub mod Answer

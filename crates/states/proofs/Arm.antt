@@ -34,10 +34,11 @@ use denote.Triple.Statement.{Triple}
 use denote.Triple.Call.{calls-at-last}
 use denote.Triple.Clauses.{ensured, lasts}
 use denote.Triple.Walked.{says}
-use Rattle.states.specs.declared.Letter.{Letter}
+use Rattle.ways.specs.declared.Letter.{Letter}
 use Rattle.states.specs.declared.Standing.{Standing}
-use Rattle.states.specs.Letters.{moveOf}
-use Rattle.states.specs.Standing.{Stands, landed, Stepped}
+use Rattle.ways.specs.Letters.{moveOf}
+use Rattle.ways.specs.Standing.{Stands, Stepped}
+use Rattle.states.specs.Landed.{landed}
 use Rattle.states.proofs.Standing as T
 use Rattle.states.proofs.Standing.Laws as T′
 use Rattle.states.proofs.Thin.{thin-clauses, Lands}

@@ -3,7 +3,3 @@ pub mod Thin
 pub mod Walks
 pub mod Walked
 pub mod Arm
-pub mod Valid
-pub mod Inside
-pub mod Holding
-pub mod Stands

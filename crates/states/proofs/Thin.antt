@@ -20,17 +20,18 @@ use Rattle.forest.specs.Walk.{cellsIn}
 use Rattle.model.specs.Walk.{move}
 use Rattle.tables.specs.Table.{known}
 use Rattle.cells.proofs.Change.Laws as change
-use Rattle.cursor.specs.Moves.{outcome}
-use Rattle.cursor.proofs.Outcome.Laws as outcome′
-use Rattle.cursor.proofs.Landing.Laws as landing
-use Rattle.cursor.proofs.arrive as arrive
-use Rattle.cursor.proofs.arrive.Symbol.{name as #cursor·arrive}
-use Rattle.states.specs.declared.Letter.{Letter}
-use Rattle.states.specs.Letters.{moveOf}
-use Rattle.states.specs.Standing.{Stands, landed, Stepped}
+use Rattle.turns.specs.Moves.{outcome}
+use Rattle.turns.proofs.Outcome.Laws as outcome′
+use Rattle.landing.proofs.Landing.Laws as landing
+use Rattle.landing.proofs.arrive as arrive
+use Rattle.landing.proofs.arrive.Symbol.{name as #landing·arrive}
+use Rattle.ways.specs.declared.Letter.{Letter}
+use Rattle.ways.specs.Letters.{moveOf}
+use Rattle.ways.specs.Standing.{Stands, Stepped}
+use Rattle.states.specs.Landed.{landed}
 use Rattle.states.proofs.Standing as standing
 use Rattle.states.proofs.Standing.Laws as standing′
-use Rattle.states.proofs.to_first_root as lead
+use Rattle.ways.proofs.to_first_root as lead
 use Rattle.states.proofs.first_root as thin
 
 -- the code after the let-else, and before it
@@ -38,7 +39,7 @@ abbrev pub at-node : Body
 at-node =
     seq (assign (place 12 []) (addrOf (place 2 (field 0 ∷ deref (tyInt w8) ∷ []))))
     (seq (assign (place 13 []) (aggregate (copy (place 12 []) ∷ copy (place 2 (field 1 ∷ [])) ∷ [])))
-    (seq (call #cursor·arrive (copy (place 1 []) ∷ copy (place 13 []) ∷ copy (place 5 []) ∷ []) (place 6 []))
+    (seq (call #landing·arrive (copy (place 1 []) ∷ copy (place 13 []) ∷ copy (place 5 []) ∷ []) (place 6 []))
     (seq (assign (place 3 (deref standing′.mir ∷ [])) (aggregate (copy (place 6 (field 0 ∷ [])) ∷ copy (place 6 (field 1 ∷ [])) ∷ [])))
     (seq (assign (place 0 []) (rvOpd (copy (place 6 (field 2 ∷ []))))) return))))
 

@@ -25,18 +25,18 @@ use denote.Triple.Spec.{Meets}
 use denote.Triple.Statement.{Triple}
 use denote.Triple.Table.{entered, cited}
 use denote.Triple.Walked.{needs, AllGo, goes-none, goes-none-slice, goes-slice, goes-ref, Walks, walked, walk-meets}
-use Rattle.cursor.proofs.arrive.Symbol as arrive-def
-use Rattle.cursor.proofs.arrive.Symbol.{name as #cursor·arrive}
-use Rattle.cursor.proofs.arrive.Met as arrive-thm
-use Rattle.states.specs.declared.Letter.{Letter}
-use Rattle.states.specs.Standing.{Stands}
+use Rattle.landing.proofs.arrive.Symbol as arrive-def
+use Rattle.landing.proofs.arrive.Symbol.{name as #landing·arrive}
+use Rattle.landing.proofs.arrive.Met as arrive-thm
+use Rattle.ways.specs.declared.Letter.{Letter}
+use Rattle.ways.specs.Standing.{Stands}
 use Rattle.states.proofs.Standing as T
 use Rattle.states.proofs.Thin.{function, thin-clauses, Leads, Lands, Arrives}
 use Rattle.states.proofs.Walks.{stayed, walk}
 use Rattle.states.proofs.first_root as thin
 
 module _ (l : Letter) (f : Name) {M : Type 1} (𝓤 : URA M) (H : Heap 𝓤) (A : Atoms 𝓤) (W : Given 𝓤 H A) (mem : Memory → SProp 𝓤) (run : Routine → Fun 𝓤) where
-  walks : (C : Calls 𝓤 H) (Λ : Loops 𝓤 H) → FmC 𝓤 H (W .laws) C → Triple 𝓤 (C f) (Leads l 𝓤 H A) → Triple 𝓤 (C #cursor·arrive) (Arrives 𝓤 H A mem run)
+  walks : (C : Calls 𝓤 H) (Λ : Loops 𝓤 H) → FmC 𝓤 H (W .laws) C → Triple 𝓤 (C f) (Leads l 𝓤 H A) → Triple 𝓤 (C #landing·arrive) (Arrives 𝓤 H A mem run)
       → Walks 𝓤 H A thin.ended stayed (WpFn 𝓤 H C Λ (function f)) (thin-clauses l 𝓤)
   walks C Λ fm known-lead known-arrive =
       walked 𝓤 H A thin.ended stayed (thin-clauses l 𝓤) (WpFn 𝓤 H C Λ (function f)) (λ κs. (slice-vals, (slice-vals, (ptr-vals, (uint-vals w16, tt)))))
@@ -48,17 +48,17 @@ module _ (l : Letter) (f : Name) {M : Type 1} (𝓤 : URA M) (H : Heap 𝓤) (A 
   goes : AllGo 𝓤 H A W 3 (thin.signature .params) (thin.ended .kept) stayed
   goes = (goes-none-slice 𝓤 H A W 3 (0 ∷ []) tt (plain (λ _. u8)) yes, (goes-slice 𝓤 H A W 3 1 tt (plain (λ _. u8)), (goes-ref 𝓤 H A W 3 2 tt (plain (λ _. T.the-row)), (goes-none 𝓤 H A W 3 (λ _. u16) yes (λ κs x e. refl), tt))))
 
-  meets : (𝓣 : Tables 𝓤 H) → Triple 𝓤 (𝓣 .C f) (Leads l 𝓤 H A) → Triple 𝓤 (𝓣 .C #cursor·arrive) (Arrives 𝓤 H A mem run)
+  meets : (𝓣 : Tables 𝓤 H) → Triple 𝓤 (𝓣 .C f) (Leads l 𝓤 H A) → Triple 𝓤 (𝓣 .C #landing·arrive) (Arrives 𝓤 H A mem run)
       → Meets 𝓤 H A thin.signature (WpFn 𝓤 H (𝓣 .C) (𝓣 .Λ) (function f)) (closing 𝓤 H A thin.ended (thin-clauses l 𝓤))
   meets 𝓣 known-lead known-arrive =
       walk-meets 𝓤 H A thin.ended stayed W goes (thin-clauses l 𝓤) (WpFn 𝓤 H (𝓣 .C) (𝓣 .Λ) (function f)) (WpFn-mono 𝓤 H (W .laws) 𝓣 (function f)) (walks (𝓣 .C) (𝓣 .Λ) (fmOf 𝓤 H (W .laws) 𝓣) known-lead known-arrive)
 
 -- a function of the name k in an environment γ, in which f is the routine `lead`
 pub letter-meets : (l : Letter) (f k : Name) (γ : Env) (lead : Routine) {M : Type 1} (𝓤 : URA M) (H : Heap 𝓤) (𝓜 : Model 𝓤 H) (𝓖 : GhostRules 𝓤 H) (𝓡 : Running 𝓤 H 𝓜)
-    → Closed 𝓤 H (tables 𝓤 H 𝓜 𝓡 γ .C) (tables 𝓤 H 𝓜 𝓡 γ .Λ) k (function f) → γ #cursor·arrive ≡ arrive-def.routine → γ f ≡ lead → Triple 𝓤 (𝓡 .run lead) (Leads l 𝓤 H (𝓖 .A)) → Triple 𝓤 (𝓡 .run (γ k)) (Lands l 𝓤 H (𝓖 .A))
+    → Closed 𝓤 H (tables 𝓤 H 𝓜 𝓡 γ .C) (tables 𝓤 H 𝓜 𝓡 γ .Λ) k (function f) → γ #landing·arrive ≡ arrive-def.routine → γ f ≡ lead → Triple 𝓤 (𝓡 .run lead) (Leads l 𝓤 H (𝓖 .A)) → Triple 𝓤 (𝓡 .run (γ k)) (Lands l 𝓤 H (𝓖 .A))
 unfolding tablesOf
 letter-meets l f k γ lead 𝓤 H 𝓜 𝓖 𝓡 closed calls-arrive calls-lead met =
     entered 𝓤 H (Lands l 𝓤 H (𝓖 .A)) (tables 𝓤 H 𝓜 𝓡 γ .C) (tables 𝓤 H 𝓜 𝓡 γ .Λ) k (function f) closed
     (meets l f 𝓤 H (𝓖 .A) (givenOf 𝓤 H 𝓜 𝓖) (𝓜 .mem) (𝓡 .run) (tablesOf 𝓤 H 𝓜 (tables 𝓤 H 𝓜 𝓡 γ))
     (cited 𝓤 H (Leads l 𝓤 H (𝓖 .A)) 𝓜 𝓡 γ f lead calls-lead met)
-    (cited 𝓤 H (Arrives 𝓤 H (𝓖 .A) (𝓜 .mem) (𝓡 .run)) 𝓜 𝓡 γ #cursor·arrive arrive-def.routine calls-arrive (arrive-thm.met 𝓤 H 𝓜 𝓖 𝓡)))
+    (cited 𝓤 H (Arrives 𝓤 H (𝓖 .A) (𝓜 .mem) (𝓡 .run)) 𝓜 𝓡 γ #landing·arrive arrive-def.routine calls-arrive (arrive-thm.met 𝓤 H 𝓜 𝓖 𝓡)))

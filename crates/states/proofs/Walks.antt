@@ -52,26 +52,27 @@ use Rattle.cells.specs.declared.Change.{Change}
 use Rattle.cells.specs.Changes.{changeNode}
 use Rattle.cells.proofs.Change as change
 use Rattle.cells.proofs.Change.Laws as change′
-use Rattle.cursor.specs.declared.Outcome.{Outcome}
-use Rattle.cursor.specs.declared.Landing.{Landing}
-use Rattle.cursor.specs.Moves.{outcome}
-use Rattle.cursor.specs.Arrived.{Arrived}
-use Rattle.cursor.proofs.Outcome as outcome-type
-use Rattle.cursor.proofs.Outcome.Laws as outcome-type′
-use Rattle.cursor.proofs.Landing as landing
-use Rattle.cursor.proofs.Landing.Laws as landing′
-use Rattle.cursor.proofs.arrive as arrive
-use Rattle.cursor.proofs.arrive.Symbol.{name as #cursor·arrive}
-use Rattle.states.specs.declared.Letter.{Letter}
+use Rattle.turns.specs.declared.Outcome.{Outcome}
+use Rattle.landing.specs.declared.Landing.{Landing}
+use Rattle.turns.specs.Moves.{outcome}
+use Rattle.landing.specs.Arrived.{Arrived}
+use Rattle.turns.proofs.Outcome as outcome-type
+use Rattle.turns.proofs.Outcome.Laws as outcome-type′
+use Rattle.landing.proofs.Landing as landing
+use Rattle.landing.proofs.Landing.Laws as landing′
+use Rattle.landing.proofs.arrive as arrive
+use Rattle.landing.proofs.arrive.Symbol.{name as #landing·arrive}
+use Rattle.ways.specs.declared.Letter.{Letter}
 use Rattle.states.specs.declared.Standing.{Standing}
-use Rattle.states.specs.Letters.{moveOf}
-use Rattle.states.specs.Standing.{Stands, landed, Stepped}
+use Rattle.ways.specs.Letters.{moveOf}
+use Rattle.ways.specs.Standing.{Stands, Stepped}
+use Rattle.states.specs.Landed.{landed}
 use Rattle.states.proofs.Standing as T
 use Rattle.states.proofs.Standing.Laws as T′
-use Rattle.states.proofs.Stands.{move-fitting, stepped-node, stepped-nowhere}
+use Rattle.ways.proofs.Stands.{move-fitting, stepped-node, stepped-nowhere}
 use Rattle.states.proofs.Lent.{LentMut, LentShared, lends-mut, mut-back, lends-shared, shared-back}
 use Rattle.states.proofs.Thin.{function, decided, at-node, nowhere-else, taking, lead-clauses, thin-clauses, Leads, Arrives}
-use Rattle.states.proofs.to_first_root as lead
+use Rattle.ways.proofs.to_first_root as lead
 use Rattle.states.proofs.first_root as thin
 
 abbrev pub stayed : Stays (thin.ended .signature .params) (thin.ended .kept)
@@ -209,7 +210,7 @@ module _ (l : Letter) {M : Type 1} (𝓤 : URA M) (H : Heap 𝓤) (A : Atoms �
         forget ! 11 refl $ forget ! 13 refl $ forget ! 15 refl $ forget ! 17 refl $ forget ! 19 refl $ forget ! 25 refl $ forget ! 27 refl $ forget ! 29 refl $ forget ! 31 refl $ returns-within ! Post refl (look ! 33 refl) $ forget ! 33 refl $
         frees-all 65535 ys h (lit< tt) refl (stepped-nowhere S (moveOf l) e)
 
-    module _ (fm : FmC 𝓤 H (W .laws) C) (known-arrive : Triple 𝓤 (C #cursor·arrive) (Arrives 𝓤 H A mem run)) where
+    module _ (fm : FmC 𝓤 H (W .laws) C) (known-arrive : Triple 𝓤 (C #landing·arrive) (Arrives 𝓤 H A mem run)) where
       -- what `arrive` returned fits its fields
       fits : (y : Landing) (w : Val) → Is landing.the-row y (w ∷ []) → (y .used < 2 ^ 64) × ((y .rule < 2 ^ 16) × (y .answer < 2 ^ 32))
       fits y w is = let f = LL.owed landing.the-type landing′.the-laws y _ is in (f .0 .1, (f .1 .0 .1, f .1 .1 .0 .1))
@@ -255,7 +256,7 @@ module _ (l : Letter) {M : Type 1} (𝓤 : URA M) (H : Heap 𝓤) (A : Atoms �
           assigns-last ! (of-opd ! (load ! (from ! (vrt ! refl (fld ! refl (stop !)))) (look-in ! 20 (in-variant ! 0 0 refl refl (whole !))))) (from ! (stop !)) (init ! 24 refl (LL.lawful change.the-type change′.the-laws 𝓤 H A W .typed x _ is-x .0)) $
           exec ! C Λ E at-node (atRet E Post) $ arrives k-fits p-fits x is-x (sym e)
 
-  module _ (C : Calls 𝓤 H) (Λ : Loops 𝓤 H) (fm : FmC 𝓤 H (W .laws) C) (f : Name) (known-lead : Triple 𝓤 (C f) (Leads l 𝓤 H A)) (known-arrive : Triple 𝓤 (C #cursor·arrive) (Arrives 𝓤 H A mem run)) where
+  module _ (C : Calls 𝓤 H) (Λ : Loops 𝓤 H) (fm : FmC 𝓤 H (W .laws) C) (f : Name) (known-lead : Triple 𝓤 (C f) (Leads l 𝓤 H A)) (known-arrive : Triple 𝓤 (C #landing·arrive) (Arrives 𝓤 H A mem run)) where
     used-fits : Is R h (state (h .used) (h .rule) ∷ []) → h .used < 2 ^ 64
     used-fits is = LL.owed T.the-type T′.the-laws h _ is .0 .1
 

@@ -1,6 +1,6 @@
--- How a row is made from the rows of the rules that its rule names.
+-- How the links of a row are made from the rows of the rules that its rule names.
 use Prim.Native.Nat.{ℕ, _+_, _^_, _<_}
-use mathlib.Core.Bool.{Bool, true, false, cond, _&&_}
+use mathlib.Core.Bool.{Bool, cond, _&&_}
 use mathlib.Core.List.{List}
 use lib.Dec.{T, eqb, ltb}
 use Rattle.rule.specs.declared.Rule.{Rule}
@@ -8,7 +8,6 @@ use Rattle.rule.specs.Rule.{every}
 use Rattle.forest.specs.Place.{Side}
 use Rattle.forest.proofs.Position.{pick}
 use Rattle.tables.specs.declared.Link.{Link}
-use Rattle.tables.specs.declared.Entry.{Entry}
 use Rattle.tables.specs.Table.{linkIn, known, In, Below}
 
 -- the jump of a rule whose next on side s is p (skew-binary): over p's jump and its jump if these are equally long, else p
@@ -42,28 +41,6 @@ linkOf t s r (Rule.Node a c) = linkOwn r
 linkOf t s r (Rule.Fill b c) = linkOwn r
 linkOf t s r (Rule.Part a b c) = linkOwn r
 linkOf t s r (Rule.Join b c) = linkFrom t s (pick s b c)
-
-unfoldable pub emptyOf : List ℕ → Rule → Bool
-emptyOf t Rule.Empty = true
-emptyOf t (Rule.Pair b c) = (known t) .isEmpty b && (known t) .isEmpty c
-emptyOf t (Rule.Node a c) = false
-emptyOf t (Rule.Fill b c) = false
-emptyOf t (Rule.Part a b c) = false
-emptyOf t (Rule.Join b c) = false
-
-unfoldable pub representativeOf : List ℕ → ℕ → Rule → ℕ
-representativeOf t r Rule.Empty = r
-representativeOf t r (Rule.Pair b c) =
-    cond ((known t) .isEmpty b) ((known t) .representative c) (cond ((known t) .isEmpty c) ((known t) .representative b) r)
-representativeOf t r (Rule.Node a c) = r
-representativeOf t r (Rule.Fill b c) = r
-representativeOf t r (Rule.Part a b c) = r
-representativeOf t r (Rule.Join b c) = r
-
--- all that is known of rule r with that right-hand side
-unfoldable pub entryOf : List ℕ → ℕ → Rule → Entry
-entryOf t r x =
-    record { representative = representativeOf t r x; empty = emptyOf t x; left = linkOf t Side.left r x; right = linkOf t Side.right r x }
 
 -- the rows that a step to p looks at are there, and its number of steps fits
 pub record Steps (t : List ℕ) (s : Side) (p : ℕ) : Type 0 where

@@ -2,7 +2,7 @@
 -- the way of that side from the rule. Read back, the rows are facts as the walker knows them (`known`).
 use Prim.Native.Nat.{ℕ, zero, suc, _+_, _-_, _/_, _≤_, _<_}
 use mathlib.Core.Path.{_≡_}
-use mathlib.Core.Bool.{Bool, true, false, cond}
+use mathlib.Core.Bool.{true, cond}
 use mathlib.Core.List.{List, [], _∷_}
 use lib.ListN.{length}
 use lib.Dec.{eqb, ltb}
@@ -12,7 +12,6 @@ use Rattle.model.specs.Facts.{Facts, factsOf}
 use Rattle.model.specs.Run.{along}
 use Rattle.tables.specs.declared.Side as code
 use Rattle.tables.specs.declared.Link.{Link}
-use Rattle.tables.specs.declared.Entry.{Entry}
 use Rattle.rows.specs.Rows.{rowLength, field, putField, ruleIn, Holds, Beyond}
 
 -- the code's sides
@@ -56,11 +55,6 @@ pub record LinkAt (s : Side) (o : ℕ) : Type 0 where
   pub behind : atEmptiness + 2 ≤ o
   pub within : o + linkLength ≤ entryEnd
 
--- a test as a word
-unfoldable pub flag : Bool → ℕ
-flag true = 1
-flag false = 0
-
 -- the link of side s in row r, and a list with another link there
 unfoldable pub linkIn : List ℕ → Side → ℕ → Link
 linkIn t s r =
@@ -77,21 +71,6 @@ putLinkAt t o r l =
 
 unfoldable pub putLink : List ℕ → Side → ℕ → Link → List ℕ
 putLink t s r l = putLinkAt t (atLink s) r l
-
--- all that row r keeps beside the rule, and a list with something else there
-unfoldable pub entryIn : List ℕ → ℕ → Entry
-entryIn t r =
-    record {
-      representative = field 2 t r atRepresentative;
-      empty = eqb (field 2 t r atEmptiness) 1;
-      left = linkIn t Side.left r;
-      right = linkIn t Side.right r;
-    }
-
-unfoldable pub putEntry : List ℕ → ℕ → Entry → List ℕ
-putEntry t r e =
-    putLink (putLink (putField 2 (putField 2 t r atRepresentative (e .representative)) r atEmptiness (flag (e .empty))) Side.left r (e .left)) Side.right r
-    (e .right)
 
 -- how many rows a list has, and the rules that have one
 abbrev pub rows : List ℕ → ℕ

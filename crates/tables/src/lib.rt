@@ -1,15 +1,13 @@
 // What is known of each rule, in rows of the lent work.
 ghost use mathlib.Core.Path.{_≡_};
-ghost use Prim.Native.Nat.{_+_, _-_, _*_, _≤_, _<_};
-ghost use lib.ListN.{length};
+ghost use Prim.Native.Nat.{_+_, _-_, _≤_};
 ghost use Rattle.forest.proofs.Position.{other, pick};
-ghost use Rattle.rows.specs.Rows.{rowLength, field};
-ghost use Rattle.rule.specs.Sound.{Sound};
+ghost use Rattle.rows.specs.Rows.{field};
 ghost use Rattle.model.specs.Run.{along, oneAbove};
 ghost use Rattle.model.specs.Model.{outer};
 ghost use Rattle.model.specs.Stored.{reaches};
-ghost use Rattle.tables.specs.Table.{sideOf, atLink, linkLength, LinkAt, flag, linkIn, putLink, putEntry, known, kept, Built, In, Climbs};
-ghost use Rattle.tables.specs.Build.{jumpFrom, linkFrom, linkOwn, linkPair, linkOf, emptyOf, representativeOf, entryOf, Steps, Pairs, Ready};
+ghost use Rattle.tables.specs.Table.{sideOf, atLink, linkLength, LinkAt, linkIn, putLink, known, In, Climbs};
+ghost use Rattle.tables.specs.Build.{jumpFrom, linkFrom, linkOwn, linkPair, linkOf, Steps, Pairs, Ready};
 use rule::Rule;
 
 // Left and right.
@@ -19,19 +17,11 @@ pub enum Side {
 }
 
 // The way of one side from a rule: one step, the end of the longest run, its number of steps, and a rule further on.
-struct Link {
-    toward: u16,
-    last: u16,
-    depth: u16,
-    jump: u16,
-}
-
-// What is known of a rule.
-struct Entry {
-    representative: u16,
-    empty: bool,
-    left: Link,
-    right: Link,
+pub struct Link {
+    pub toward: u16,
+    pub last: u16,
+    pub depth: u16,
+    pub jump: u16,
 }
 
 impl Side {
@@ -40,8 +30,8 @@ impl Side {
         ensures { λ o. ⌜ LinkAt (sideOf self) o ⌝ }
     {
         match self {
-            Side::Left => Entry::LEFT,
-            Side::Right => Entry::RIGHT,
+            Side::Left => Link::LEFT,
+            Side::Right => Link::RIGHT,
         }
     }
 
@@ -90,7 +80,7 @@ pub fn representative_at(work: &[u8], r: u16) -> u16
     requires { ⌜ In (now work) r ⌝ }
     ensures { λ x. ⌜ x ≡ (known (now (work .entry))) .representative r ⌝ }
 {
-    rows::field16(work, r, Entry::REPRESENTATIVE)
+    rows::field16(work, r, Link::REPRESENTATIVE)
 }
 
 // Is rule r without trees?
@@ -98,7 +88,7 @@ pub fn is_empty_at(work: &[u8], r: u16) -> bool
     requires { ⌜ In (now work) r ⌝ }
     ensures { λ x. ⌜ x ≡ (known (now (work .entry))) .isEmpty r ⌝ }
 {
-    rows::field16(work, r, Entry::EMPTINESS) == 1
+    rows::field16(work, r, Link::EMPTINESS) == 1
 }
 
 // A word of the link of a side in row r.
@@ -142,6 +132,15 @@ fn jump_at(work: &[u8], side: Side, r: u16) -> u16
 }
 
 impl Link {
+    // Where a row keeps the representative of its rule, its emptiness, and the link of each side.
+    pub const REPRESENTATIVE: usize = 10;
+
+    pub const EMPTINESS: usize = 12;
+
+    const LEFT: usize = 14;
+
+    const RIGHT: usize = 22;
+
     // Where a link keeps its words.
     const TOWARD: usize = 0;
 
@@ -165,7 +164,7 @@ impl Link {
     }
 
     // The link into row r.
-    fn write(self, work: &mut [u8], side: Side, r: u16)
+    pub fn write(self, work: &mut [u8], side: Side, r: u16)
         requires { ⌜ In (now work) r ⌝ }
         ensures { λ x. ⌜ now (work .exit) ≡ putLink (now (work .entry)) (sideOf side) r self ⌝ }
     {
@@ -236,7 +235,7 @@ impl Link {
     }
 
     // The link of rule r.
-    fn of(work: &[u8], side: Side, r: u16, rule: Rule) -> Link
+    pub fn of(work: &[u8], side: Side, r: u16, rule: Rule) -> Link
         requires { ⌜ Ready r rule (now work) ⌝ }
         ensures { λ l. ⌜ l ≡ linkOf (now (work .entry)) (sideOf side) r rule ⌝ }
     {
@@ -252,108 +251,6 @@ impl Link {
                 right: _,
             } => Link::own(r),
         }
-    }
-}
-
-// A test as a word.
-fn flag(test: bool) -> u16
-    ensures { λ x. ⌜ x ≡ flag test ⌝ }
-{
-    if test { 1 } else { 0 }
-}
-
-impl Entry {
-    // Where a row keeps what is known of its rule.
-    const REPRESENTATIVE: usize = 10;
-
-    const EMPTINESS: usize = 12;
-
-    const LEFT: usize = 14;
-
-    const RIGHT: usize = 22;
-
-    // Is a rule without trees?
-    fn empty_of(work: &[u8], r: u16, rule: Rule) -> bool
-        requires { ⌜ Ready r rule (now work) ⌝ }
-        ensures { λ x. ⌜ x ≡ emptyOf (now (work .entry)) rule ⌝ }
-    {
-        match rule {
-            Rule::Empty => true,
-            Rule::Pair { first, second } => is_empty_at(work, first) & is_empty_at(work, second),
-            Rule::Node { label: _, under: _ } => false,
-            Rule::Fill { outer: _, inner: _ } => false,
-            Rule::Part {
-                label: _,
-                left: _,
-                right: _,
-            } => false,
-            Rule::Join { outer: _, inner: _ } => false,
-        }
-    }
-
-    // The representative of rule r.
-    fn representative_of(work: &[u8], r: u16, rule: Rule) -> u16
-        requires { ⌜ Ready r rule (now work) ⌝ }
-        ensures { λ x. ⌜ x ≡ representativeOf (now (work .entry)) r rule ⌝ }
-    {
-        match rule {
-            Rule::Pair { first, second } => {
-                if is_empty_at(work, first) {
-                    return representative_at(work, second);
-                }
-                if is_empty_at(work, second) {
-                    return representative_at(work, first);
-                }
-                r
-            }
-            Rule::Empty => r,
-            Rule::Node { label: _, under: _ } => r,
-            Rule::Fill { outer: _, inner: _ } => r,
-            Rule::Part {
-                label: _,
-                left: _,
-                right: _,
-            } => r,
-            Rule::Join { outer: _, inner: _ } => r,
-        }
-    }
-
-    // All that is known of rule r, from the rows of the rules that it names.
-    fn of(work: &[u8], r: u16, rule: Rule) -> Entry
-        requires { ⌜ Ready r rule (now work) ⌝ }
-        ensures { λ e. ⌜ e ≡ entryOf (now (work .entry)) r rule ⌝ }
-    {
-        Entry {
-            representative: Entry::representative_of(work, r, rule),
-            empty: Entry::empty_of(work, r, rule),
-            left: Link::of(work, Side::Left, r, rule),
-            right: Link::of(work, Side::Right, r, rule),
-        }
-    }
-
-    // The entry into row r.
-    fn write(self, work: &mut [u8], r: u16)
-        requires { ⌜ In (now work) r ⌝ }
-        ensures { λ x. ⌜ now (work .exit) ≡ putEntry (now (work .entry)) r self ⌝ }
-    {
-        rows::put16(work, r, Entry::REPRESENTATIVE, self.representative);
-        rows::put16(work, r, Entry::EMPTINESS, flag(self.empty));
-        self.left.write(work, Side::Left, r);
-        self.right.write(work, Side::Right, r);
-    }
-}
-
-// What is known of each of n rules, into their rows, from rule 0 up: a rule names only lower ones.
-pub fn build(work: &mut [u8], n: u16)
-    requires { ⌜ (rowLength * n ≤ length (now work)) × Sound (kept (now work) n) (λ r. r) ⌝ }
-    ensures { λ x. ⌜ Built (kept (now (work .entry)) n) n n (now (work .entry)) (now (work .exit)) ⌝ }
-{
-    let mut i: u16 = 0;
-    while i < n {
-        let rule = rows::rule_at(work, i);
-        let entry = Entry::of(work, i, rule);
-        entry.write(work, i);
-        i += 1;
     }
 }
 

@@ -1,29 +1,29 @@
 -- The table of an accepted plan's rules: its rows hold them, and are known as their facts. Assumes nothing.
-use Prim.Native.Nat.{ℕ, _+_, _-_, _*_, _/_, _≤_}
+use Prim.Native.Nat.{ℕ, _+_, _-_, _*_, _≤_}
 use native.Mathlib.Omega.{arith}
 use mathlib.Core.Path.{_≡_, sym, ap, _∙_}
 use mathlib.Core.List.{List}
 use lib.ListN.{length, take}
 use lib.Seq.{length-take-le}
 use Rattle.rule.specs.declared.Rule.{Rule}
-use Rattle.plan.specs.declared.Checked.{Checked}
 use Rattle.rule.specs.Rule.{recordLength}
 use Rattle.rule.specs.Records.{recordsFrom, rulesIn}
-use Rattle.plan.specs.Check.{checked, rulesOf, trailerLength, mostRules}
-use Rattle.rule.specs.Sound.{Sound, Closed}
+use Rattle.plan.specs.Check.{rulesOf, trailerLength, mostRules}
+use Rattle.rule.specs.Sound.{Sound}
 use Rattle.plan.proofs.Sound.{Plan, checked-plan, plan-long}
-use Rattle.forest.specs.Walk.{Begun, placeJudged}
+use Rattle.forest.specs.Walk.{placeJudged}
 use Rattle.forest.specs.declared.Walked.{Walked}
 use Rattle.model.specs.Facts.{Facts, factsOf}
 use Rattle.rows.specs.Rows.{workLength, rowLength, Holds, Within, Loaded}
 use Rattle.tables.specs.Table.{rows, known, kept, Built}
 use Rattle.rows.proofs.Rows.{within-both}
-use Rattle.tables.proofs.Entries.{known-rule}
-use Rattle.tables.proofs.Filling.{kept-holds}
-use Rattle.tables.proofs.Known.{built-walkable}
+use Rattle.tables.proofs.Words.{known-rule}
+use Rattle.tables.proofs.Kept.{kept-holds}
+use Rattle.entries.proofs.Known.{built-walkable}
 use Rattle.rows.proofs.Work.{rules-first, beyond-work}
-use Rattle.states.specs.Standing.{rulesKept, Table}
-use Rattle.walk.specs.Calls.{Planned, Filled, Travels, Lendable, Walks}
+use Rattle.ways.specs.Standing.{rulesKept}
+use Rattle.walk.specs.Calls.{Planned, Filled, Lendable}
+use Rattle.travel.specs.Travel.{Travels, Walks}
 
 -- rows that are known as the facts of rules keep these
 walkable-rules : (R : List Rule) (n : ℕ) (t : List ℕ) → length R ≡ n → length t ≡ rowLength * n → known t ≡ factsOf R → rulesKept t ≡ R

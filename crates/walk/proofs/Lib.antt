@@ -1,5 +1,2 @@
-pub mod Begin
-pub mod Bytes
-pub mod Places
 pub mod Filling
 pub mod Outcome

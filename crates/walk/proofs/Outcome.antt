@@ -2,10 +2,9 @@
 -- work is cleared. Assumes nothing.
 use Prim.Native.Nat.{ℕ, _+_, _-_, _*_, _/_, _≤_}
 use native.Mathlib.Omega.{arith}
-use mathlib.Core.Path.{_≡_, refl, sym, ap, subst, _∙_}
-use mathlib.Core.Bool.{Bool, true, false}
-use mathlib.Core.List.{List, _++_}
-use mathlib.Core.Option.{Option, none, some}
+use mathlib.Core.Path.{_≡_, sym, ap, _∙_}
+use mathlib.Core.Bool.{true, false}
+use mathlib.Core.List.{List}
 use lib.ListN.{length}
 use lib.Dec.{leb}
 use borrow.Author.Tests.{leb-true}
@@ -18,11 +17,11 @@ use Rattle.forest.specs.declared.Walked.{Walked}
 use Rattle.forest.specs.Outcome.{workWords, enoughWork, cleared, workAfter}
 use Rattle.forest.specs.Walk.{cursorWords, enoughLent, firstOther, Begun, placeJudged, lettersJudged, begunFrom, begun, walked, cursorAfter, answersAfter, walkedWork}
 use Rattle.model.proofs.Accepted.{first-holds, second-holds}
-use Rattle.demand.specs.Calls.{Left, walkOf}
+use Rattle.demand.specs.Calls.{walkOf}
 use Rattle.rows.specs.Rows.{workLength, Within}
 use Rattle.rows.proofs.Work.{enough-room, work-cleared}
-use Rattle.letters.specs.Ran.{Answerable}
-use Rattle.walk.specs.Calls.{lends, leaves, Lendable, Walks}
+use Rattle.walk.specs.Calls.{lends, leaves, Lendable}
+use Rattle.travel.specs.Travel.{Walks}
 
 module _ (s work cursor letters given : List ℕ) where
   pub refused : (why : Refusal) → checked s ≡ Checked.Refused why → leaves (Walked.Refused why) work cursor given ≡ walkOf (lends s work cursor letters given)

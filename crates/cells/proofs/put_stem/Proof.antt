@@ -2,8 +2,7 @@
 use mathlib.Core.Path.{ap, _∙_}
 use native.Mathlib.Omega.{arith}
 use denote.Ref.{now}
-use Rattle.cells.specs.Changes.{stemCells, stepCells}
-use Rattle.cells.specs.Changes.{high, stemHigh}
+use Rattle.cells.specs.Changes.{stemCells, stepCells, high, stemHigh}
 use Rattle.cells.proofs.Writes.{high-grows, stands-none, stands-more}
 use borrow.Author.Needs.{needs}
 use Rattle.cells.proofs.put_stem.Statement.{statement}

@@ -2,8 +2,7 @@
 use mathlib.Core.Path.{sym, ap, _∙_}
 use native.Mathlib.Omega.{arith}
 use denote.Ref.{now}
-use Rattle.cells.specs.Changes.{stemCells, changed}
-use Rattle.cells.specs.Changes.{high, stemHigh, changeHigh}
+use Rattle.cells.specs.Changes.{stemCells, changed, high, stemHigh, changeHigh}
 use Rattle.cells.proofs.Writes.{high-grows, length-stem, Stands, stands-more}
 use borrow.Author.Needs.{needs}
 use Rattle.cells.proofs.write.Statement.{statement}

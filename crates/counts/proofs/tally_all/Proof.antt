@@ -1,7 +1,5 @@
 -- The invariant: the rows below r have their tally, and nothing else has changed (`Passing`). Assumes nothing.
-use Prim.Native.Nat.{_≤_, _-_, _*_}
-use lib.ListN.{length}
-use Rattle.rows.specs.Rows.{rowLength}
+use Prim.Native.Nat.{_-_}
 use Rattle.counts.proofs.Pass.{Passing, passing-start, passing-readable, passing-more, passing-end}
 use native.Mathlib.Omega.{arith}
 use Rattle.counts.proofs.tally_all.Statement.{statement}

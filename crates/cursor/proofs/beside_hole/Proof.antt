@@ -6,7 +6,7 @@ use Rattle.forest.proofs.Position.{other, pick}
 use Rattle.model.specs.Model.{enter, besideHole}
 use Rattle.tables.specs.Table.{known, In, sideOf}
 use Rattle.cells.specs.Changes.{stemCells}
-use Rattle.cursor.specs.Moves.{outcome}
+use Rattle.turns.specs.Moves.{outcome}
 use Rattle.tables.proofs.Closes.{named-arms}
 use Rattle.tables.proofs.Ready.{picked}
 use Rattle.tables.proofs.Rules.{other-hole}

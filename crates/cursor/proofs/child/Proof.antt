@@ -8,7 +8,7 @@ use Rattle.forest.specs.Walk.{cellsIn}
 use Rattle.forest.proofs.Position.{orElse}
 use Rattle.model.specs.Model.{enter, inward, child, childOf}
 use Rattle.tables.specs.Table.{known, In, sideOf}
-use Rattle.cursor.specs.Moves.{outcome}
+use Rattle.turns.specs.Moves.{outcome}
 use Rattle.tables.proofs.Closes.{named-under, named-arms}
 use Rattle.tables.proofs.Ready.{picked}
 use Rattle.tables.proofs.Rules.{other-child}

@@ -4,10 +4,10 @@ use native.Mathlib.Omega.{arith}
 use denote.Ref.{now}
 use Rattle.forest.specs.Place.{rowOfPart}
 use Rattle.tables.specs.Table.{known, sideOf}
-use Rattle.cursor.specs.Moves.{outcome}
+use Rattle.turns.specs.Moves.{outcome}
 use Rattle.cells.proofs.Stack.{top-one}
-use Rattle.cursor.proofs.Held.{held-less}
-use Rattle.cursor.proofs.Outcomes.{ended-none, ended-arm, ended-other}
+use Rattle.turns.proofs.Held.{held-less}
+use Rattle.turns.proofs.Outcomes.{ended-none, ended-arm, ended-other}
 use borrow.Author.Needs.{needs}
 use Rattle.cursor.proofs.ended.Statement.{statement}
 use Rattle.cursor.proofs.ended.Tie as tie

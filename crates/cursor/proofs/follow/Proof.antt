@@ -6,10 +6,10 @@ use Rattle.forest.specs.Walk.{cellsIn}
 use Rattle.model.specs.Model.{Node, besideTop, opened, ended}
 use Rattle.tables.specs.Table.{known, In, sideOf}
 use Rattle.cells.specs.Changes.{add, stemCells, stemNode}
-use Rattle.cursor.specs.Moves.{outcome}
-use Rattle.cursor.proofs.Held.{held-less}
-use Rattle.cursor.proofs.Kept.{found-rule, beside-kept}
-use Rattle.cursor.proofs.Outcomes.{found, found-none, follow-part, follow-off}
+use Rattle.turns.specs.Moves.{outcome}
+use Rattle.turns.proofs.Held.{held-less}
+use Rattle.turns.proofs.Kept.{found-rule, beside-kept}
+use Rattle.turns.proofs.Outcomes.{found, found-none, follow-part, follow-off}
 use borrow.Author.Needs.{needs}
 use Rattle.cursor.proofs.follow.Statement.{statement}
 use Rattle.cursor.proofs.follow.Tie as tie

@@ -7,8 +7,8 @@ use Rattle.forest.specs.Walk.{cellsIn}
 use Rattle.model.specs.Model.{Node}
 use Rattle.tables.specs.Table.{known}
 use Rattle.cells.specs.Changes.{stemNode}
-use Rattle.cursor.specs.Moves.{outcome}
-use Rattle.cursor.proofs.Outcomes.{node-none, node-here}
+use Rattle.turns.specs.Moves.{outcome}
+use Rattle.turns.proofs.Outcomes.{node-none, node-here}
 use borrow.Author.Needs.{needs}
 use Rattle.cursor.proofs.node_at.Statement.{statement}
 use Rattle.cursor.proofs.node_at.Tie as tie

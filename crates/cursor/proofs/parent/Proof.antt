@@ -6,9 +6,9 @@ use denote.Ref.{now}
 use Rattle.forest.specs.Walk.{cellsIn}
 use Rattle.model.specs.Model.{Node, belowRow, nodeAt}
 use Rattle.tables.specs.Table.{known}
-use Rattle.cursor.specs.Moves.{outcome}
-use Rattle.cursor.proofs.Held.{held-less}
-use Rattle.cursor.proofs.Outcomes.{found, found-none, parent-part, parent-off}
+use Rattle.turns.specs.Moves.{outcome}
+use Rattle.turns.proofs.Held.{held-less}
+use Rattle.turns.proofs.Outcomes.{found, found-none, parent-part, parent-off}
 use borrow.Author.Needs.{needs}
 use Rattle.cursor.proofs.parent.Statement.{statement}
 use Rattle.cursor.proofs.parent.Tie as tie

@@ -4,8 +4,8 @@ use denote.Ref.{now}
 use Rattle.forest.specs.Walk.{cellsIn}
 use Rattle.model.specs.Model.{enter, inward}
 use Rattle.tables.specs.Table.{known, sideOf}
-use Rattle.cursor.specs.Moves.{outcome}
-use Rattle.cursor.proofs.Outcomes.{took, took-none, else-some, else-none}
+use Rattle.turns.specs.Moves.{outcome}
+use Rattle.turns.proofs.Outcomes.{took, took-none, else-some, else-none}
 use borrow.Author.Needs.{needs}
 use Rattle.cursor.proofs.part_child.Statement.{statement}
 use Rattle.cursor.proofs.part_child.Tie as tie

@@ -5,9 +5,9 @@ use Rattle.forest.specs.Walk.{cellsIn}
 use Rattle.model.specs.Model.{follow}
 use Rattle.tables.specs.Table.{known, In, sideOf}
 use Rattle.cells.specs.Changes.{stemNode}
-use Rattle.cursor.proofs.Held.{held-less}
-use Rattle.cursor.proofs.Kept.{found-rule, outward-kept}
-use Rattle.cursor.proofs.Outcomes.{found, found-none, sibling-part, sibling-off}
+use Rattle.turns.proofs.Held.{held-less}
+use Rattle.turns.proofs.Kept.{found-rule, outward-kept}
+use Rattle.turns.proofs.Outcomes.{found, found-none, sibling-part, sibling-off}
 use borrow.Author.Needs.{needs}
 use Rattle.cursor.proofs.sibling.Statement.{statement}
 use Rattle.cursor.proofs.sibling.Tie as tie

@@ -3,7 +3,7 @@ use mathlib.Core.Path.{ap, _∙_}
 use mathlib.Core.Option.{some}
 use Rattle.model.specs.Model.{Node}
 use Rattle.cells.specs.Changes.{stemNode}
-use Rattle.cursor.specs.Moves.{outcome}
+use Rattle.turns.specs.Moves.{outcome}
 use borrow.Author.Needs.{needs}
 use Rattle.cursor.proofs.stay.Statement.{statement}
 use Rattle.cursor.proofs.stay.Tie as tie

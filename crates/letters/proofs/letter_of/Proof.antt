@@ -1,7 +1,7 @@
 -- A byte's letter: one arm a letter, and the last arm by the eight tests that failed. Assumes nothing.
 use mathlib.Core.Path.{sym}
 use Rattle.forest.specs.Letter.{letterOf}
-use Rattle.states.specs.Letters.{moveOf}
+use Rattle.ways.specs.Letters.{moveOf}
 use Rattle.letters.specs.Letters.{readAs}
 use Rattle.letters.proofs.Bytes.{no-letter}
 use Rattle.letters.proofs.letter_of.Statement.{statement}

@@ -4,7 +4,7 @@ use native.Mathlib.Omega.{arith}
 use mathlib.Core.Path.{sym, ap, _∙_}
 use lib.ListN.{length}
 use Rattle.letters.specs.Letters.{readAs}
-use Rattle.states.proofs.Stands.{answer-small}
+use Rattle.ways.proofs.Stands.{answer-small}
 use Rattle.letters.proofs.Letters.{Partway, partway-none, partway-more, ran-all, ran-other}
 use borrow.Author.Needs.{needs}
 use Rattle.letters.proofs.run.Statement.{statement}

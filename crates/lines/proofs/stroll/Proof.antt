@@ -2,7 +2,8 @@
 use native.Mathlib.Omega.{arith}
 use mathlib.Core.Path.{sym, _∙_}
 use denote.Ref.{now}
-use Rattle.lines.proofs.Puts.{put-as, put-printed}
+use Rattle.decimal.proofs.Puts.{put-as}
+use Rattle.lines.proofs.Printed.{put-printed}
 use Rattle.lines.proofs.Strolls.{plan-too-long, plan-checked, plan-refused}
 use borrow.Author.Needs.{needs}
 use Rattle.lines.proofs.stroll.Statement.{statement}

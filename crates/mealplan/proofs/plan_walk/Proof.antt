@@ -1,7 +1,5 @@
 -- `plan_walk` gives walk's answer as numbers, and leaves its work, cursor and answers. Assumes nothing.
-use mathlib.Core.Path.{ap, _∙_}
-use Rattle.demand.specs.Calls.{Left}
-use Rattle.mealplan.specs.Interface.{walkedResult, walkedPosition}
+use Rattle.mealplan.proofs.Left.{left-given}
 use borrow.Author.Needs.{needs}
 use Rattle.mealplan.proofs.plan_walk.Statement.{statement}
 use Rattle.mealplan.proofs.plan_walk.Tie as tie
@@ -22,16 +20,7 @@ same-length-3 : tie.Need-same-length-3
 same-length-3 c = search needs
 
 returns : tie.Need-returns
-returns c =
-    let e = c .give-walked .ensures in
-    let w = c .before .before .before .before .before .before .before .before .walk .ensures in
-    let answer = ap (λ (l : Left). l .answer) w in (
-      e .0 ∙ ap walkedResult answer,
-      ap (λ (l : Left). l .work) w,
-      ap (λ (l : Left). l .cursor) w,
-      ap (λ (l : Left). l .answers) w,
-      e .1 ∙ ap walkedPosition answer,
-    )
+returns c = left-given (c .before .before .before .before .before .before .before .before .walk .ensures) (c .give-walked .ensures)
 
 pub plan-walk-spec : {M : Type 1} → statement M
 plan-walk-spec =

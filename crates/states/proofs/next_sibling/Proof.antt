@@ -1,12 +1,12 @@
 -- The walk of the letters' functions, at n. Assumes nothing.
-use Rattle.states.specs.declared.Letter.{Letter}
+use Rattle.ways.specs.declared.Letter.{Letter}
 use Rattle.states.proofs.Walked.{letter-meets}
-use Rattle.states.proofs.to_next_sibling.Symbol as lead
-use Rattle.states.proofs.to_next_sibling.Met.{met}
+use Rattle.ways.proofs.to_next_sibling.Symbol as lead
+use Rattle.ways.proofs.to_next_sibling.Met.{met}
 use Rattle.states.proofs.next_sibling.Key.{name}
 use Rattle.states.proofs.next_sibling.Statement.{statement}
 use Rattle.states.proofs.next_sibling.Code as code
 
 pub next-sibling-spec : {M : Type 1} → statement M
 unfolding code.routine
-next-sibling-spec 𝓤 H 𝓜 𝓖 𝓡 = letter-meets Letter.N lead.name name code.env lead.routine 𝓤 H 𝓜 𝓖 𝓡 (code.unfolded 𝓤 H 𝓜 𝓡) code.calls-cursor·arrive code.calls-states·to-next-sibling (met 𝓤 H 𝓜 𝓖 𝓡)
+next-sibling-spec 𝓤 H 𝓜 𝓖 𝓡 = letter-meets Letter.N lead.name name code.env lead.routine 𝓤 H 𝓜 𝓖 𝓡 (code.unfolded 𝓤 H 𝓜 𝓡) code.calls-landing·arrive code.calls-ways·to-next-sibling (met 𝓤 H 𝓜 𝓖 𝓡)

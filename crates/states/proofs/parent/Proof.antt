@@ -1,12 +1,12 @@
 -- The walk of the letters' functions, at u. Assumes nothing.
-use Rattle.states.specs.declared.Letter.{Letter}
+use Rattle.ways.specs.declared.Letter.{Letter}
 use Rattle.states.proofs.Walked.{letter-meets}
-use Rattle.states.proofs.to_parent.Symbol as lead
-use Rattle.states.proofs.to_parent.Met.{met}
+use Rattle.ways.proofs.to_parent.Symbol as lead
+use Rattle.ways.proofs.to_parent.Met.{met}
 use Rattle.states.proofs.parent.Key.{name}
 use Rattle.states.proofs.parent.Statement.{statement}
 use Rattle.states.proofs.parent.Code as code
 
 pub parent-spec : {M : Type 1} → statement M
 unfolding code.routine
-parent-spec 𝓤 H 𝓜 𝓖 𝓡 = letter-meets Letter.U lead.name name code.env lead.routine 𝓤 H 𝓜 𝓖 𝓡 (code.unfolded 𝓤 H 𝓜 𝓡) code.calls-cursor·arrive code.calls-states·to-parent (met 𝓤 H 𝓜 𝓖 𝓡)
+parent-spec 𝓤 H 𝓜 𝓖 𝓡 = letter-meets Letter.U lead.name name code.env lead.routine 𝓤 H 𝓜 𝓖 𝓡 (code.unfolded 𝓤 H 𝓜 𝓡) code.calls-landing·arrive code.calls-ways·to-parent (met 𝓤 H 𝓜 𝓖 𝓡)

@@ -1,12 +1,12 @@
 -- The walk of the letters' functions, at s. Assumes nothing.
-use Rattle.states.specs.declared.Letter.{Letter}
+use Rattle.ways.specs.declared.Letter.{Letter}
 use Rattle.states.proofs.Walked.{letter-meets}
-use Rattle.states.proofs.to_same.Symbol as lead
-use Rattle.states.proofs.to_same.Met.{met}
+use Rattle.ways.proofs.to_same.Symbol as lead
+use Rattle.ways.proofs.to_same.Met.{met}
 use Rattle.states.proofs.same.Key.{name}
 use Rattle.states.proofs.same.Statement.{statement}
 use Rattle.states.proofs.same.Code as code
 
 pub same-spec : {M : Type 1} → statement M
 unfolding code.routine
-same-spec 𝓤 H 𝓜 𝓖 𝓡 = letter-meets Letter.S lead.name name code.env lead.routine 𝓤 H 𝓜 𝓖 𝓡 (code.unfolded 𝓤 H 𝓜 𝓡) code.calls-cursor·arrive code.calls-states·to-same (met 𝓤 H 𝓜 𝓖 𝓡)
+same-spec 𝓤 H 𝓜 𝓖 𝓡 = letter-meets Letter.S lead.name name code.env lead.routine 𝓤 H 𝓜 𝓖 𝓡 (code.unfolded 𝓤 H 𝓜 𝓡) code.calls-landing·arrive code.calls-ways·to-same (met 𝓤 H 𝓜 𝓖 𝓡)

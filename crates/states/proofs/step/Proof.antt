@@ -39,14 +39,14 @@ use denote.Triple.Table.{entered, cited}
 use denote.Triple.Walked.{says, needs, Stays, stay-none, stay-none-slice, gave-slice, walkOf, AllGo, goes-none, goes-none-slice, goes-gave-slice, Walks, ends-at, walked, walk-meets}
 use denote.Exit.{yes}
 use denote.Signature.{plain}
-use Rattle.cursor.specs.declared.Landing.{Landing}
-use Rattle.cursor.proofs.Landing as landing
-use Rattle.cursor.proofs.Landing.Laws as landing′
-use Rattle.states.specs.declared.Letter.{Letter}
+use Rattle.landing.specs.declared.Landing.{Landing}
+use Rattle.landing.proofs.Landing as landing
+use Rattle.landing.proofs.Landing.Laws as landing′
+use Rattle.ways.specs.declared.Letter.{Letter}
 use Rattle.states.specs.declared.Standing.{Standing}
-use Rattle.states.specs.Standing.{Stands}
-use Rattle.states.proofs.Letter as letter
-use Rattle.states.proofs.Letter.Laws as letter′
+use Rattle.ways.specs.Standing.{Stands}
+use Rattle.ways.proofs.Letter as letter
+use Rattle.ways.proofs.Letter.Laws as letter′
 use Rattle.states.proofs.Standing.Laws as T′
 use Rattle.states.proofs.Thin.{Lands}
 use Rattle.states.proofs.Arm.{pointer, slice, lent, arm-code, Rooms, bundle, unbundle, Before, After, Landed, arm}

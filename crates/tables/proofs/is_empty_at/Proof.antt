@@ -1,8 +1,7 @@
 -- What is known is the row's word. Assumes nothing.
 use mathlib.Core.Path.{sym, ap, _∙_}
 use denote.Ref.{now}
-use Rattle.tables.specs.Table.{entryIn}
-use Rattle.tables.proofs.Entries.{known-isEmpty}
+use Rattle.tables.proofs.Words.{known-isEmpty}
 use Prim.Native.Nat.{ℕ}
 use lib.Dec.{eqb}
 use borrow.Author.Needs.{needs}
@@ -13,7 +12,6 @@ field16-requires : tie.Need-field16-requires
 field16-requires c κs = search needs
 
 returns : tie.Need-returns
-unfolding entryIn
 returns c = let a = c .before .before .args in ap (λ (w : ℕ). eqb w 1) (c .field16 .ensures) ∙ sym (known-isEmpty (now (a .work)) (a .r) (c .before .before .pre))
 
 pub is-empty-at-spec : {M : Type 1} → statement M

@@ -1,7 +1,7 @@
 -- What is known is the row's word. Assumes nothing.
 use mathlib.Core.Path.{sym, _∙_}
 use denote.Ref.{now}
-use Rattle.tables.proofs.Entries.{known-representative}
+use Rattle.tables.proofs.Words.{known-representative}
 use borrow.Author.Needs.{needs}
 use Rattle.tables.proofs.representative_at.Statement.{statement}
 use Rattle.tables.proofs.representative_at.Tie as tie

@@ -1,7 +1,7 @@
 -- The rule is the one of `known`. Assumes nothing.
 use mathlib.Core.Path.{sym, _∙_}
 use denote.Ref.{now}
-use Rattle.tables.proofs.Entries.{known-rule}
+use Rattle.tables.proofs.Words.{known-rule}
 use borrow.Author.Needs.{needs}
 use Rattle.tables.proofs.rule_at.Statement.{statement}
 use Rattle.tables.proofs.rule_at.Tie as tie

@@ -2,8 +2,8 @@
 use mathlib.Core.Path.{sym, ap, _∙_}
 use Rattle.forest.specs.Walk.{lettersJudged}
 use Rattle.rows.proofs.Rows.{within-none}
-use Rattle.walk.specs.Calls.{foundAt}
-use Rattle.walk.proofs.Places.{refused-walks}
+use Rattle.lent.specs.Found.{foundAt}
+use Rattle.travel.proofs.Places.{refused-walks}
 use borrow.Author.Needs.{needs}
 use Rattle.walk.proofs.walk_bytes.Statement.{statement}
 use Rattle.walk.proofs.walk_bytes.Tie as tie

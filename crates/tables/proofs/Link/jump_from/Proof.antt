@@ -7,7 +7,6 @@ use denote.Ref.{now}
 use lib.Dec.{eqb, ltb}
 use Rattle.forest.specs.Place.{Side}
 use Rattle.tables.specs.Table.{known, sideOf, linkIn, In}
-use Rattle.tables.specs.Table.{known}
 use Rattle.tables.specs.Build.{jumpOver, jumpFrom, Steps}
 use borrow.Author.Needs.{needs}
 use Rattle.tables.proofs.Link.jump_from.Statement.{statement}

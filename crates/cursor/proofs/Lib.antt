@@ -1,5 +1,0 @@
-pub mod Held
-pub mod Turns
-pub mod Kept
-pub mod Outcomes
-pub mod Arrives

@@ -1,0 +1,5 @@
+pub mod Entries
+pub mod Ways
+pub mod Tabled
+pub mod Filling
+pub mod Known

@@ -1,0 +1,39 @@
+-- `Trailer::sign` puts the two bytes of the mark. Assumes nothing.
+use native.Mathlib.Omega.{arith}
+use lib.ListN.{length-set}
+use borrow.Author.Needs.{needs}
+use Rattle.plan.proofs.Trailer.sign.Statement.{statement}
+use Rattle.plan.proofs.Trailer.sign.Tie as tie
+
+array-read-out : tie.Need-array-read-out
+array-read-out c = search needs
+
+slice-write-out : tie.Need-slice-write-out
+slice-write-out c = search needs
+
+array-read-out-2 : tie.Need-array-read-out-2
+array-read-out-2 c = search needs
+
+add-out : tie.Need-add-out
+add-out c = search needs
+
+slice-write-out-2 : tie.Need-slice-write-out-2
+slice-write-out-2 c = simp length-set (omega arith)
+
+same-length : tie.Need-same-length
+same-length c = search needs
+
+returns : tie.Need-returns
+returns c = search needs
+
+pub sign-spec : {M : Type 1} → statement M
+sign-spec =
+    tie.close
+    (tie.spec
+    array-read-out
+    slice-write-out
+    array-read-out-2
+    add-out
+    slice-write-out-2
+    same-length
+    returns)

@@ -1,0 +1,25 @@
+-- What is answered for one rule, once the rules are loaded.
+use Prim.Native.Nat.{ℕ, _≤_}
+use mathlib.Core.Path.{_≡_}
+use mathlib.Core.List.{List}
+use lib.ListN.{length}
+use Rattle.plan.specs.declared.Written.{Written}
+use Rattle.rule.specs.Sound.{Sound, Closed}
+use Rattle.seal.specs.Seal.{outputAfter}
+use Rattle.forest.specs.Forest.{forest, text}
+use Rattle.forest.specs.Outcome.{textRoomed}
+use Rattle.rows.specs.Rows.{Within}
+use Rattle.tasks.specs.Run.{rowsIn, workEnd}
+
+-- rule r of the rows can be measured and spread, whatever else the rows hold
+pub record Answerable (t : List ℕ) (n r : ℕ) : Type 0 where
+  pub sound : Sound (rowsIn t n) (λ k. k)
+  pub closed : Closed (rowsIn t n) r
+  pub few : n ≤ 16383
+  pub room : workEnd n ≤ length t
+
+-- what is answered for it
+pub record Answered (n r : ℕ) (x : Written) (s t out out′ : List ℕ) : Type 0 where
+  pub answer : x ≡ textRoomed (forest (rowsIn s n) r) out
+  pub writes : out′ ≡ outputAfter x (text (forest (rowsIn s n) r)) out
+  pub within : Within 0 (workEnd n) s t

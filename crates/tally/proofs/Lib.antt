@@ -1,0 +1,2 @@
+pub mod ByRule
+pub mod Found

@@ -1,0 +1,7 @@
+pub mod Fits
+pub mod Turns
+pub mod Stacks
+pub mod Tasking
+pub mod Rows
+pub mod Runs
+pub mod Begins

@@ -1,0 +1,4 @@
+pub mod Held
+pub mod Turns
+pub mod Kept
+pub mod Outcomes

@@ -1,0 +1,3 @@
+pub mod EmptyRules
+pub mod Resealed
+pub mod Bytes

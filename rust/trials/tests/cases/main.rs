@@ -1,0 +1,166 @@
+//! The cases of tests/cases.txt, which says how they are written: each is called by the safe functions, and what comes of it must be
+//! the text that its line gives.
+mod told;
+
+use std::fs;
+use std::path::PathBuf;
+use trials::call::{Call, Implementation, Operation, Outcome, Slices};
+use trials::library::Library;
+
+/// The byte that is everywhere in lent memory before a call.
+const FILL: u8 = b'.';
+/// The most bytes of a plan or cursor.
+const MOST: usize = 65_536;
+
+#[test]
+fn every_case_comes_out_as_written() {
+    let text = String::from_utf8(read("tests", "cases.txt")).expect("the cases are text");
+    let mut lent = Lent::nothing(read("samples", "plan.bin"));
+    let (mut ran, mut wrong) = (0, 0);
+    for (number, line) in (1..).zip(text.lines()) {
+        let taken = match line.as_bytes() {
+            [] | [b'#', ..] => Ok(()),
+            [b'|', ..] => {
+                ran += 1;
+                lent.run(&line[1..])
+            }
+            _ => lent.lend(line),
+        };
+        if let Err(why) = taken {
+            wrong += 1;
+            println!("tests/cases.txt, line {number}: {line}\n  {why}");
+        }
+    }
+    println!("tests/cases.txt: {ran} cases");
+    assert!(ran > 0, "there are no cases");
+    assert_eq!(wrong, 0, "lines that went wrong");
+}
+
+/// A file of the repository.
+fn read(folder: &str, name: &str) -> Vec<u8> {
+    let path: PathBuf = [env!("CARGO_MANIFEST_DIR"), "..", "..", folder, name].iter().collect();
+    fs::read(&path).unwrap_or_else(|error| panic!("{}: {error}", path.display()))
+}
+
+/// What the lines so far lend. The plan is the first bytes of its room, so many; those behind them stay for a line that comes later.
+struct Lent {
+    sample: Vec<u8>,
+    plan: Vec<u8>,
+    length: usize,
+    cursor: Vec<u8>,
+}
+
+impl Lent {
+    fn nothing(sample: Vec<u8>) -> Lent {
+        Lent { sample, plan: vec![0; MOST], length: 0, cursor: vec![0; MOST] }
+    }
+
+    /// A line that lends.
+    fn lend(&mut self, line: &str) -> Result<(), String> {
+        let (name, numbers) = line.split_once(' ').unwrap_or((line, ""));
+        let numbers = numbers.split_whitespace().map(number).collect::<Result<Vec<usize>, String>>()?;
+        match (name, &numbers[..]) {
+            ("plan" | "rules", words) => self.length = put(&bytes(words)?, &mut self.plan, 0)?,
+            ("from", [at, words @ ..]) => self.length = put(&bytes(words)?, &mut self.plan, *at)?,
+            ("sample", [at]) => self.length = put(&self.sample, &mut self.plan, *at)?,
+            ("zeros", [] | [_]) => {
+                self.plan.fill(0);
+                let length = numbers.first().copied().unwrap_or(0);
+                self.length = self.plan.get(..length).ok_or("no room for so many")?.len();
+            }
+            ("cursor", words) => {
+                self.cursor.fill(FILL);
+                put(&bytes(words)?, &mut self.cursor, 0)?;
+            }
+            _ => return Err("no such line".to_string()),
+        }
+        Ok(())
+    }
+
+    /// A case, without its first bar. What the call leaves in the cursor is lent to the next.
+    fn run(&mut self, case: &str) -> Result<(), String> {
+        let fields: Vec<&str> = case.splitn(3, '|').collect();
+        let [text, _, expected] = fields[..] else { return Err("a case has three fields".to_string()) };
+        let mut call = self.call(text)?;
+        let outcome = made(&mut call);
+        self.cursor[..call.cursor.len()].copy_from_slice(&call.cursor);
+        let came = told::line(&call, &outcome);
+        if came == expected { Ok(()) } else { Err(format!("expected: {expected}\n  came:     {came}")) }
+    }
+
+    /// The call that a case's first field says, with slices of just the lengths that it is lent.
+    fn call(&self, text: &str) -> Result<Call, String> {
+        let parts: Vec<&str> = text.splitn(5, ' ').collect();
+        let (name, lengths, tail) = match parts[..] {
+            [name] => (name, ["0"; 3], None),
+            [name, work, cursor, out] => (name, [work, cursor, out], None),
+            [name, work, cursor, out, tail] => (name, [work, cursor, out], Some(tail)),
+            _ => return Err("three numbers stand behind an operation, or none".to_string()),
+        };
+        let [work, cursor, out] = lengths.map(number);
+        let (work, out) = (vec![FILL; work?], vec![FILL; out?]);
+        let cursor = self.cursor.get(..cursor?).ok_or("no room for such a cursor")?.to_vec();
+        let plan = self.plan[..self.length].to_vec();
+        let operation = operation(name)?;
+        let mut call =
+            Call { operation, plan, start: 0, work, cursor, letters: Vec::new(), answers: Vec::new(), out: Vec::new() };
+        match (operation, tail) {
+            (Operation::Walk, Some(letters)) => {
+                call.letters = letters.as_bytes().to_vec();
+                call.answers = out;
+            }
+            (Operation::Seal, Some(start)) => {
+                call.start = start.parse().map_err(|_| format!("{start} is no rule"))?;
+                call.out = out;
+            }
+            (Operation::Walk, None) => return Err("walk needs letters".to_string()),
+            (Operation::Seal, None) => return Err("seal needs a start".to_string()),
+            (_, Some(tail)) => return Err(format!("{name} doesn't take {tail}")),
+            (_, None) => call.out = out,
+        }
+        Ok(call)
+    }
+}
+
+/// What the library makes of a call, which then has the slices as they are left.
+fn made(call: &mut Call) -> Outcome {
+    let lent = Slices {
+        plan: &call.plan,
+        start: call.start,
+        work: &mut call.work,
+        cursor: &mut call.cursor,
+        letters: &call.letters,
+        answers: &mut call.answers,
+        out: &mut call.out,
+    };
+    Library.run(call.operation, lent).expect("it takes on every call")
+}
+
+fn operation(name: &str) -> Result<Operation, String> {
+    Ok(match name {
+        "check" => Operation::Check,
+        "seal" => Operation::Seal,
+        "unseal" => Operation::Unseal,
+        "measure" => Operation::Measure,
+        "spread" => Operation::Spread,
+        "walk" => Operation::Walk,
+        _ => return Err(format!("{name} is no operation")),
+    })
+}
+
+fn number(text: &str) -> Result<usize, String> {
+    text.parse().map_err(|_| format!("'{text}' is no number"))
+}
+
+/// Numbers as 16-bit words.
+fn bytes(words: &[usize]) -> Result<Vec<u8>, String> {
+    let word = |word: &usize| u16::try_from(*word).map(u16::to_le_bytes).map_err(|_| format!("{word} is no word"));
+    Ok(words.iter().map(word).collect::<Result<Vec<_>, _>>()?.concat())
+}
+
+/// Some bytes into a room behind so many others: where they end.
+fn put(bytes: &[u8], room: &mut [u8], at: usize) -> Result<usize, String> {
+    let end = at + bytes.len();
+    room.get_mut(at..end).ok_or("no room for it")?.copy_from_slice(bytes);
+    Ok(end)
+}

@@ -1,0 +1,74 @@
+//! What came of a call, told in a line.
+use crate::FILL;
+use reference::{NOWHERE, words};
+use trials::call::{Call, Operation, Outcome, Values};
+
+/// The answer, then what the call left in the slices that its operation writes.
+pub fn line(after: &Call, outcome: &Outcome) -> String {
+    let work = rest(", work", &after.work, 0);
+    let left = match after.operation {
+        Operation::Check => String::new(),
+        Operation::Seal | Operation::Unseal => all_words(&after.out),
+        Operation::Measure => work,
+        Operation::Spread => format!(" {}{work}", text(&after.out)),
+        Operation::Walk => all_words(&after.answers) + &cells(&after.cursor) + &work,
+    };
+    answer(outcome) + &left
+}
+
+fn answer(outcome: &Outcome) -> String {
+    match outcome {
+        Ok(Values::Checked(checked)) => format!("accepted {} {}", checked.n, checked.start),
+        Ok(Values::Length(length)) => format!("accepted {length}"),
+        Ok(Values::Measured(size)) => format!("accepted {} {} {}", size.trees, size.entries, size.levels),
+        Ok(Values::Walked) => "accepted".to_string(),
+        Err(refused) => format!("refused {} at {}", refused.number, refused.position),
+    }
+}
+
+/// The words of a slice: nowhere is -, and one that is as it was is a full stop.
+fn all_words(slice: &[u8]) -> String {
+    const FILLED: u16 = u16::from_le_bytes([FILL; 2]);
+    let word = |index| match words::get(slice, index) {
+        NOWHERE => " -".to_string(),
+        FILLED => " .".to_string(),
+        word => format!(" {word}"),
+    };
+    (0..words::count(slice)).map(word).collect()
+}
+
+/// Bytes as text, a character each.
+fn text(slice: &[u8]) -> String {
+    slice.iter().copied().map(char::from).collect()
+}
+
+/// The cursor: its used cells, and what stands past them.
+fn cells(cursor: &[u8]) -> String {
+    let used = &cursor.as_chunks().0[..used(cursor)];
+    let cell = |cell: &[u8; 8]| {
+        let [kind, first, second, last] = words::unpack(*cell);
+        format!(" ({kind},{first},{second},{last})")
+    };
+    format!(", cells{}{}", used.iter().map(cell).collect::<String>(), rest(", then cursor", cursor, 8 * used.len()))
+}
+
+/// How many cells are used: cell 0, and as many as its first word says; cell 0 alone if there are fewer than it says.
+fn used(cursor: &[u8]) -> usize {
+    let all = cursor.len() / 8;
+    if all == 0 {
+        return 0;
+    }
+    let said = 1 + usize::from(words::get(cursor, 0));
+    if said <= all { said } else { 1 }
+}
+
+/// A slice from an offset on: how far it is zero, and whether it is as it was behind that. Nothing is said of one that is all zeros.
+fn rest(name: &str, slice: &[u8], from: usize) -> String {
+    let end = from + slice[from..].iter().take_while(|byte| **byte == 0).count();
+    match &slice[end..] {
+        [] => String::new(),
+        past if past.iter().any(|byte| *byte != FILL) => format!("{name} changed"),
+        _ if end == from => format!("{name} stays"),
+        _ => format!("{name} zero to word {}", end / 2),
+    }
+}
