@@ -27,7 +27,8 @@ use Rattle.tables.proofs.Ready.{picked}
 use Rattle.entries.proofs.Entries.{other-entry}
 use Rattle.tables.proofs.Words.{known-isEmpty, known-representative, known-toward, known-last, known-depth}
 use Rattle.tables.proofs.Along.{leads-more, leads-copy, leads-next, leads-over}
-use Rattle.entries.proofs.Ways.{by-bool, Way, wayOf, Follows, Every, follows, way-done, representative-done, depth-rank}
+use Rattle.model.proofs.Cells.{by-bool}
+use Rattle.entries.proofs.Ways.{Way, wayOf, Follows, Every, follows, way-done, representative-done, depth-rank}
 
 -- a link, and an entry, that say what is true of rule r
 pub record TrueLink (F : Facts) (Done : ℕ → Type 0) (s : Side) (r : ℕ) (l : Link) : Type 0 where

@@ -4,7 +4,7 @@
 use Prim.Native.Nat.{ℕ, suc, _≤_, _<_}
 use native.Mathlib.Omega.{arith}
 use mathlib.Core.Path.{_≡_, refl, sym, ap, _∙_}
-use mathlib.Core.Bool.{Bool, true, false, cond}
+use mathlib.Core.Bool.{true, false, cond}
 use mathlib.Core.List.{List}
 use lib.ListN.{length}
 use Rattle.rule.specs.declared.Rule.{Rule}
@@ -14,11 +14,9 @@ use Rattle.forest.specs.Place.{Side, isEmpty, representative}
 use Rattle.forest.proofs.Position.{pick}
 use Rattle.forest.proofs.Unfold.{Names, named-below, named-falls, by-rank, unfolding-equation, ruleNumber-expression}
 use Rattle.model.specs.Facts.{Facts, toward, last, depth, factsOf}
+use Rattle.model.proofs.Cells.{by-bool}
+use Rattle.model.proofs.Fit.{pick-map}
 use Rattle.tables.proofs.Ready.{picked}
-
-pub by-bool : {P : Type 0} (b : Bool) → (b ≡ true → P) → (b ≡ false → P) → P
-by-bool true f g = f refl
-by-bool false f g = g refl
 
 pub data Way : Type 0 where
   copy : ℕ → Way
@@ -68,12 +66,6 @@ copies-both p q = record { toward = p .toward ∙ q .toward; last = p .last ∙ 
 
 copies-back : {F : Facts} {s : Side} {a b : ℕ} → Copies F s a b → Copies F s b a
 copies-back p = record { toward = sym (p .toward); last = sym (p .last); depth = sym (p .depth) }
-
--- a side of two results
-pick-map : {A B : Type 0} (f : A → B) (s : Side) (b c : A) → pick s (f b) (f c) ≡ f (pick s b c)
-unfolding pick
-pick-map f Side.left b c = refl
-pick-map f Side.right b c = refl
 
 -- what the facts of a rule are, by its right-hand side
 module _ (R : List Rule) (r : ℕ) where

@@ -1,4 +1,4 @@
--- What the test of bytes finds.
+-- What the test of bytes finds (document 01, "Walk", refusal 9).
 use Prim.Native.Nat.{ℕ}
 use mathlib.Core.Option.{Option, none, some}
 use Rattle.lent.specs.declared.Found.{Found}

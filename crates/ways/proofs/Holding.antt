@@ -1,7 +1,6 @@
 -- What the moves ask of the table and the cursor holds at every place of the walked forest: the rows are those of the plan's rules,
 -- so what they name has a row, and the cells of a place name only rules of the plan. Assumes nothing.
 use Prim.Native.Nat.{ℕ, _<_}
-use native.Mathlib.Omega.{arith}
 use mathlib.Core.Path.{_≡_, refl, sym, subst}
 use mathlib.Core.List.{List}
 use lib.ListN.{length}
@@ -9,7 +8,7 @@ use lib.Dec.{T, ltb, ltb→lt}
 use Rattle.rule.specs.declared.Rule.{Rule}
 use Rattle.rule.specs.Rule.{every}
 use Rattle.rule.specs.Sound.{rule, Sound}
-use Rattle.forest.specs.Place.{Cells, Side, cellRow, cellRun}
+use Rattle.forest.specs.Place.{Cells}
 use Rattle.forest.proofs.Unfold.{T-left, T-right}
 use Rattle.model.specs.Facts.{Facts, factsOf}
 use Rattle.model.proofs.Ranged.{Numbers}
@@ -17,12 +16,6 @@ use Rattle.tables.specs.Table.{rows, In, known}
 use Rattle.tables.specs.Closes.{Names, Closed, Closes}
 use Rattle.turns.specs.Moves.{Each, Fits}
 use Rattle.ways.proofs.Inside.{representative-below, toward-below, last-below}
-
--- a run's kind is no row's
-run-no-row : (s : Side) → cellRun s ≡ cellRow → ⊥
-unfolding cellRun
-run-no-row Side.left e = omega arith
-run-no-row Side.right e = omega arith
 
 -- cells that name rules with P have them where the moves look
 pub numbers-fit : (P : ℕ → Type 0) → P 0 → {cs : Cells} → Numbers P cs → Each (Fits P) cs

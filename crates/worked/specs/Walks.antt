@@ -1,4 +1,4 @@
--- What the cases of measure, spread and walk are lent, and what comes of spread and of a walk.
+-- What the cases of measure, spread and walk are lent (document 01, "One sample plan"), and what comes of spread and of a walk.
 use Prim.Native.Nat.{ℕ}
 use mathlib.Core.List.{List, [], _∷_}
 use lib.ListN.{replicate}
