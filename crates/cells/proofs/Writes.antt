@@ -10,7 +10,7 @@ use lib.Dec.{eqb}
 use borrow.Author.Tests.{eq-eqb, ne-eqb}
 use Rattle.words.specs.Number.{base, number, put}
 use Rattle.words.proofs.Laws.{number-take, length-put, put-same, put-other, put-take, put-drop}
-use Rattle.rule.specs.Rule.{wordLength}
+use Rattle.record.specs.Record.{wordLength}
 use Rattle.rows.specs.Rows.{Within}
 use Rattle.rows.proofs.Rows.{within-none, within-both, within-wider}
 use Rattle.forest.specs.Place.{Cells}

@@ -5,7 +5,7 @@ use mathlib.Core.List.{List}
 use lib.ListN.{length}
 use lib.Dec.{eqb}
 use Rattle.words.specs.Number.{put}
-use Rattle.rule.specs.Rule.{wordLength}
+use Rattle.record.specs.Record.{wordLength}
 use Rattle.forest.specs.Place.{Side, Cell, cellRun}
 use Rattle.forest.specs.Walk.{cellLength, cursorWords}
 use Rattle.model.specs.Facts.{Facts}

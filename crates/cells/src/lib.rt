@@ -6,10 +6,10 @@ ghost use lib.ListN.{length};
 ghost use Rattle.forest.specs.Place.{cellRow, cellSpine, cellRun, rowOfPart, step};
 ghost use Rattle.forest.specs.Walk.{cellLength, cellAt, cellsIn};
 ghost use Rattle.model.specs.Model.{tail, popRun, under, belowRow};
-ghost use Rattle.tables.specs.Table.{sideOf};
+ghost use Rattle.side.specs.Side.{sideOf};
 ghost use Rattle.cells.specs.Cells.{cell, putCell, noCell, Lies};
 ghost use Rattle.cells.specs.Changes.{add, stepCells, stemCells, changed, stemNode, changeNode, high, stemHigh, changeHigh, Wrote};
-use tables::Side;
+use side::Side;
 
 // The four 16-bit words of a cell.
 pub struct Cell {

@@ -9,9 +9,7 @@ use Rattle.forest.specs.Algebra.{value}
 use Rattle.forest.specs.Forest.{Forest, trees, count, weigh, one, levels, text}
 use Rattle.forest.specs.Outcome.{entry}
 use Rattle.forest.proofs.Good.{Sort, Good}
-use Rattle.forest.proofs.Counts.{count-pair, weigh-pair, levels-pair, text-pair, weigh-node, levels-node, text-node, weigh-part, levels-part}
-use Rattle.forest.proofs.Counts.{holeDepth, holeDepth-part, holeDepth-join, weigh-fill, levels-fill, count-tree, count-spine, text-fill}
-use Rattle.forest.proofs.Counts.{before as textBefore, after as textAfter}
+use Rattle.forest.proofs.Counts.{count-pair, weigh-pair, levels-pair, text-pair, weigh-node, levels-node, text-node, weigh-part, levels-part, holeDepth, holeDepth-part, holeDepth-join, weigh-fill, levels-fill, count-tree, count-spine, text-fill, before as textBefore, after as textAfter}
 use Rattle.counts.specs.Recurrence.{nodesIn, treesIn, depthIn, levelsIn}
 use Rattle.counts.specs.Says.{whole, before, after, opening, closing, says}
 

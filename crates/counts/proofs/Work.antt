@@ -5,8 +5,9 @@ use mathlib.Core.Path.{_≡_}
 use mathlib.Core.List.{List}
 use lib.ListN.{length}
 use Rattle.plan.specs.declared.Checked.{Checked}
-use Rattle.rule.specs.Rule.{recordLength}
-use Rattle.rule.specs.Records.{recordsFrom, rulesIn}
+use Rattle.record.specs.Record.{recordLength}
+use Rattle.record.specs.Records.{recordsFrom}
+use Rattle.rule.specs.Rule.{rulesIn}
 use Rattle.plan.specs.Check.{checked, rulesOf, trailerLength, mostRules}
 use Rattle.rule.specs.Sound.{rule}
 use Rattle.plan.proofs.Sound.{Plan, checked-plan}

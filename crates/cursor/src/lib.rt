@@ -7,14 +7,15 @@ ghost use Rattle.forest.specs.Place.{rowOfPart};
 ghost use Rattle.forest.specs.Walk.{cellsIn};
 ghost use Rattle.forest.proofs.Position.{orElse};
 ghost use Rattle.model.specs.Model.{enter, inward, ended, follow, child, besideHole, sibling, nodeAt, parent, root};
-ghost use Rattle.tables.specs.Table.{sideOf, known, In};
+ghost use Rattle.side.specs.Side.{sideOf};
+ghost use Rattle.tables.specs.Table.{known, In};
 ghost use Rattle.tables.specs.Closes.{Closes};
 ghost use Rattle.cells.specs.Changes.{stemCells};
 ghost use Rattle.turns.specs.Moves.{outcome, Held};
 use cells::Cell;
 use cells::Stem;
 use rule::Rule;
-use tables::Side;
+use side::Side;
 use turns::Outcome;
 use turns::Reach;
 

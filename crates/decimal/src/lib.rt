@@ -3,8 +3,7 @@ ghost use mathlib.Core.Path.{_≡_};
 ghost use mathlib.Core.List.{_∷_, []};
 ghost use Prim.Native.Nat.{_+_, _≤_};
 ghost use lib.ListN.{length};
-ghost use Rattle.decimal.specs.Decimal.{decimal};
-ghost use Rattle.decimal.specs.Decimal.{digit as Decimal·digit};
+ghost use Rattle.decimal.specs.Decimal.{decimal, digit as Decimal·digit};
 ghost use Rattle.decimal.specs.Put.{Put, mostDigits, Spelt};
 
 // Digits of a number of 64 bits, at most.

@@ -14,7 +14,7 @@ use Rattle.words.specs.Number.{wordCount}
 use Rattle.rule.specs.declared.Rule.{Rule}
 use Rattle.refusal.specs.declared.Refusal.{Refusal}
 use Rattle.plan.specs.declared.Checked.{Checked}
-use Rattle.rule.specs.Rule.{wordLength}
+use Rattle.record.specs.Record.{wordLength}
 use Rattle.plan.specs.Check.{checked, rulesOf}
 use Rattle.forest.specs.declared.Walked.{Walked}
 use Rattle.forest.specs.Forest.{Forest, forest, relabel}
@@ -30,7 +30,7 @@ use Rattle.forest.proofs.Stored.{AllFitting, stored-length, stored-head, stored
 use Rattle.demand.specs.Calls.{Lent, Left, Call, lent, walkOf}
 use Rattle.forest.specs.Outcome.{enoughWork}
 use Rattle.demand.specs.Demand.{turnedDown, isNone, isRefused, wordsFrom, ClearPast}
-use Rattle.seal.specs.Seal.{inFront}
+use Rattle.words.specs.Front.{inFront}
 use Rattle.demand.proofs.Words.{words-in-front, length-answers, length-letters, length-words, answers-fit}
 use Rattle.demand.proofs.Walkable.{Walkable, Stands}
 

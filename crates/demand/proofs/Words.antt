@@ -8,8 +8,8 @@ use mathlib.Core.Option.{Option, none, some, Option·none-ne-some}
 use lib.ListN.{length, drop, length-append, length-map}
 use Rattle.words.specs.Number.{number, bytes}
 use Rattle.words.proofs.Laws.{number-bytes, length-bytes}
-use Rattle.rule.specs.Rule.{wordLength}
-use Rattle.seal.specs.Seal.{inFront}
+use Rattle.record.specs.Record.{wordLength}
+use Rattle.words.specs.Front.{inFront}
 use Rattle.forest.specs.Forest.{Forest}
 use Rattle.forest.specs.Letter.{Letter, letterOf}
 use Rattle.forest.specs.Reference.{Path, labelAt, answer, moved, answers}

@@ -9,7 +9,7 @@ use lib.ListN.{length, getD, take, drop, replicate}
 use Rattle.words.specs.Number.{number, bytes}
 use Rattle.refusal.specs.declared.Refusal.{Refusal}
 use Rattle.plan.specs.Check.{checked, rulesOf}
-use Rattle.seal.specs.Seal.{inFront}
+use Rattle.words.specs.Front.{inFront}
 use Rattle.forest.specs.declared.Walked.{Walked}
 use Rattle.forest.specs.Forest.{forest}
 use Rattle.forest.specs.Place.{placedForest}

@@ -8,7 +8,7 @@ use mathlib.Core.Option.{Option, none, some}
 use lib.ListN.{length, take, drop, replicate}
 use Rattle.words.specs.Number.{number}
 use Rattle.plan.specs.declared.Checked.{Checked}
-use Rattle.rule.specs.Rule.{wordLength}
+use Rattle.record.specs.Record.{wordLength}
 use Rattle.plan.specs.Check.{checked, rulesOf}
 use Rattle.forest.specs.declared.Walked.{Walked}
 use Rattle.forest.specs.Forest.{Forest, forest}

@@ -14,7 +14,7 @@ use Rattle.rule.specs.declared.Rule.{Rule}
 use Rattle.rule.specs.Sound.{rule, Sound}
 use Rattle.forest.specs.Expression.{rhs, expression}
 use Rattle.forest.specs.Place.{Side, isEmpty, representative}
-use Rattle.forest.proofs.Position.{pick}
+use Rattle.forest.proofs.Position.{pick, picked}
 use Rattle.forest.proofs.Unfold.{Names, unfolding-equation}
 use Rattle.model.specs.Facts.{Facts, factsOf}
 use Rattle.tables.specs.declared.Link.{Link}
@@ -23,7 +23,6 @@ use Rattle.rows.specs.Rows.{rowLength, ownEnd, Within}
 use Rattle.tables.specs.Table.{linkIn, entryEnd, In, known, Leads, Tabled, Below}
 use Rattle.entries.specs.Entry.{entryIn, emptyOf, representativeOf, entryOf}
 use Rattle.tables.specs.Build.{jumpOver, jumpFrom, linkFrom, linkOwn, linkPair, linkOf, Made}
-use Rattle.tables.proofs.Ready.{picked}
 use Rattle.entries.proofs.Entries.{other-entry}
 use Rattle.tables.proofs.Words.{known-isEmpty, known-representative, known-toward, known-last, known-depth}
 use Rattle.tables.proofs.Along.{leads-more, leads-copy, leads-next, leads-over}

@@ -11,12 +11,11 @@ use Rattle.rule.specs.declared.Rule.{Rule}
 use Rattle.rule.specs.Sound.{rule, Sound}
 use Rattle.forest.specs.Expression.{Expression, rhs, expression, ruleNumber}
 use Rattle.forest.specs.Place.{Side, isEmpty, representative}
-use Rattle.forest.proofs.Position.{pick}
+use Rattle.forest.proofs.Position.{pick, picked}
 use Rattle.forest.proofs.Unfold.{Names, named-below, named-falls, by-rank, unfolding-equation, ruleNumber-expression}
 use Rattle.model.specs.Facts.{Facts, toward, last, depth, factsOf}
 use Rattle.model.proofs.Cells.{by-bool}
 use Rattle.model.proofs.Fit.{pick-map}
-use Rattle.tables.proofs.Ready.{picked}
 
 pub data Way : Type 0 where
   copy : ℕ → Way

@@ -8,8 +8,8 @@ ghost use Rattle.tables.specs.Table.{kept, Built, In};
 ghost use Rattle.entries.specs.Entry.{flag, putEntry, emptyOf, representativeOf, entryOf};
 ghost use Rattle.tables.specs.Build.{Ready};
 use rule::Rule;
+use side::Side;
 use tables::Link;
-use tables::Side;
 
 // What is known of a rule.
 struct Entry {

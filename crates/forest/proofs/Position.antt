@@ -27,6 +27,12 @@ unfoldable pub pick : {A : Type 0} → Side → A → A → A
 pick Side.left b c = b
 pick Side.right b c = c
 
+-- what holds of both holds of the one on a side
+pub picked : {A : Type 0} (P : A → Type 0) (s : Side) (b c : A) → P b → P c → P (pick s b c)
+unfolding pick
+picked P Side.left b c x y = x
+picked P Side.right b c x y = y
+
 -- the cells of a position
 unfoldable pub cells : Position → Cells
 unfolding representative rowOfPart pick step ruleNumber

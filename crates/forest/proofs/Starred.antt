@@ -13,8 +13,8 @@ use Rattle.plan.specs.declared.Checked.{Checked}
 use Rattle.plan.specs.declared.Written.{Written}
 use Rattle.rule.specs.Rule.{encode}
 use Rattle.refusal.specs.Refusal.{numberOf, positionOf}
-use Rattle.plan.specs.Check.{checked, rulesOf}
-use Rattle.seal.specs.Seal.{planBytes, inFront}
+use Rattle.plan.specs.Check.{checked, rulesOf, planBytes}
+use Rattle.words.specs.Front.{inFront}
 use Rattle.forest.specs.declared.Measured.{Measured}
 use Rattle.forest.specs.declared.Walked.{Walked}
 use Rattle.forest.specs.Place.{Cell, Cells, placedForest}

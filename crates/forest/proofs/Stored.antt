@@ -11,9 +11,9 @@ use lib.ListN.{length, take, drop, replicate, length-append, length-drop, length
 use lib.Seq.{take-at, drop-at, take-append-le, drop-append-le, length-take-le, take-add, drop-drop}
 use Rattle.words.specs.Number.{number, bytes, base}
 use Rattle.words.proofs.Laws.{number-bytes, length-bytes}
-use Rattle.rule.specs.Rule.{wordLength, recordAt, recordBytes}
-use Rattle.seal.specs.Seal.{inFront}
-use Rattle.rule.proofs.RecordBytes.{Bytes, record-bytes}
+use Rattle.record.specs.Record.{wordLength, recordAt, recordBytes}
+use Rattle.words.specs.Front.{inFront}
+use Rattle.record.proofs.RecordBytes.{Bytes, record-bytes}
 use Rattle.forest.specs.Place.{Cell, Cells}
 use Rattle.forest.specs.Walk.{cellLength, cursorWords, cellAt, cellsIn, usedCells, cellBytes, cellsBytes, padded, storedCursor}
 

@@ -8,9 +8,9 @@ use Rattle.words.specs.Number.{wordCount}
 use Rattle.refusal.specs.declared.Refusal.{Refusal}
 use Rattle.plan.specs.declared.Checked.{Checked}
 use Rattle.plan.specs.declared.Written.{Written}
-use Rattle.rule.specs.Rule.{wordLength}
+use Rattle.record.specs.Record.{wordLength}
 use Rattle.plan.specs.Check.{checked, rulesOf}
-use Rattle.seal.specs.Seal.{outputAfter}
+use Rattle.plan.specs.Written.{outputAfter}
 use Rattle.forest.specs.declared.Measured.{Measured}
 use Rattle.forest.specs.Forest.{Forest, forest, count, weigh, one, levels, text}
 

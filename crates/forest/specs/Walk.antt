@@ -9,9 +9,9 @@ use Rattle.words.specs.Number.{number, bytes, wordCount}
 use Rattle.rule.specs.declared.Rule.{Rule}
 use Rattle.refusal.specs.declared.Refusal.{Refusal}
 use Rattle.plan.specs.declared.Checked.{Checked}
-use Rattle.rule.specs.Rule.{wordLength}
+use Rattle.record.specs.Record.{wordLength}
 use Rattle.plan.specs.Check.{checked, rulesOf}
-use Rattle.seal.specs.Seal.{inFront}
+use Rattle.words.specs.Front.{inFront}
 use Rattle.forest.specs.declared.Walked.{Walked}
 use Rattle.forest.specs.Forest.{Forest, forest}
 use Rattle.forest.specs.Place.{Cell, Cells, Placed, placedForest}

@@ -11,10 +11,10 @@ use lib.Dec.{T, ltb}
 use lib.ListN.{length}
 use borrow.Author.Tests.{ltb-true}
 use Rattle.refusal.specs.declared.Refusal.{Refusal}
-use Rattle.rule.specs.declared.Record.{Record}
+use Rattle.record.specs.declared.Record.{Record}
 use Rattle.rule.specs.declared.Decoded.{Decoded}
-use Rattle.rule.specs.Rule.{decode, every, sorts, closed}
-use Rattle.rule.specs.Records.{rulesIn, recordIn, kindAt}
+use Rattle.rule.specs.Rule.{decode, every, sorts, closed, rulesIn}
+use Rattle.record.specs.Records.{recordIn, kindAt}
 use Rattle.rule.specs.Sound.{Sound, Closed}
 use Rattle.rule.proofs.Rules.{Named, length-rulesIn, kinds, named-sound}
 use Rattle.judge.specs.declared.Judged.{Judged}

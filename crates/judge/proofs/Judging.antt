@@ -8,12 +8,13 @@ use native.Mathlib.Omega.{arith}
 use borrow.Author.Tests.{le-ltb, lt-ltb}
 use lib.Dec.{ltb}
 use Rattle.refusal.specs.declared.Refusal.{Refusal}
-use Rattle.rule.specs.declared.Record.{Record}
+use Rattle.record.specs.declared.Record.{Record}
 use Rattle.rule.specs.declared.Rule.{Rule}
 use Rattle.rule.specs.declared.Decoded.{Decoded}
-use Rattle.rule.specs.Rule.{recordLength, recordAt, decode, every, sorts, closed}
-use Rattle.rule.specs.Records.{recordsFrom, kindAt}
-use Rattle.rule.proofs.Records.{records-at, records-length}
+use Rattle.record.specs.Record.{recordLength, recordAt}
+use Rattle.rule.specs.Rule.{decode, every, sorts, closed}
+use Rattle.record.specs.Records.{recordsFrom, kindAt}
+use Rattle.record.proofs.Records.{records-at, records-length}
 use Rattle.judge.specs.declared.Judged.{Judged}
 use Rattle.judge.specs.Judge.{namesJudged, ruleJudged, rulesJudged, andThen, startJudged, judged}
 

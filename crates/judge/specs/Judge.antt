@@ -5,10 +5,10 @@ use mathlib.Core.List.{List}
 use lib.ListN.{length}
 use lib.Dec.{ltb}
 use Rattle.refusal.specs.declared.Refusal.{Refusal}
-use Rattle.rule.specs.declared.Record.{Record}
+use Rattle.record.specs.declared.Record.{Record}
 use Rattle.rule.specs.declared.Decoded.{Decoded}
 use Rattle.rule.specs.Rule.{decode, every, sorts, closed}
-use Rattle.rule.specs.Records.{recordIn, kindAt}
+use Rattle.record.specs.Records.{recordIn, kindAt}
 use Rattle.judge.specs.declared.Judged.{Judged}
 
 -- "the first of: 4: kind above 5, label above 255, unused word not 0; 5: names a rule not lower; 6: names one of the wrong sort"

@@ -1,15 +1,16 @@
 // The test of a plan's rules (document 01, "Check", refusals 4 to 7), which check and seal share.
+use record::Record;
 use refusal::Refusal;
 use rule::Decoded;
-use rule::Record;
 use rule::Rule;
 ghost use mathlib.Core.Path.{_≡_};
 ghost use mathlib.Core.Bool.{cond};
 ghost use Prim.Native.Nat.{_+_, _*_, _≤_, _<_};
 ghost use lib.ListN.{length};
 ghost use lib.Dec.{ltb};
-ghost use Rattle.rule.specs.Rule.{recordLength, closed, holed, tree, every, sorts};
-ghost use Rattle.rule.specs.Records.{recordsFrom, kindAt};
+ghost use Rattle.record.specs.Record.{recordLength};
+ghost use Rattle.rule.specs.Rule.{closed, holed, tree, every, sorts};
+ghost use Rattle.record.specs.Records.{recordsFrom, kindAt};
 ghost use Rattle.judge.specs.Judge.{ruleJudged, startJudged, judged};
 
 // What a test of rules comes to.

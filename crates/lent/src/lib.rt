@@ -1,6 +1,6 @@
 // What a walk is lent, tested: enough of each slice (8), and no byte that is no letter (9).
 use cells::Cell;
-use letters::Read;
+use letter::Read;
 ghost use mathlib.Core.Path.{_≡_};
 ghost use Rattle.forest.specs.Walk.{firstOther, enoughLent};
 ghost use Rattle.lent.specs.Found.{foundAt};
@@ -17,7 +17,7 @@ pub fn first_other(letters: &[u8]) -> Found
 {
     let mut i = 0;
     while i < letters.len() {
-        let Read::Move(_) = letters::letter_of(letters[i]) else {
+        let Read::Move(_) = letter::letter_of(letters[i]) else {
             return Found::At(i);
         };
         i += 1;

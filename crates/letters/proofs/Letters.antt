@@ -10,7 +10,7 @@ use lib.ListN.{length, take, drop, getD, length-append, length-drop, drop-of-len
 use lib.Seq.{take-at, drop-at, drop-drop, drop-cons}
 use Rattle.words.specs.Number.{bytes, put}
 use Rattle.words.proofs.Laws.{put-split, length-put, length-bytes}
-use Rattle.seal.specs.Seal.{inFront}
+use Rattle.words.specs.Front.{inFront}
 use Rattle.forest.specs.Letter.{Letter, letterOf}
 use Rattle.forest.specs.Walk.{cellLength, cellsIn, andLetters, lettersOf, wordsBytes, answerWord}
 use Rattle.model.specs.Model.{Node}

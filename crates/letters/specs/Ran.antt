@@ -3,8 +3,8 @@ use Prim.Native.Nat.{ℕ, _+_, _*_, _≤_}
 use mathlib.Core.Path.{_≡_}
 use mathlib.Core.List.{List, map}
 use lib.ListN.{length}
-use Rattle.rule.specs.Rule.{wordLength}
-use Rattle.seal.specs.Seal.{inFront}
+use Rattle.record.specs.Record.{wordLength}
+use Rattle.words.specs.Front.{inFront}
 use Rattle.forest.specs.Walk.{cellLength, cellsIn, lettersOf, answerWord, wordsBytes}
 use Rattle.model.specs.Walk.{answers, after}
 use Rattle.rows.specs.Rows.{Within}

@@ -1,33 +1,8 @@
 // A string of letters from a place (document 01, "Letters").
-use ways::Letter;
-ghost use mathlib.Core.Path.{_≡_};
-ghost use Rattle.forest.specs.Letter.{letterOf};
+use letter::Read;
+use letter::letter_of;
 ghost use Rattle.ways.specs.Standing.{Stands};
-ghost use Rattle.letters.specs.Letters.{readAs};
 ghost use Rattle.letters.specs.Ran.{Ran, Answerable};
-
-// What a byte is: a letter, or something else.
-pub enum Read {
-    Move(Letter),
-    Other,
-}
-
-// The letter of a byte.
-pub fn letter_of(b: u8) -> Read
-    ensures { λ r. ⌜ readAs r ≡ letterOf b ⌝ }
-{
-    match b {
-        b'a' => Read::Move(Letter::A),
-        b'z' => Read::Move(Letter::Z),
-        b'f' => Read::Move(Letter::F),
-        b'l' => Read::Move(Letter::L),
-        b'n' => Read::Move(Letter::N),
-        b'p' => Read::Move(Letter::P),
-        b'u' => Read::Move(Letter::U),
-        b's' => Read::Move(Letter::S),
-        _ => Read::Other,
-    }
-}
 
 // Letters in turn from k cells and rule p, a word of answers each; gives the number of cells that they lead to.
 pub fn run(

@@ -6,7 +6,7 @@ use mathlib.Core.Path.{ap, _∙_}
 use mathlib.Core.List.{List, _++_}
 use lib.ListN.{length, drop, length-take}
 use lib.Seq.{sets-eq}
-use Rattle.seal.specs.Seal.{inFront}
+use Rattle.words.specs.Front.{inFront}
 use Rattle.decimal.specs.Put.{Put}
 use Rattle.lines.specs.Printed.{Printed}
 use Rattle.decimal.proofs.Puts.{put-length}

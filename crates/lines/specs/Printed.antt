@@ -9,7 +9,7 @@ use Rattle.refusal.specs.declared.Refusal.{Refusal}
 use Rattle.forest.specs.declared.Walked.{Walked}
 use Rattle.printing.specs.Lines.{lineLength, lines, refusedLine}
 use Rattle.printing.specs.Said.{answersFrom}
-use Rattle.seal.specs.Seal.{inFront}
+use Rattle.words.specs.Front.{inFront}
 use Rattle.lines.specs.Stroll.{mostLetters, checkPrinted}
 
 -- check accepts the plan

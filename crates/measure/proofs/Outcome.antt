@@ -8,8 +8,9 @@ use lib.ListN.{length}
 use lib.Dec.{T}
 use Rattle.refusal.specs.declared.Refusal.{Refusal}
 use Rattle.plan.specs.declared.Checked.{Checked}
-use Rattle.rule.specs.Rule.{recordLength, wordLength}
-use Rattle.rule.specs.Records.{recordsFrom, rulesIn}
+use Rattle.record.specs.Record.{recordLength, wordLength}
+use Rattle.record.specs.Records.{recordsFrom}
+use Rattle.rule.specs.Rule.{rulesIn}
 use Rattle.plan.specs.Check.{checked, rulesOf, trailerLength}
 use Rattle.forest.specs.declared.Measured.{Measured}
 use Rattle.forest.specs.Expression.{expression}

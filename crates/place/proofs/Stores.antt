@@ -7,9 +7,9 @@ use mathlib.Core.List.{List, [], _++_, append-nil, append-assoc}
 use lib.ListN.{length, take, drop, replicate, length-drop}
 use lib.Seq.{take-all, drop-length, drop-drop, take-append-add, drop-append-add}
 use Rattle.words.specs.Number.{bytes}
-use Rattle.rule.specs.Rule.{recordBytes}
-use Rattle.rule.proofs.Records.{record-put}
-use Rattle.rule.proofs.RecordBytes.{Bytes}
+use Rattle.record.specs.Record.{recordBytes}
+use Rattle.record.proofs.Records.{record-put}
+use Rattle.record.proofs.RecordBytes.{Bytes}
 use Rattle.forest.specs.Outcome.{cleared}
 use Rattle.forest.specs.Walk.{cellLength, cellsIn, cellBytes, cellsBytes, storedCursor}
 use Rattle.forest.proofs.Stored.{gap, length-cell, cells-bytes, stored-parts}

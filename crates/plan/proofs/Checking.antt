@@ -11,8 +11,8 @@ use lib.Dec.{T, leb, eqb, eqb→eq, leb→le}
 use mir.Facts.{and-yes}
 use lib.Seq.{drop-cons}
 use Rattle.refusal.specs.declared.Refusal.{Refusal}
-use Rattle.rule.specs.Rule.{recordLength}
-use Rattle.rule.specs.Records.{recordsFrom}
+use Rattle.record.specs.Record.{recordLength}
+use Rattle.record.specs.Records.{recordsFrom}
 use Rattle.judge.specs.Judge.{judged}
 use Rattle.plan.specs.declared.Checked.{Checked}
 use Rattle.plan.specs.Check.{trailerLength, trailerAt, countOf, startOf, distanceOf, marked, firstAt, recordsOf, accepted, inLimits, checkedUpTo}

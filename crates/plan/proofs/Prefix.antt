@@ -14,11 +14,12 @@ use Rattle.words.specs.Number.{number}
 use Rattle.words.proofs.Laws.{number-after}
 use Rattle.refusal.specs.declared.Refusal.{Refusal}
 use Rattle.plan.specs.declared.Checked.{Checked}
-use Rattle.rule.specs.Rule.{recordLength}
-use Rattle.rule.specs.Records.{recordsFrom, rulesIn}
+use Rattle.record.specs.Record.{recordLength}
+use Rattle.record.specs.Records.{recordsFrom}
+use Rattle.rule.specs.Rule.{rulesIn}
 use Rattle.plan.specs.Check.{trailerLength, magic, trailerAt, countOf, startOf, distanceOf, same, marked, firstAt, recordsOf, rulesOf, inLimits, checkedUpTo}
 use Rattle.plan.proofs.Sound.{accepted-plan, answer, checked-answer}
-use Rattle.rule.proofs.Records.{records-after}
+use Rattle.record.proofs.Records.{records-after}
 
 module _ (p s : List ℕ) (long : trailerLength ≤ length s) where
   prefix-trailerAt : trailerAt (p ++ s) ≡ length p + trailerAt s

@@ -9,14 +9,15 @@ use lib.Dec.{leb, eqb}
 use lib.ListN.{length}
 use borrow.Author.Tests.{leb-true, eqb-true}
 use Rattle.refusal.specs.declared.Refusal.{Refusal}
-use Rattle.rule.specs.declared.Record.{Record}
+use Rattle.record.specs.declared.Record.{Record}
 use Rattle.rule.specs.declared.Rule.{Rule}
 use Rattle.rule.specs.declared.Decoded.{Decoded}
-use Rattle.rule.specs.Rule.{recordLength, recordAt, decode, encode}
-use Rattle.rule.specs.Records.{recordsFrom, recordIn}
+use Rattle.record.specs.Record.{recordLength, recordAt}
+use Rattle.rule.specs.Rule.{decode, encode}
+use Rattle.record.specs.Records.{recordsFrom, recordIn}
 use Rattle.rule.specs.Sound.{rule, Sound, Closed}
 use Rattle.rule.proofs.Decode.{encode-decode}
-use Rattle.rule.proofs.Records.{records-length, records-at}
+use Rattle.record.proofs.Records.{records-length, records-at}
 use Rattle.rule.proofs.Rules.{length-rulesIn, rule-decoded}
 use Rattle.judge.specs.declared.Judged.{Judged}
 use Rattle.judge.specs.Judge.{judged}

@@ -13,12 +13,12 @@ use lib.Seq.{sets-eq, drop-append-add, take-append-seam, take-all}
 use borrow.Author.Tests.{le-leb, eq-eqb, eqb-true}
 use Rattle.words.specs.Number.{number, bytes, base, put}
 use Rattle.words.proofs.Laws.{number-after, number-bytes}
-use Rattle.rule.specs.Rule.{recordLength}
-use Rattle.rule.specs.Records.{recordsFrom}
+use Rattle.record.specs.Record.{recordLength}
+use Rattle.record.specs.Records.{recordsFrom}
 use Rattle.judge.specs.Judge.{judged}
 use Rattle.plan.specs.Check.{trailerLength, magic, trailerBytes, trailerAt, countOf, startOf, distanceOf, same, marked, firstAt, recordsOf, accepted, inLimits, checkedUpTo}
 use Rattle.plan.proofs.Sound.{answer, checked-answer}
-use Rattle.rule.proofs.RecordBytes.{Bytes, records-take, read-part}
+use Rattle.record.proofs.RecordBytes.{Bytes, records-take, read-part}
 
 pub length-trailerBytes : (n start : ℕ) → length (trailerBytes n start) ≡ trailerLength
 unfolding trailerBytes

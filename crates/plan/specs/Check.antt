@@ -5,13 +5,14 @@ use mathlib.Core.List.{List, [], _∷_, _++_}
 use lib.ListN.{length, drop}
 use lib.Dec.{leb, eqb}
 use Rattle.words.specs.Number.{number, bytes}
-use Rattle.rule.specs.declared.Record.{Record}
+use Rattle.record.specs.declared.Record.{Record}
 use Rattle.rule.specs.declared.Rule.{Rule}
 use Rattle.refusal.specs.declared.Refusal.{Refusal}
 use Rattle.judge.specs.declared.Judged.{Judged}
 use Rattle.plan.specs.declared.Checked.{Checked}
-use Rattle.rule.specs.Rule.{recordLength}
-use Rattle.rule.specs.Records.{recordsFrom, rulesIn}
+use Rattle.record.specs.Record.{recordLength}
+use Rattle.record.specs.Records.{recordsFrom, recordsBytes}
+use Rattle.rule.specs.Rule.{rulesIn}
 use Rattle.judge.specs.Judge.{judged}
 
 -- "a trailer of 10 bytes that points back: n (16 bits), start rule (16 bits), distance .. (32 bits), and the two mark bytes"
@@ -30,6 +31,11 @@ mostRules = 1024
 unfoldable pub trailerBytes : ℕ → ℕ → List ℕ
 unfolding bytes
 trailerBytes n start = bytes 2 n ++ (bytes 2 start ++ (bytes 4 (recordLength * n) ++ magic))
+
+-- the bytes of a plan without prefix (prefix is document 01's cover): its rules, then the trailer
+unfoldable pub planBytes : List Record → ℕ → List ℕ
+unfolding recordsBytes trailerBytes
+planBytes ws start = recordsBytes ws ++ trailerBytes (length ws) start
 
 -- where the trailer begins, and its fields
 unfoldable pub trailerAt : List ℕ → ℕ

@@ -1,15 +1,15 @@
 // The plan's format (document 01, "A plan's bytes" and "Check"): the trailer and check.
 use judge::Judged;
 use judge::judge;
+use record::Record;
 use refusal::Refusal;
-use rule::Record;
 ghost use mathlib.Core.Path.{_≡_};
 ghost use mathlib.Core.List.{_++_};
 ghost use Prim.Native.Nat.{_+_, _*_, _≤_};
 ghost use lib.ListN.{length, take, drop, set};
 ghost use mathlib.Core.Bool.{_&&_};
 ghost use lib.Dec.{leb, eqb};
-ghost use Rattle.rule.specs.Rule.{recordLength};
+ghost use Rattle.record.specs.Record.{recordLength};
 ghost use Rattle.plan.specs.Check.{trailerLength, trailerBytes, countOf, startOf, distanceOf, marked, accepted, mostRules, inLimits, checked};
 
 // What check answers: document 01's n and start, or the refusal.

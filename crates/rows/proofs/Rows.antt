@@ -10,8 +10,9 @@ use lib.Seq.{getD-take, getD-drop, take-take, drop-drop}
 use Rattle.words.specs.Number.{base}
 use Rattle.words.proofs.Laws.{number-agrees, length-put, put-same, put-other, put-take, put-drop}
 use Rattle.rule.specs.declared.Rule.{Rule}
-use Rattle.rule.specs.Rule.{recordLength, recordAt, decode, ruleOf}
-use Rattle.rule.specs.Records.{recordsFrom, rulesIn}
+use Rattle.record.specs.Record.{recordLength, recordAt}
+use Rattle.rule.specs.Rule.{decode, ruleOf, rulesIn}
+use Rattle.record.specs.Records.{recordsFrom}
 use Rattle.rule.specs.Sound.{rule}
 use Rattle.rows.specs.declared.Row.{Row}
 use Rattle.rows.specs.Rows.{rowLength, field, putField, ownEnd, atKind, atLabel, atOne, atTwo, rowOf, ruleFrom, rowIn, putRow, ruleIn, Holds, Within, Beyond, Stored, Loaded}

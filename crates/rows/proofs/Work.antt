@@ -9,8 +9,9 @@ use lib.ListN.{length, replicate}
 use borrow.Author.Tests.{leb-true}
 use Rattle.refusal.specs.declared.Refusal.{Refusal}
 use Rattle.plan.specs.declared.Checked.{Checked}
-use Rattle.rule.specs.Rule.{wordLength, recordLength}
-use Rattle.rule.specs.Records.{recordsFrom, rulesIn}
+use Rattle.record.specs.Record.{wordLength, recordLength}
+use Rattle.record.specs.Records.{recordsFrom}
+use Rattle.rule.specs.Rule.{rulesIn}
 use Rattle.plan.specs.Check.{checked, rulesOf, trailerLength, mostRules}
 use Rattle.plan.proofs.Sound.{Plan, checked-plan, plan-long, plan-first, plan-records}
 use Rattle.forest.specs.Outcome.{ruleWork, workWords, enoughWork, cleared, workAfter}

@@ -7,7 +7,8 @@ use lib.ListN.{length, take, drop}
 use lib.Dec.{eqb}
 use Rattle.words.specs.Number.{number, put}
 use Rattle.rule.specs.declared.Rule.{Rule}
-use Rattle.rule.specs.Rule.{wordLength, kindEmpty, kindPair, kindNode, kindFill, kindPart, kindJoin}
+use Rattle.record.specs.Record.{wordLength}
+use Rattle.rule.specs.Rule.{kindEmpty, kindPair, kindNode, kindFill, kindPart, kindJoin}
 use Rattle.rule.specs.Sound.{rule}
 use Rattle.forest.specs.Outcome.{ruleWork}
 use Rattle.rows.specs.declared.Row.{Row}

@@ -2,14 +2,15 @@
 ghost use mathlib.Core.Path.{_≡_};
 ghost use Prim.Native.Nat.{_+_, _-_, _*_, _≤_};
 ghost use lib.ListN.{length};
-ghost use Rattle.rule.specs.Rule.{recordLength, wordLength, ruleOf};
-ghost use Rattle.rule.specs.Records.{recordsFrom, rulesIn};
+ghost use Rattle.record.specs.Record.{recordLength, wordLength};
+ghost use Rattle.rule.specs.Rule.{ruleOf, rulesIn};
+ghost use Rattle.record.specs.Records.{recordsFrom};
 ghost use Rattle.plan.specs.Check.{trailerLength};
 ghost use Rattle.forest.specs.Outcome.{workWords, enoughWork, cleared};
 ghost use Rattle.rows.specs.Rows.{workLength, rowLength, ownEnd, field, putField, rowOf, ruleFrom, rowIn, putRow, ruleIn, Stored, Loaded};
 use plan::Trailer;
+use record::Record;
 use rule::Decoded;
-use rule::Record;
 use rule::Rule;
 
 // What a row keeps of its rule: the kind, the label and the rules named.

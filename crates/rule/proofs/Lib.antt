@@ -1,4 +1,2 @@
-pub mod Records
-pub mod RecordBytes
 pub mod Decode
 pub mod Rules

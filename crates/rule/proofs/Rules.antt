@@ -8,13 +8,19 @@ use native.Mathlib.Decide.{decLt}
 use native.Mathlib.Omega.{arith}
 use lib.Dec.{T, ltb, ltb→lt, lt→ltb}
 use lib.ListN.{length, length-map, List·getD-map, List·getD-eq-default}
-use Rattle.rule.specs.declared.Record.{Record}
+use Rattle.record.specs.declared.Record.{Record}
 use Rattle.rule.specs.declared.Rule.{Rule}
 use Rattle.rule.specs.declared.Decoded.{Decoded}
-use Rattle.rule.specs.Rule.{decode, encode, ruleOf, every, sorts}
-use Rattle.rule.specs.Records.{rulesIn, recordIn, kindAt}
+use Rattle.rule.specs.Rule.{kindEmpty, decode, encode, ruleOf, every, sorts, rulesIn}
+use Rattle.record.specs.Records.{recordsFrom, recordIn, kindAt}
+use Rattle.record.proofs.Records.{records-length}
 use Rattle.rule.specs.Sound.{rule, kindIn, Sound}
 use Rattle.rule.proofs.Decode.{decode-kind, decode-labelled}
+
+-- past the end of the records a kind is that of the empty rule
+pub kind-past : (s : List ℕ) (at n i : ℕ) → n ≤ i → kindAt (recordsFrom s at n) i ≡ kindEmpty
+unfolding kindAt
+kind-past s at n i past = ap (λ (w : Record). w .kind) (List·getD-eq-default (recordsFrom s at n) _ (rw records-length past))
 
 -- what a record has that is judged fine
 pub record Named (ws : List Record) (i : ℕ) (d : Decoded) : Type 0 where

@@ -1,23 +1,11 @@
--- The rule record and the rule that it means (document 01, "A plan's bytes").
-use Prim.Native.Nat.{ℕ, _+_, _*_}
+-- The rule that a record means (document 01, "A plan's bytes").
+use Prim.Native.Nat.{ℕ}
 use mathlib.Core.Bool.{Bool, true, false, cond, _&&_, _||_}
-use mathlib.Core.List.{List, _++_}
+use mathlib.Core.List.{List, map}
 use lib.Dec.{leb, eqb}
-use Rattle.words.specs.Number.{number, bytes}
-use Rattle.rule.specs.declared.Record.{Record}
+use Rattle.record.specs.declared.Record.{Record}
 use Rattle.rule.specs.declared.Rule.{Rule}
 use Rattle.rule.specs.declared.Decoded.{Decoded}
-
--- "n rules of 8 bytes": the length of a record
-abbrev pub recordLength : ℕ
-recordLength = 8
-
--- "A rule is four 16-bit words": the words of a record, and the bytes of a word
-abbrev pub recordWords : ℕ
-recordWords = 4
-
-abbrev pub wordLength : ℕ
-wordLength = 2
 
 -- the kinds, by name
 abbrev pub kindEmpty : ℕ
@@ -120,17 +108,7 @@ unfoldable pub ruleOf : Decoded → Rule
 ruleOf (Decoded.Whole r) = r
 ruleOf Decoded.Malformed = Rule.Empty
 
--- the record whose bytes begin at an offset, and a record's bytes
-unfoldable pub recordAt : List ℕ → ℕ → Record
-unfolding number
-recordAt s at =
-    record {
-      kind = number wordLength s at;
-      one = number wordLength s (at + wordLength);
-      two = number wordLength s (at + 2 * wordLength);
-      three = number wordLength s (at + 3 * wordLength);
-    }
-
-unfoldable pub recordBytes : Record → List ℕ
-unfolding bytes
-recordBytes w = bytes wordLength (w .kind) ++ (bytes wordLength (w .one) ++ (bytes wordLength (w .two) ++ bytes wordLength (w .three)))
+-- the rules of records
+unfoldable pub rulesIn : List Record → List Rule
+unfolding decode ruleOf
+rulesIn ws = map (λ (w : Record). ruleOf (decode w)) ws

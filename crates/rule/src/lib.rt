@@ -1,18 +1,9 @@
-// The rule of a plan (document 01, "A plan's bytes"): its record of four words, and the table of kinds.
+// The rule of a plan (document 01, "A plan's bytes"): what a record means, by the table of kinds.
+use record::Record;
 ghost use mathlib.Core.Path.{_≡_};
-ghost use mathlib.Core.List.{_++_};
-ghost use Prim.Native.Nat.{_+_, _≤_, _<_};
-ghost use lib.ListN.{length, take, drop};
+ghost use Prim.Native.Nat.{_<_};
 ghost use lib.Dec.{T};
-ghost use Rattle.rule.specs.Rule.{recordLength, kindNode, recordAt, recordBytes, decode, encode, whole, labelled};
-
-// The four 16-bit words of a rule.
-pub struct Record {
-    pub kind: u16,
-    pub one: u16,
-    pub two: u16,
-    pub three: u16,
-}
+ghost use Rattle.rule.specs.Rule.{kindNode, decode, encode, whole, labelled};
 
 // A rule as the paper's right-hand side; the numbers are those of the rules it names.
 pub enum Rule {
@@ -30,55 +21,15 @@ pub enum Decoded {
     Malformed,
 }
 
-impl Record {
-    // Bytes and words of a record, and where its later words begin.
-    pub const LENGTH: usize = 8;
-
-    pub const WORDS: usize = 4;
-
-    const ONE: usize = 2;
-
-    const TWO: usize = 4;
-
-    const THREE: usize = 6;
-
-    // What an unused word holds.
-    const UNUSED: u16 = 0;
-
-    // The record of four words.
-    fn of(kind: u16, one: u16, two: u16, three: u16) -> Record
-        ensures { λ r. ⌜ r ≡ record { kind = kind; one = one; two = two; three = three } ⌝ }
-    {
-        Record {
-            kind,
-            one,
-            two,
-            three,
-        }
-    }
-
-    // The record whose bytes begin at an offset.
-    pub fn read(s: &[u8], at: usize) -> Record
-        requires { ⌜ at + recordLength ≤ length (now s) ⌝ }
-        ensures { λ r. ⌜ r ≡ recordAt (now (s .entry)) at ⌝ }
-    {
-        Record {
-            kind: words::read16(s, at),
-            one: words::read16(s, at + Record::ONE),
-            two: words::read16(s, at + Record::TWO),
-            three: words::read16(s, at + Record::THREE),
-        }
-    }
-
-    // The record's bytes, into the slice from an offset on.
-    pub fn write(self, s: &mut [u8], at: usize)
-        requires { ⌜ at + recordLength ≤ length (now s) ⌝ }
-        ensures { λ r. ⌜ now (s .exit) ≡ take at (now (s .entry)) ++ (recordBytes self ++ drop (at + recordLength) (now (s .entry))) ⌝ }
-    {
-        words::write16(s, at, self.kind);
-        words::write16(s, at + Record::ONE, self.one);
-        words::write16(s, at + Record::TWO, self.two);
-        words::write16(s, at + Record::THREE, self.three);
+// The record of four words.
+fn four_words(kind: u16, one: u16, two: u16, three: u16) -> Record
+    ensures { λ r. ⌜ r ≡ record { kind = kind; one = one; two = two; three = three } ⌝ }
+{
+    Record {
+        kind,
+        one,
+        two,
+        three,
     }
 }
 
@@ -193,12 +144,12 @@ impl Rule {
     {
         let none = Record::UNUSED;
         match self {
-            Rule::Empty => Record::of(Rule::EMPTY, none, none, none),
-            Rule::Pair { first, second } => Record::of(Rule::PAIR, first, second, none),
-            Rule::Node { label, under } => Record::of(Rule::NODE, label as u16, under, none),
-            Rule::Fill { outer, inner } => Record::of(Rule::FILL, outer, inner, none),
-            Rule::Part { label, left, right } => Record::of(Rule::PART, label as u16, left, right),
-            Rule::Join { outer, inner } => Record::of(Rule::JOIN, outer, inner, none),
+            Rule::Empty => four_words(Rule::EMPTY, none, none, none),
+            Rule::Pair { first, second } => four_words(Rule::PAIR, first, second, none),
+            Rule::Node { label, under } => four_words(Rule::NODE, label as u16, under, none),
+            Rule::Fill { outer, inner } => four_words(Rule::FILL, outer, inner, none),
+            Rule::Part { label, left, right } => four_words(Rule::PART, label as u16, left, right),
+            Rule::Join { outer, inner } => four_words(Rule::JOIN, outer, inner, none),
         }
     }
 }

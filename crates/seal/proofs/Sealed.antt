@@ -10,20 +10,22 @@ use lib.Dec.{leb, eqb}
 use lib.ListN.{length, take, drop}
 use borrow.Author.Tests.{le-leb, lt-leb, leb-true, eqb-true}
 use Rattle.words.specs.Number.{wordCount}
-use Rattle.rule.specs.declared.Record.{Record}
+use Rattle.record.specs.declared.Record.{Record}
 use Rattle.rule.specs.declared.Decoded.{Decoded}
 use Rattle.refusal.specs.declared.Refusal.{Refusal}
 use Rattle.judge.specs.declared.Judged.{Judged}
 use Rattle.plan.specs.declared.Written.{Written}
-use Rattle.rule.specs.Rule.{recordLength, recordWords, decode, recordAt}
-use Rattle.rule.specs.Records.{recordsFrom, recordsBytes, recordIn}
+use Rattle.record.specs.Record.{recordLength, recordWords, recordAt}
+use Rattle.rule.specs.Rule.{decode}
+use Rattle.record.specs.Records.{recordsFrom, recordsBytes, recordIn}
 use Rattle.judge.specs.Judge.{judged}
-use Rattle.plan.specs.Check.{trailerLength, trailerBytes, inLimits}
-use Rattle.seal.specs.Seal.{planBytes, givenCount, given, roomed, sealedUpTo, inFront}
+use Rattle.plan.specs.Check.{trailerLength, trailerBytes, inLimits, planBytes}
+use Rattle.seal.specs.Seal.{givenCount, given, roomed, sealedUpTo}
+use Rattle.words.specs.Front.{inFront}
 use Rattle.judge.proofs.Fit.{fine-fit}
-use Rattle.rule.proofs.Records.{records-length, records-at}
-use Rattle.rule.proofs.RecordBytes.{length-recordsBytes}
-use Rattle.seal.proofs.Front.{inFront-more}
+use Rattle.record.proofs.Records.{records-length, records-at}
+use Rattle.record.proofs.RecordBytes.{length-recordsBytes}
+use Rattle.words.proofs.Front.{inFront-more}
 use Rattle.plan.proofs.TrailerBytes.{length-trailerBytes}
 
 unfoldable pub sealAnswer : ℕ → Bool → ℕ → Judged → List ℕ → Written

@@ -1,23 +1,19 @@
 -- Document 01, "Seal".
 use Prim.Native.Nat.{ℕ, _+_, _*_, _/_, _%_}
 use mathlib.Core.Bool.{cond, _&&_}
-use mathlib.Core.List.{List, _++_}
-use lib.ListN.{length, drop}
+use mathlib.Core.List.{List}
+use lib.ListN.{length}
 use lib.Dec.{leb, eqb}
 use Rattle.words.specs.Number.{wordCount}
-use Rattle.rule.specs.declared.Record.{Record}
+use Rattle.record.specs.declared.Record.{Record}
 use Rattle.refusal.specs.declared.Refusal.{Refusal}
 use Rattle.judge.specs.declared.Judged.{Judged}
 use Rattle.plan.specs.declared.Written.{Written}
-use Rattle.rule.specs.Rule.{recordLength, recordWords}
-use Rattle.rule.specs.Records.{recordsFrom, recordsBytes}
+use Rattle.record.specs.Record.{recordLength, recordWords}
+use Rattle.record.specs.Records.{recordsFrom}
 use Rattle.judge.specs.Judge.{judged}
-use Rattle.plan.specs.Check.{trailerLength, trailerBytes, mostRules, inLimits}
-
--- the bytes of a plan without prefix (prefix is document 01's cover): its rules, then the trailer
-unfoldable pub planBytes : List Record → ℕ → List ℕ
-unfolding recordsBytes trailerBytes
-planBytes ws start = recordsBytes ws ++ trailerBytes (length ws) start
+use Rattle.plan.specs.Check.{trailerLength, mostRules, inLimits, planBytes}
+use Rattle.plan.specs.Written.{outputAfter}
 
 -- the records of a slice of rule words, four words to a rule
 unfoldable pub givenCount : List ℕ → ℕ
@@ -44,16 +40,7 @@ unfoldable pub sealed : List ℕ → ℕ → List ℕ → Written
 unfolding sealedUpTo
 sealed words start out = sealedUpTo mostRules words start out
 
--- some bytes at the front of a slice; "leaves later bytes"
-unfoldable pub inFront : List ℕ → List ℕ → List ℕ
-inFront bs out = bs ++ drop (length bs) out
-
 -- the output at exit: the plan if accepted. "Refused, it writes nothing."
-unfoldable pub outputAfter : Written → List ℕ → List ℕ → List ℕ
-unfolding inFront
-outputAfter (Written.Length n) bs out = inFront bs out
-outputAfter (Written.Refused r) bs out = out
-
 unfoldable pub sealedOutput : List ℕ → ℕ → List ℕ → List ℕ
 unfolding sealed given planBytes outputAfter
 sealedOutput words start out = outputAfter (sealed words start out) (planBytes (given words) start) out

@@ -3,9 +3,9 @@ use judge::Judged;
 use judge::judge;
 use plan::Trailer;
 use plan::Written;
+use record::Record;
 use refusal::Refusal;
 use rule::Decoded;
-use rule::Record;
 use rule::Rule;
 ghost use Prim.Native.Nat.{ℕ, _+_, _*_, _/_, _%_, _≤_, _<_};
 ghost use mathlib.Core.Path.{_≡_};
@@ -14,10 +14,12 @@ ghost use mathlib.Core.List.{List, _++_};
 ghost use lib.ListN.{length, take, drop};
 ghost use lib.Dec.{eqb};
 ghost use Rattle.rule.specs.declared.Decoded.{Decoded};
-ghost use Rattle.rule.specs.Rule.{recordLength, recordWords, decode, recordAt, recordBytes};
-ghost use Rattle.rule.specs.Records.{recordsFrom, recordsBytes};
+ghost use Rattle.record.specs.Record.{recordLength, recordWords, recordAt, recordBytes};
+ghost use Rattle.rule.specs.Rule.{decode};
+ghost use Rattle.record.specs.Records.{recordsFrom, recordsBytes};
 ghost use Rattle.plan.specs.Check.{mostRules, inLimits};
-ghost use Rattle.seal.specs.Seal.{sealed, sealedOutput, inFront};
+ghost use Rattle.seal.specs.Seal.{sealed, sealedOutput};
+ghost use Rattle.words.specs.Front.{inFront};
 
 // Seal: the rule words as a plan without prefix. The answer comes first: refused, nothing is written.
 pub fn seal(words: &[u8], start: u16, out: &mut [u8]) -> Written

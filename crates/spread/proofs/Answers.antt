@@ -11,7 +11,7 @@ use borrow.Author.Tests.{leb-true, leb-false, le-leb, lt-leb}
 use Rattle.refusal.specs.declared.Refusal.{Refusal}
 use Rattle.rule.specs.declared.Rule.{Rule}
 use Rattle.plan.specs.declared.Written.{Written}
-use Rattle.seal.specs.Seal.{outputAfter}
+use Rattle.plan.specs.Written.{outputAfter}
 use Rattle.forest.specs.Forest.{forest, weigh, one, text}
 use Rattle.forest.specs.Outcome.{nodeLength, textRoomed}
 use Rattle.forest.proofs.Good.{Sort, Good}

@@ -5,7 +5,7 @@ use mathlib.Core.List.{List}
 use lib.ListN.{length}
 use Rattle.plan.specs.declared.Written.{Written}
 use Rattle.rule.specs.Sound.{Sound, Closed}
-use Rattle.seal.specs.Seal.{outputAfter}
+use Rattle.plan.specs.Written.{outputAfter}
 use Rattle.forest.specs.Forest.{forest, text}
 use Rattle.forest.specs.Outcome.{textRoomed}
 use Rattle.rows.specs.Rows.{Within}

@@ -34,9 +34,9 @@ use denote.Triple.Statement.{Triple}
 use denote.Triple.Call.{calls-at-last}
 use denote.Triple.Clauses.{ensured, lasts}
 use denote.Triple.Walked.{says}
-use Rattle.ways.specs.declared.Letter.{Letter}
+use Rattle.letter.specs.declared.Letter.{Letter}
 use Rattle.states.specs.declared.Standing.{Standing}
-use Rattle.ways.specs.Letters.{moveOf}
+use Rattle.letter.specs.Letter.{moveOf}
 use Rattle.ways.specs.Standing.{Stands, Stepped}
 use Rattle.states.specs.Landed.{landed}
 use Rattle.states.proofs.Standing as T

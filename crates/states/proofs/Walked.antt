@@ -28,7 +28,7 @@ use denote.Triple.Walked.{needs, AllGo, goes-none, goes-none-slice, goes-slice, 
 use Rattle.landing.proofs.arrive.Symbol as arrive-def
 use Rattle.landing.proofs.arrive.Symbol.{name as #landing·arrive}
 use Rattle.landing.proofs.arrive.Met as arrive-thm
-use Rattle.ways.specs.declared.Letter.{Letter}
+use Rattle.letter.specs.declared.Letter.{Letter}
 use Rattle.ways.specs.Standing.{Stands}
 use Rattle.states.proofs.Standing as T
 use Rattle.states.proofs.Thin.{function, thin-clauses, Leads, Lands, Arrives}

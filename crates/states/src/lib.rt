@@ -1,10 +1,10 @@
 // One letter from a place: the state of a walk, and a function for each letter (document 01, "Letters").
 use landing::Landing;
 use turns::Outcome;
-ghost use Rattle.ways.specs.Letters.{moveOf};
+ghost use Rattle.letter.specs.Letter.{moveOf};
 ghost use Rattle.ways.specs.Standing.{Stands, Stepped};
 ghost use Rattle.states.specs.Landed.{landed};
-use ways::Letter;
+use letter::Letter;
 
 // The state of a walk while letters run: the used cells and the standing rule, which change together.
 struct Standing {

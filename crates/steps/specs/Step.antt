@@ -5,7 +5,8 @@ use mathlib.Core.List.{List, [], _∷_}
 use lib.ListN.{length}
 use lib.Dec.{T, ltb, eqb}
 use Rattle.rule.specs.declared.Rule.{Rule}
-use Rattle.rule.specs.Rule.{every, labelled, wordLength}
+use Rattle.rule.specs.Rule.{every, labelled}
+use Rattle.record.specs.Record.{wordLength}
 use Rattle.rows.specs.Rows.{rowLength, field, ruleIn}
 use Rattle.counts.specs.Says.{before, after, opening, closing}
 use Rattle.steps.specs.declared.Said.{Said}

@@ -3,14 +3,15 @@ ghost use mathlib.Core.Path.{_≡_};
 ghost use Rattle.forest.specs.Walk.{cellsIn};
 ghost use Rattle.model.specs.Model.{innerOf};
 ghost use Rattle.model.specs.Stored.{formOf, rowUnder, rowIn, afterRow, isThat, spineAt, keptBy, afterRun, next, isNode, endsWell, accepts};
-ghost use Rattle.tables.specs.Table.{sideOf, known, In, Climbs};
+ghost use Rattle.side.specs.Side.{sideOf};
+ghost use Rattle.tables.specs.Table.{known, In, Climbs};
 ghost use Rattle.tables.specs.Closes.{Closes};
 ghost use Rattle.cells.specs.Cells.{words, Lies};
 ghost use Rattle.stored.specs.States.{maybe, stateOf, MaybeHas, StateHas, afterSpine};
 use cells::Cell;
 use rows::Row;
 use rule::Rule;
-use tables::Side;
+use side::Side;
 
 // A rule, or nothing.
 enum Found {

@@ -4,16 +4,10 @@ use mathlib.Core.List.{List}
 use lib.Dec.{ltb, ltb→lt}
 use Rattle.rule.specs.declared.Rule.{Rule}
 use Rattle.forest.specs.Place.{Side}
-use Rattle.forest.proofs.Position.{pick}
+use Rattle.forest.proofs.Position.{pick, picked}
 use Rattle.forest.proofs.Unfold.{Names, every-named}
 use Rattle.tables.specs.Table.{In}
 use Rattle.tables.specs.Build.{Steps, Made, Pairs, Ready}
-
--- what holds of both holds of the one on a side
-pub picked : {A : Type 0} (P : A → Type 0) (s : Side) (b c : A) → P b → P c → P (pick s b c)
-unfolding pick
-picked P Side.left b c x y = x
-picked P Side.right b c x y = y
 
 pub made-steps : {Done : ℕ → Type 0} {t : List ℕ} → Made Done t → (s : Side) (p : ℕ) → Done p → Steps t s p
 made-steps m s p d =

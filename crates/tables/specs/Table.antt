@@ -10,14 +10,8 @@ use Rattle.rule.specs.declared.Rule.{Rule}
 use Rattle.forest.specs.Place.{Side}
 use Rattle.model.specs.Facts.{Facts, factsOf}
 use Rattle.model.specs.Run.{along}
-use Rattle.tables.specs.declared.Side as code
 use Rattle.tables.specs.declared.Link.{Link}
 use Rattle.rows.specs.Rows.{rowLength, field, putField, ruleIn, Holds, Beyond}
-
--- the code's sides
-unfoldable pub sideOf : code.Side → Side
-sideOf code.Side.Left = Side.left
-sideOf code.Side.Right = Side.right
 
 -- where a row keeps the representative, whether the rule is empty (1 or 0), and the link of each side
 abbrev pub atRepresentative : ℕ

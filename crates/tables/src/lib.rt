@@ -6,15 +6,11 @@ ghost use Rattle.rows.specs.Rows.{field};
 ghost use Rattle.model.specs.Run.{along, oneAbove};
 ghost use Rattle.model.specs.Model.{outer};
 ghost use Rattle.model.specs.Stored.{reaches};
-ghost use Rattle.tables.specs.Table.{sideOf, atLink, linkLength, LinkAt, linkIn, putLink, known, In, Climbs};
+ghost use Rattle.side.specs.Side.{sideOf};
+ghost use Rattle.tables.specs.Table.{atLink, linkLength, LinkAt, linkIn, putLink, known, In, Climbs};
 ghost use Rattle.tables.specs.Build.{jumpFrom, linkFrom, linkOwn, linkPair, linkOf, Steps, Pairs, Ready};
 use rule::Rule;
-
-// Left and right.
-pub enum Side {
-    Left,
-    Right,
-}
+use side::Side;
 
 // The way of one side from a rule: one step, the end of the longest run, its number of steps, and a rule further on.
 pub struct Link {
@@ -22,38 +18,6 @@ pub struct Link {
     pub last: u16,
     pub depth: u16,
     pub jump: u16,
-}
-
-impl Side {
-    // Where a row keeps the link of this side.
-    fn link(self) -> usize
-        ensures { λ o. ⌜ LinkAt (sideOf self) o ⌝ }
-    {
-        match self {
-            Side::Left => Link::LEFT,
-            Side::Right => Link::RIGHT,
-        }
-    }
-
-    // The other side.
-    pub fn other(self) -> Side
-        ensures { λ r. ⌜ sideOf r ≡ other (sideOf self) ⌝ }
-    {
-        match self {
-            Side::Left => Side::Right,
-            Side::Right => Side::Left,
-        }
-    }
-
-    // The one on this side.
-    pub fn pick(self, left: u16, right: u16) -> u16
-        ensures { λ x. ⌜ x ≡ pick (sideOf self) left right ⌝ }
-    {
-        match self {
-            Side::Left => left,
-            Side::Right => right,
-        }
-    }
 }
 
 // Rule r itself.
@@ -91,12 +55,22 @@ pub fn is_empty_at(work: &[u8], r: u16) -> bool
     rows::field16(work, r, Link::EMPTINESS) == 1
 }
 
+// Where a row keeps the link of a side.
+fn link_offset(side: Side) -> usize
+    ensures { λ o. ⌜ LinkAt (sideOf side) o ⌝ }
+{
+    match side {
+        Side::Left => Link::LEFT,
+        Side::Right => Link::RIGHT,
+    }
+}
+
 // A word of the link of a side in row r.
 fn word_at(work: &[u8], side: Side, r: u16, word: usize) -> u16
     requires { ⌜ In (now work) r × (word + 2 ≤ linkLength) ⌝ }
     ensures { λ x. ⌜ x ≡ field 2 (now (work .entry)) r (atLink (sideOf side) + word) ⌝ }
 {
-    rows::field16(work, r, side.link() + word)
+    rows::field16(work, r, link_offset(side) + word)
 }
 
 // One step from rule r.
@@ -168,7 +142,7 @@ impl Link {
         requires { ⌜ In (now work) r ⌝ }
         ensures { λ x. ⌜ now (work .exit) ≡ putLink (now (work .entry)) (sideOf side) r self ⌝ }
     {
-        let at = side.link();
+        let at = link_offset(side);
         rows::put16(work, r, at + Link::TOWARD, self.toward);
         rows::put16(work, r, at + Link::LAST, self.last);
         rows::put16(work, r, at + Link::DEPTH, self.depth);

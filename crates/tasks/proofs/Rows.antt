@@ -9,7 +9,8 @@ use lib.ListN.{length, getD}
 use lib.Seq.{ext-getD}
 use lib.Dec.{T, ltb}
 use Rattle.rule.specs.declared.Rule.{Rule}
-use Rattle.rule.specs.Rule.{every, labelled, wordLength}
+use Rattle.rule.specs.Rule.{every, labelled}
+use Rattle.record.specs.Record.{wordLength}
 use Rattle.rule.specs.Sound.{rule, Sound}
 use Rattle.forest.specs.Expression.{Expression, rhs, expression}
 use Rattle.forest.proofs.Unfold.{Names, unfolding-equation}

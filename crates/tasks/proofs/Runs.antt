@@ -7,8 +7,8 @@ use mathlib.Core.Path.{_≡_, refl, sym, ap, ap₂, _∙_}
 use mathlib.Core.List.{List, _∷_, _++_, append-assoc, append-nil}
 use lib.ListN.{length, take, drop, length-append, length-drop, take-append-drop}
 use lib.Seq.{length-take-le, take-at, drop-append-add, drop-drop}
-use Rattle.rule.specs.Rule.{wordLength}
-use Rattle.seal.specs.Seal.{inFront}
+use Rattle.record.specs.Record.{wordLength}
+use Rattle.words.specs.Front.{inFront}
 use Rattle.forest.specs.Expression.{Expression}
 use Rattle.rows.specs.Rows.{ruleIn, Within}
 use Rattle.rows.proofs.Rows.{within-none, within-both, within-wider}

@@ -11,7 +11,7 @@ use lib.Seq.{sets-eq}
 use borrow.Author.Tests.{eq-eqb, ne-eqb}
 use Rattle.words.specs.Number.{base, put}
 use Rattle.words.proofs.Laws.{length-put, put-same, put-other, put-take, put-drop}
-use Rattle.rule.specs.Rule.{wordLength}
+use Rattle.record.specs.Record.{wordLength}
 use Rattle.rows.specs.Rows.{Within, ruleIn}
 use Rattle.rows.proofs.Rows.{within-none, within-both, within-wider}
 use Rattle.steps.specs.declared.Step.{Step}

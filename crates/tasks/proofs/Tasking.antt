@@ -8,7 +8,7 @@ use mathlib.Core.List.{List}
 use lib.ListN.{length}
 use Rattle.words.specs.Number.{base}
 use Rattle.rule.specs.declared.Rule.{Rule}
-use Rattle.rule.specs.Rule.{wordLength}
+use Rattle.record.specs.Record.{wordLength}
 use Rattle.rows.specs.Rows.{rowLength, putField, ruleIn}
 use Rattle.rows.proofs.Rows.{field-same, field-other}
 use Rattle.counts.specs.Tally.{Besides}

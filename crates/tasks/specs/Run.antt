@@ -6,9 +6,10 @@ use lib.ListN.{length}
 use lib.Dec.{T, ltb}
 use Rattle.words.specs.Number.{base}
 use Rattle.rule.specs.declared.Rule.{Rule}
-use Rattle.rule.specs.Rule.{every, labelled, wordLength}
+use Rattle.rule.specs.Rule.{every, labelled}
+use Rattle.record.specs.Record.{wordLength}
 use Rattle.rule.specs.Sound.{Sound}
-use Rattle.seal.specs.Seal.{inFront}
+use Rattle.words.specs.Front.{inFront}
 use Rattle.forest.specs.Expression.{Expression, expression}
 use Rattle.rows.specs.Rows.{workLength, rowLength, putField, ruleIn, Within}
 use Rattle.counts.specs.Tally.{Besides}

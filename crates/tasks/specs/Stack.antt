@@ -7,7 +7,7 @@ use mathlib.Core.List.{List, [], _∷_, _++_}
 use lib.ListN.{length, take, drop}
 use lib.Dec.{eqb}
 use Rattle.words.specs.Number.{number}
-use Rattle.rule.specs.Rule.{wordLength}
+use Rattle.record.specs.Record.{wordLength}
 use Rattle.forest.specs.Expression.{Expression}
 use Rattle.rows.specs.Rows.{ruleIn, Within}
 use Rattle.steps.specs.declared.Step.{Step}

@@ -8,7 +8,7 @@ use mathlib.Core.Option.{Option}
 use Rattle.rule.specs.declared.Rule.{Rule}
 use Rattle.refusal.specs.declared.Refusal.{Refusal}
 use Rattle.rule.specs.Sound.{Sound, Closed}
-use Rattle.seal.specs.Seal.{inFront}
+use Rattle.words.specs.Front.{inFront}
 use Rattle.forest.specs.Expression.{expression, ruleNumber}
 use Rattle.forest.specs.Forest.{Forest, forest, relabel}
 use Rattle.forest.specs.Place.{Cells, placedOf, placedForest}

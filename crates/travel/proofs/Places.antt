@@ -10,7 +10,7 @@ use lib.Dec.{eqb}
 use borrow.Author.Tests.{leb-true}
 use Rattle.rule.specs.declared.Rule.{Rule}
 use Rattle.refusal.specs.declared.Refusal.{Refusal}
-use Rattle.seal.specs.Seal.{inFront}
+use Rattle.words.specs.Front.{inFront}
 use Rattle.forest.specs.declared.Walked.{Walked}
 use Rattle.forest.specs.Place.{Cells}
 use Rattle.forest.specs.Reference.{Path}

@@ -11,14 +11,13 @@ use lib.Dec.{eqb, leb}
 use borrow.Author.Tests.{eqb-true}
 use Rattle.rule.specs.declared.Rule.{Rule}
 use Rattle.forest.specs.Place.{Cell, Cells, Side, cellRow, cellSpine, cellRun, rowOfNode, rowOfPart, step}
-use Rattle.forest.proofs.Position.{other, pick, orElse}
+use Rattle.forest.proofs.Position.{other, pick, orElse, picked}
 use Rattle.model.specs.Facts.{Facts}
 use Rattle.model.specs.Model.{Node, oneAbove, outer, innerOf, standing, tail, popRun, run, shrunk, turned, besideTop, beside, opened, enter, continuing, inward, under, partAt, isPart, outward, ended, follow, child, childOf, besideHole, sibling, siblingFrom, belowRow, nodeAt, parent, root}
 use Rattle.tables.specs.Closes.{Names, Closed}
 use Rattle.turns.specs.Moves.{Each, Fits, Node-has, Kept}
 use Rattle.model.proofs.Cells.{by-bool}
 use Rattle.turns.proofs.Turns.{run-no-row}
-use Rattle.tables.proofs.Ready.{picked}
 use Rattle.tables.proofs.Closes.{above-has, outer-has}
 
 -- the rule of a node that was found

@@ -7,7 +7,8 @@ ghost use Rattle.forest.specs.Place.{step};
 ghost use Rattle.forest.specs.Walk.{cellsIn};
 ghost use Rattle.forest.proofs.Position.{other};
 ghost use Rattle.model.specs.Model.{standing, shrunk, turned, besideTop, opened, enter, continuing, inward, partAt, outward};
-ghost use Rattle.tables.specs.Table.{sideOf, known, In};
+ghost use Rattle.side.specs.Side.{sideOf};
+ghost use Rattle.tables.specs.Table.{known, In};
 ghost use Rattle.tables.specs.Closes.{Closes};
 ghost use Rattle.cells.specs.Cells.{runCell};
 ghost use Rattle.cells.specs.Changes.{add, stepCells, stemCells, stemNode, changeNode};
@@ -16,7 +17,7 @@ use cells::Cell;
 use cells::Change;
 use cells::Stem;
 use rule::Rule;
-use tables::Side;
+use side::Side;
 
 // What lies beside in a row or spine.
 pub enum Reach {

@@ -12,14 +12,16 @@ use borrow.Author.Tests.{le-leb, eq-eqb, leb-true}
 use Rattle.words.specs.Number.{number, bytes, base, wordCount}
 use Rattle.plan.specs.declared.Checked.{Checked}
 use Rattle.plan.specs.declared.Written.{Written}
-use Rattle.rule.specs.Rule.{recordLength, recordWords}
-use Rattle.rule.specs.Records.{recordsFrom, recordsBytes}
-use Rattle.plan.specs.Check.{trailerLength, magic, trailerBytes, mostRules, trailerAt, countOf, startOf, distanceOf, marked, firstAt, recordsOf, accepted, inLimits, checkedUpTo, checked}
-use Rattle.seal.specs.Seal.{planBytes, givenCount, given, roomed, sealedUpTo, sealed, inFront, outputAfter, sealedOutput}
+use Rattle.record.specs.Record.{recordLength, recordWords}
+use Rattle.record.specs.Records.{recordsFrom, recordsBytes}
+use Rattle.plan.specs.Check.{trailerLength, magic, trailerBytes, mostRules, trailerAt, countOf, startOf, distanceOf, marked, firstAt, recordsOf, accepted, inLimits, checkedUpTo, checked, planBytes}
+use Rattle.seal.specs.Seal.{givenCount, given, roomed, sealedUpTo, sealed, sealedOutput}
+use Rattle.words.specs.Front.{inFront}
+use Rattle.plan.specs.Written.{outputAfter}
 use Rattle.unseal.specs.Unseal.{wordsRoomed, unsealed, wordsAfter, unsealedOutput}
 use Rattle.plan.proofs.Sound.{Plan, checked-plan}
-use Rattle.rule.proofs.Records.{records-length}
-use Rattle.rule.proofs.RecordBytes.{Bytes, records-take, records-bytes}
+use Rattle.record.proofs.Records.{records-length}
+use Rattle.record.proofs.RecordBytes.{Bytes, records-take, records-bytes}
 use Rattle.plan.proofs.TrailerBytes.{length-trailerBytes, written-records, written-checked, last-parts, same-lists}
 use Rattle.seal.proofs.Sealed.{Sealed, sealed-facts, sealAnswer, sealed-answer}
 

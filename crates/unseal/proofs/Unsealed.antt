@@ -7,13 +7,13 @@ use lib.ListN.{length}
 use mathlib.Core.Bool.{true, false}
 use lib.Dec.{leb}
 use Rattle.words.specs.Number.{wordCount}
-use Rattle.rule.specs.declared.Record.{Record}
+use Rattle.record.specs.declared.Record.{Record}
 use Rattle.refusal.specs.declared.Refusal.{Refusal}
 use Rattle.plan.specs.declared.Checked.{Checked}
-use Rattle.rule.specs.Rule.{recordLength, recordWords}
-use Rattle.rule.specs.Records.{recordsFrom, recordsBytes}
+use Rattle.record.specs.Record.{recordLength, recordWords}
+use Rattle.record.specs.Records.{recordsFrom, recordsBytes}
 use Rattle.plan.specs.Check.{trailerLength, mostRules, trailerAt, distanceOf, recordsOf, checked}
-use Rattle.seal.specs.Seal.{inFront}
+use Rattle.words.specs.Front.{inFront}
 use Rattle.unseal.specs.Unseal.{wordsRoomed, unsealed, wordsAfter, unsealedOutput}
 use Rattle.plan.proofs.Sound.{checked-plan, plan-long, plan-first, plan-records}
 use Rattle.plan.proofs.Prefix.{prefix-checked, prefix-records}

@@ -5,11 +5,11 @@ use mathlib.Core.List.{List}
 use lib.Dec.{leb}
 use Rattle.words.specs.Number.{wordCount}
 use Rattle.refusal.specs.declared.Refusal.{Refusal}
-use Rattle.rule.specs.Rule.{recordWords}
-use Rattle.rule.specs.Records.{recordsBytes}
+use Rattle.record.specs.Record.{recordWords}
+use Rattle.record.specs.Records.{recordsBytes}
 use Rattle.plan.specs.declared.Checked.{Checked}
 use Rattle.plan.specs.Check.{recordsOf, checked}
-use Rattle.seal.specs.Seal.{inFront}
+use Rattle.words.specs.Front.{inFront}
 
 -- "As check; 11: output shorter than 4 × n words."
 unfoldable pub wordsRoomed : List ℕ → Checked → Checked

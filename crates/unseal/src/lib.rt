@@ -2,18 +2,18 @@
 use plan::Checked;
 use plan::Trailer;
 use plan::check;
+use record::Record;
 use refusal::Refusal;
-use rule::Record;
 ghost use Prim.Native.Nat.{_+_, _-_, _*_, _≤_};
 ghost use mathlib.Core.Path.{_≡_};
 ghost use mathlib.Core.List.{_++_};
 ghost use lib.ListN.{length, take, drop};
 ghost use lib.Dec.{leb};
 ghost use Rattle.words.specs.Number.{wordCount};
-ghost use Rattle.rule.specs.Rule.{recordLength, recordWords, recordBytes};
-ghost use Rattle.rule.specs.Records.{recordsFrom, recordsBytes};
+ghost use Rattle.record.specs.Record.{recordLength, recordWords, recordBytes};
+ghost use Rattle.record.specs.Records.{recordsFrom, recordsBytes};
 ghost use Rattle.plan.specs.Check.{trailerLength};
-ghost use Rattle.seal.specs.Seal.{inFront};
+ghost use Rattle.words.specs.Front.{inFront};
 ghost use Rattle.unseal.specs.Unseal.{unsealed, unsealedOutput};
 
 // Unseal: the rule words of a plan. Refused, nothing is written.

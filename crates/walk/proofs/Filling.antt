@@ -6,8 +6,9 @@ use mathlib.Core.List.{List}
 use lib.ListN.{length, take}
 use lib.Seq.{length-take-le}
 use Rattle.rule.specs.declared.Rule.{Rule}
-use Rattle.rule.specs.Rule.{recordLength}
-use Rattle.rule.specs.Records.{recordsFrom, rulesIn}
+use Rattle.record.specs.Record.{recordLength}
+use Rattle.record.specs.Records.{recordsFrom}
+use Rattle.rule.specs.Rule.{rulesIn}
 use Rattle.plan.specs.Check.{rulesOf, trailerLength, mostRules}
 use Rattle.rule.specs.Sound.{Sound}
 use Rattle.plan.proofs.Sound.{Plan, checked-plan, plan-long}

@@ -11,7 +11,7 @@ use borrow.Author.Tests.{leb-true}
 use Rattle.words.specs.Number.{wordCount}
 use Rattle.refusal.specs.declared.Refusal.{Refusal}
 use Rattle.plan.specs.declared.Checked.{Checked}
-use Rattle.rule.specs.Rule.{wordLength}
+use Rattle.record.specs.Record.{wordLength}
 use Rattle.plan.specs.Check.{checked, rulesOf}
 use Rattle.forest.specs.declared.Walked.{Walked}
 use Rattle.forest.specs.Outcome.{workWords, enoughWork, cleared, workAfter}

@@ -1,26 +1,16 @@
 // Where each letter leads (document 01, "Letters"), decided on the cells as they are.
-use tables::Side;
+use side::Side;
 use turns::Outcome;
 ghost use mathlib.Core.Path.{_≡_};
 ghost use Rattle.forest.specs.Walk.{cellsIn};
 ghost use Rattle.model.specs.Model.{child, sibling};
 ghost use Rattle.model.specs.Walk.{fromNode, move};
-ghost use Rattle.tables.specs.Table.{sideOf, known, In};
+ghost use Rattle.side.specs.Side.{sideOf};
+ghost use Rattle.tables.specs.Table.{known, In};
 ghost use Rattle.turns.specs.Moves.{outcome, Held};
-ghost use Rattle.ways.specs.Letters.{moveOf};
+ghost use Rattle.letter.specs.declared.Letter.{Letter};
+ghost use Rattle.letter.specs.Letter.{moveOf};
 ghost use Rattle.ways.specs.Standing.{Stands};
-
-// A letter.
-pub enum Letter {
-    A,
-    Z,
-    F,
-    L,
-    N,
-    P,
-    U,
-    S,
-}
 
 // The first or last child of the node with rule p that k cells lead to, nowhere above the forest.
 fn to_child(table: &[u8], cursor: &[u8], k: usize, p: u16, side: Side) -> Outcome

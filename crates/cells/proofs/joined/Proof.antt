@@ -6,7 +6,7 @@ use denote.Ref.{now}
 use Rattle.forest.specs.Place.{cellRun}
 use Rattle.forest.specs.Walk.{cellAt, cellsIn}
 use Rattle.cells.specs.declared.Cell.{Cell as Words}
-use Rattle.tables.specs.Table.{sideOf}
+use Rattle.side.specs.Side.{sideOf}
 use Rattle.cells.specs.Cells.{cell}
 use Rattle.cells.specs.Changes.{add}
 use Rattle.cells.proofs.Stack.{top-kind, begins-none, begins-other, grows-top}

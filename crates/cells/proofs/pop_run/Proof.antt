@@ -7,7 +7,7 @@ use Rattle.forest.specs.Place.{cellRun}
 use Rattle.forest.specs.Walk.{cellAt}
 use Rattle.model.specs.Model.{popRun}
 use Rattle.cells.proofs.Stack.{cells-none, cells-top, top-kind}
-use Rattle.tables.specs.Table.{sideOf}
+use Rattle.side.specs.Side.{sideOf}
 use borrow.Author.Needs.{needs}
 use Rattle.cells.proofs.pop_run.Statement.{statement}
 use Rattle.cells.proofs.pop_run.Tie as tie

@@ -1,5 +1,5 @@
 -- A left run is dropped, then the cell under it. Assumes nothing.
-use Rattle.tables.specs.Table.{sideOf}
+use Rattle.side.specs.Side.{sideOf}
 use mathlib.Core.Path.{ap, _∙_}
 use native.Mathlib.Omega.{arith}
 use denote.Ref.{now}

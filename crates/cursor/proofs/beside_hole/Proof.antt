@@ -2,13 +2,13 @@
 use mathlib.Core.Path.{sym, ap, _∙_}
 use denote.Ref.{now}
 use Rattle.rule.specs.declared.Rule.{Rule}
-use Rattle.forest.proofs.Position.{other, pick}
+use Rattle.forest.proofs.Position.{other, pick, picked}
 use Rattle.model.specs.Model.{enter, besideHole}
-use Rattle.tables.specs.Table.{known, In, sideOf}
+use Rattle.tables.specs.Table.{known, In}
+use Rattle.side.specs.Side.{sideOf}
 use Rattle.cells.specs.Changes.{stemCells}
 use Rattle.turns.specs.Moves.{outcome}
 use Rattle.tables.proofs.Closes.{named-arms}
-use Rattle.tables.proofs.Ready.{picked}
 use Rattle.tables.proofs.Rules.{other-hole}
 use borrow.Author.Needs.{needs}
 use Rattle.cursor.proofs.beside_hole.Statement.{statement}

@@ -5,12 +5,12 @@ use denote.Ref.{now}
 use Rattle.rule.specs.declared.Rule.{Rule}
 use Rattle.forest.specs.Place.{rowOfNode, rowOfPart}
 use Rattle.forest.specs.Walk.{cellsIn}
-use Rattle.forest.proofs.Position.{orElse}
+use Rattle.forest.proofs.Position.{orElse, picked}
 use Rattle.model.specs.Model.{enter, inward, child, childOf}
-use Rattle.tables.specs.Table.{known, In, sideOf}
+use Rattle.tables.specs.Table.{known, In}
+use Rattle.side.specs.Side.{sideOf}
 use Rattle.turns.specs.Moves.{outcome}
 use Rattle.tables.proofs.Closes.{named-under, named-arms}
-use Rattle.tables.proofs.Ready.{picked}
 use Rattle.tables.proofs.Rules.{other-child}
 use borrow.Author.Needs.{needs}
 use Rattle.cursor.proofs.child.Statement.{statement}

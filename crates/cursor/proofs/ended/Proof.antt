@@ -3,7 +3,8 @@ use mathlib.Core.Path.{sym, ap, _∙_}
 use native.Mathlib.Omega.{arith}
 use denote.Ref.{now}
 use Rattle.forest.specs.Place.{rowOfPart}
-use Rattle.tables.specs.Table.{known, sideOf}
+use Rattle.tables.specs.Table.{known}
+use Rattle.side.specs.Side.{sideOf}
 use Rattle.turns.specs.Moves.{outcome}
 use Rattle.cells.proofs.Stack.{top-one}
 use Rattle.turns.proofs.Held.{held-less}

@@ -4,7 +4,8 @@ use mathlib.Core.Option.{some}
 use denote.Ref.{now}
 use Rattle.forest.specs.Walk.{cellsIn}
 use Rattle.model.specs.Model.{Node, besideTop, opened, ended}
-use Rattle.tables.specs.Table.{known, In, sideOf}
+use Rattle.tables.specs.Table.{known, In}
+use Rattle.side.specs.Side.{sideOf}
 use Rattle.cells.specs.Changes.{add, stemCells, stemNode}
 use Rattle.turns.specs.Moves.{outcome}
 use Rattle.turns.proofs.Held.{held-less}

@@ -3,7 +3,8 @@ use mathlib.Core.Path.{sym, _∙_}
 use denote.Ref.{now}
 use Rattle.forest.specs.Walk.{cellsIn}
 use Rattle.model.specs.Model.{enter, inward}
-use Rattle.tables.specs.Table.{known, sideOf}
+use Rattle.tables.specs.Table.{known}
+use Rattle.side.specs.Side.{sideOf}
 use Rattle.turns.specs.Moves.{outcome}
 use Rattle.turns.proofs.Outcomes.{took, took-none, else-some, else-none}
 use borrow.Author.Needs.{needs}

@@ -4,7 +4,8 @@ use denote.Ref.{now}
 use Rattle.forest.specs.Place.{rowOfNode}
 use Rattle.forest.specs.Walk.{cellsIn}
 use Rattle.model.specs.Model.{enter, root}
-use Rattle.tables.specs.Table.{known, sideOf}
+use Rattle.tables.specs.Table.{known}
+use Rattle.side.specs.Side.{sideOf}
 use borrow.Author.Needs.{needs}
 use Rattle.cursor.proofs.root.Statement.{statement}
 use Rattle.cursor.proofs.root.Tie as tie

@@ -3,7 +3,8 @@ use mathlib.Core.Path.{sym, ap, _∙_}
 use denote.Ref.{now}
 use Rattle.forest.specs.Walk.{cellsIn}
 use Rattle.model.specs.Model.{follow}
-use Rattle.tables.specs.Table.{known, In, sideOf}
+use Rattle.tables.specs.Table.{known, In}
+use Rattle.side.specs.Side.{sideOf}
 use Rattle.cells.specs.Changes.{stemNode}
 use Rattle.turns.proofs.Held.{held-less}
 use Rattle.turns.proofs.Kept.{found-rule, outward-kept}

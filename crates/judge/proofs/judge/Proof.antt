@@ -4,7 +4,7 @@ use Prim.Native.Nat.{_-_, _≤_}
 use mathlib.Core.Path.{_≡_, sym, _∙_}
 use native.Mathlib.Omega.{arith}
 use borrow.Author.Needs.{needs}
-use Rattle.rule.specs.Records.{recordsFrom}
+use Rattle.record.specs.Records.{recordsFrom}
 use Rattle.judge.specs.Judge.{rulesJudged, startJudged, judged}
 use Rattle.judge.proofs.Judging.{rules-fine, rules-refused, rules-none, rules-all}
 use Rattle.judge.proofs.judge.Statement.{statement}

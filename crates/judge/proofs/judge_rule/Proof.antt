@@ -2,7 +2,7 @@
 use mathlib.Core.Path.{_≡_, sym, ap, _∙_}
 use denote.Ref.{now}
 use borrow.Author.Needs.{needs}
-use Rattle.rule.specs.Records.{recordsFrom}
+use Rattle.record.specs.Records.{recordsFrom}
 use Rattle.judge.specs.Judge.{namesJudged, ruleJudged}
 use Rattle.judge.proofs.Judging.{rule-decoded, names-malformed, names-whole}
 use Rattle.judge.proofs.judge_rule.Statement.{statement}

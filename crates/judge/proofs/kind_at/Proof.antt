@@ -2,7 +2,8 @@
 use mathlib.Core.Path.{sym, _∙_}
 use denote.Ref.{now}
 use borrow.Author.Needs.{needs}
-use Rattle.rule.proofs.Records.{kind-at, kind-past}
+use Rattle.record.proofs.Records.{kind-at}
+use Rattle.rule.proofs.Rules.{kind-past}
 use Rattle.judge.proofs.kind_at.Statement.{statement}
 use Rattle.judge.proofs.kind_at.Tie as tie
 

@@ -6,7 +6,7 @@ use lib.ListN.{length, drop}
 use borrow.Author.Needs.{needs}
 use Rattle.forest.specs.Walk.{firstOther}
 use denote.Ref.{now}
-use Rattle.letters.specs.Letters.{readAs}
+use Rattle.letter.specs.Letter.{readAs}
 use Rattle.lent.specs.Found.{foundAt}
 use Rattle.lent.proofs.Bytes.{other-here, other-later, other-none}
 use Rattle.lent.proofs.first_other.Statement.{statement}

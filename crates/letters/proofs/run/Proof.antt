@@ -3,7 +3,7 @@ use Prim.Native.Nat.{_≤_, _-_}
 use native.Mathlib.Omega.{arith}
 use mathlib.Core.Path.{sym, ap, _∙_}
 use lib.ListN.{length}
-use Rattle.letters.specs.Letters.{readAs}
+use Rattle.letter.specs.Letter.{readAs}
 use Rattle.ways.proofs.Stands.{answer-small}
 use Rattle.letters.proofs.Letters.{Partway, partway-none, partway-more, ran-all, ran-other}
 use borrow.Author.Needs.{needs}

@@ -7,7 +7,7 @@ use lib.ListN.{length}
 use denote.Ref.{now}
 use borrow.Author.Tests.{not-true, not-false}
 use borrow.Author.Needs.{needs}
-use Rattle.rule.specs.Rule.{recordLength}
+use Rattle.record.specs.Record.{recordLength}
 use Rattle.plan.specs.Check.{trailerLength, mostRules, accepted, checked}
 use Rattle.plan.proofs.Checking.{trailerJudged, check-short, check-unmarked, check-trailer, reached}
 use Rattle.plan.proofs.check.Statement.{statement}

@@ -1,11 +1,11 @@
 -- The loop's invariant: rows below i hold their rules and nothing else has changed. Assumes nothing.
 use mathlib.Core.Path.{_≡_, sym, ap, _∙_}
 use denote.Ref.{now}
-use Rattle.rule.specs.Rule.{decode, ruleOf}
+use Rattle.rule.specs.Rule.{decode, ruleOf, rulesIn}
 use Rattle.rule.specs.Sound.{rule}
 use Prim.Native.Nat.{_-_, _≤_}
 use native.Mathlib.Omega.{arith}
-use Rattle.rule.specs.Records.{recordsFrom, rulesIn}
+use Rattle.record.specs.Records.{recordsFrom}
 use Rattle.rows.specs.Rows.{Loaded}
 use Rattle.rows.proofs.Rows.{loaded-none, loaded-more, rule-recorded}
 use Rattle.rows.proofs.load.Statement.{statement}

@@ -7,10 +7,11 @@ use native.Mathlib.Omega.{arith}
 use lib.ListN.{take, drop}
 use denote.Ref.{now}
 use borrow.Author.Needs.{needs}
-use Rattle.rule.specs.Rule.{recordLength, recordWords}
+use Rattle.record.specs.Record.{recordLength, recordWords}
 use Rattle.plan.specs.declared.Written.{Written}
-use Rattle.plan.specs.Check.{trailerLength, trailerBytes, mostRules}
-use Rattle.seal.specs.Seal.{planBytes, givenCount, given, sealed, outputAfter, sealedOutput}
+use Rattle.plan.specs.Check.{trailerLength, trailerBytes, mostRules, planBytes}
+use Rattle.seal.specs.Seal.{givenCount, given, sealed, sealedOutput}
+use Rattle.plan.specs.Written.{outputAfter}
 use Rattle.seal.proofs.Sealed.{Sealed, sealed-facts, seal-few, seal-given, seal-room, seal-decodes, seal-written}
 use Rattle.seal.proofs.seal.Statement.{statement}
 use Rattle.seal.proofs.seal.Tie as tie

@@ -7,7 +7,7 @@ use lib.Dec.{eqb}
 use denote.Ref.{now}
 use borrow.Author.Tests.{not-true, not-false}
 use borrow.Author.Needs.{needs}
-use Rattle.rule.specs.Rule.{recordWords}
+use Rattle.record.specs.Record.{recordWords}
 use Rattle.plan.specs.Check.{mostRules, inLimits}
 use Rattle.seal.specs.Seal.{sealed}
 use Rattle.seal.proofs.Sealed.{not-counted, counted-few, not-fine, no-room, room-enough}

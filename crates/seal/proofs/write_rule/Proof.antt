@@ -6,9 +6,10 @@ use mathlib.Core.List.{_++_}
 use lib.ListN.{take, drop}
 use denote.Ref.{now}
 use borrow.Author.Needs.{needs}
-use Rattle.rule.specs.declared.Record.{Record}
+use Rattle.record.specs.declared.Record.{Record}
 use Rattle.rule.specs.declared.Decoded.{Decoded}
-use Rattle.rule.specs.Rule.{recordLength, decode, recordAt, recordBytes}
+use Rattle.record.specs.Record.{recordLength, recordAt, recordBytes}
+use Rattle.rule.specs.Rule.{decode}
 use Rattle.rule.proofs.Decode.{encode-decode, decode-labelled}
 use Rattle.seal.proofs.write_rule.Statement.{statement}
 use Rattle.seal.proofs.write_rule.Tie as tie

@@ -5,8 +5,8 @@ use mathlib.Core.List.{List, _++_}
 use native.Mathlib.Omega.{arith}
 use lib.ListN.{length, take, drop}
 use denote.Ref.{now}
-use Rattle.rule.specs.Rule.{recordLength, recordAt, recordBytes}
-use Rattle.seal.proofs.Front.{copied, copied-none, copied-more}
+use Rattle.record.specs.Record.{recordLength, recordAt, recordBytes}
+use Rattle.record.proofs.Copied.{copied, copied-none, copied-more}
 use Rattle.seal.proofs.write_rules.Statement.{statement}
 use Rattle.seal.proofs.write_rules.Tie as tie
 

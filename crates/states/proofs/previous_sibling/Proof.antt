@@ -1,5 +1,5 @@
 -- The walk of the letters' functions, at p. Assumes nothing.
-use Rattle.ways.specs.declared.Letter.{Letter}
+use Rattle.letter.specs.declared.Letter.{Letter}
 use Rattle.states.proofs.Walked.{letter-meets}
 use Rattle.ways.proofs.to_previous_sibling.Symbol as lead
 use Rattle.ways.proofs.to_previous_sibling.Met.{met}

@@ -42,11 +42,11 @@ use denote.Signature.{plain}
 use Rattle.landing.specs.declared.Landing.{Landing}
 use Rattle.landing.proofs.Landing as landing
 use Rattle.landing.proofs.Landing.Laws as landing′
-use Rattle.ways.specs.declared.Letter.{Letter}
+use Rattle.letter.specs.declared.Letter.{Letter}
 use Rattle.states.specs.declared.Standing.{Standing}
 use Rattle.ways.specs.Standing.{Stands}
-use Rattle.ways.proofs.Letter as letter
-use Rattle.ways.proofs.Letter.Laws as letter′
+use Rattle.letter.proofs.Letter as letter
+use Rattle.letter.proofs.Letter.Laws as letter′
 use Rattle.states.proofs.Standing.Laws as T′
 use Rattle.states.proofs.Thin.{Lands}
 use Rattle.states.proofs.Arm.{pointer, slice, lent, arm-code, Rooms, bundle, unbundle, Before, After, Landed, arm}

@@ -3,7 +3,8 @@ use mathlib.Core.Path.{sym, ap, _∙_}
 use native.Mathlib.Omega.{arith}
 use denote.Ref.{now}
 use Rattle.model.specs.Stored.{State, reaches, afterRun}
-use Rattle.tables.specs.Table.{sideOf, known, In}
+use Rattle.side.specs.Side.{sideOf}
+use Rattle.tables.specs.Table.{known, In}
 use Rattle.stored.specs.declared.State.{State as CodeState}
 use Rattle.stored.specs.States.{maybe, stateOf}
 use Rattle.stored.proofs.States.{at-has, unreached, run-again, run-elsewhere, run-short, run-fits, other-after-run}

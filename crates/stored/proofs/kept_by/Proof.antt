@@ -1,5 +1,5 @@
 -- Each arm of the match is a clause of the definition. Assumes nothing.
-use Rattle.tables.specs.Table.{sideOf}
+use Rattle.side.specs.Side.{sideOf}
 use Rattle.model.specs.Stored.{keptBy}
 use borrow.Author.Needs.{needs}
 use Rattle.stored.proofs.kept_by.Statement.{statement}

@@ -5,7 +5,8 @@ use mathlib.Core.Option.{Option}
 use denote.Ref.{now}
 use Rattle.forest.specs.Place.{Side, cellRun}
 use Rattle.model.specs.Stored.{afterRow, next}
-use Rattle.tables.specs.Table.{sideOf, known, In}
+use Rattle.side.specs.Side.{sideOf}
+use Rattle.tables.specs.Table.{known, In}
 use Rattle.cells.specs.Cells.{words}
 use Rattle.stored.specs.States.{stateOf, afterSpine}
 use Rattle.stored.proofs.States.{row-in-has, form-three, form-row, form-spine, form-two, form-run, form-else}

@@ -5,7 +5,8 @@ use mathlib.Core.Path.{_≡_, refl, sym, ap, _∙_}
 use native.Mathlib.Omega.{arith}
 use denote.Ref.{now}
 use Rattle.model.specs.Run.{along}
-use Rattle.tables.specs.Table.{sideOf, In, known}
+use Rattle.side.specs.Side.{sideOf}
+use Rattle.tables.specs.Table.{In, known}
 use Rattle.tables.proofs.Climb.{Onward, jump-onward, step-falls, step-onward, still}
 use Rattle.tables.proofs.level.Statement.{statement}
 use Rattle.tables.proofs.level.Tie as tie

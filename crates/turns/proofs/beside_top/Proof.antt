@@ -6,7 +6,8 @@ use mathlib.Core.Option.{some}
 use Rattle.forest.specs.Place.{cellRun}
 use Rattle.forest.proofs.Position.{other}
 use Rattle.model.specs.Model.{Node}
-use Rattle.tables.specs.Table.{known, sideOf}
+use Rattle.tables.specs.Table.{known}
+use Rattle.side.specs.Side.{sideOf}
 use Rattle.turns.specs.Moves.{reached}
 use Rattle.cells.proofs.Stack.{top-kind}
 use Rattle.turns.proofs.Turns.{beside-none, beside-turns, beside-other}

@@ -5,7 +5,8 @@ use mathlib.Core.Option.{some}
 use denote.Ref.{now}
 use Rattle.forest.specs.Place.{cellRow}
 use Rattle.model.specs.Model.{Node, opened}
-use Rattle.tables.specs.Table.{known, sideOf}
+use Rattle.tables.specs.Table.{known}
+use Rattle.side.specs.Side.{sideOf}
 use Rattle.cells.specs.Cells.{cell, runCell}
 use Rattle.cells.specs.Changes.{add, stemCells}
 use Rattle.turns.specs.Moves.{outcome}

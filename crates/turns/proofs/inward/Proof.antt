@@ -6,7 +6,8 @@ use denote.Ref.{now}
 use Rattle.forest.specs.Place.{Cells, Side}
 use Rattle.forest.specs.Walk.{cellsIn}
 use Rattle.model.specs.Model.{Node, besideTop, opened, continuing}
-use Rattle.tables.specs.Table.{sideOf, known}
+use Rattle.side.specs.Side.{sideOf}
+use Rattle.tables.specs.Table.{known}
 use Rattle.turns.specs.Moves.{outcome}
 use Rattle.turns.proofs.Held.{held-less}
 use Rattle.turns.proofs.Outcomes.{found, found-none, inward-part, inward-off}

@@ -2,7 +2,8 @@
 use mathlib.Core.Path.{_∙_}
 use denote.Ref.{now}
 use Rattle.forest.specs.Place.{Side}
-use Rattle.tables.specs.Table.{sideOf, known}
+use Rattle.side.specs.Side.{sideOf}
+use Rattle.tables.specs.Table.{known}
 use Rattle.cells.specs.Cells.{runCell}
 use Rattle.cells.specs.Changes.{add, stemCells, changed, changeNode}
 use Rattle.tables.proofs.Closes.{outer-has}

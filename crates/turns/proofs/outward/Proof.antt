@@ -5,7 +5,8 @@ use denote.Ref.{now}
 use Rattle.forest.specs.Place.{Side}
 use Rattle.forest.specs.Walk.{cellsIn}
 use Rattle.model.specs.Model.{besideTop, partAt, tail}
-use Rattle.tables.specs.Table.{sideOf, known}
+use Rattle.side.specs.Side.{sideOf}
+use Rattle.tables.specs.Table.{known}
 use Rattle.turns.specs.Moves.{reached}
 use Rattle.turns.proofs.Held.{held-less}
 use Rattle.turns.proofs.Outcomes.{found, found-none, outward-part, outward-off}

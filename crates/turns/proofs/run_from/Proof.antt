@@ -3,7 +3,7 @@ use Prim.Native.Nat.{ℕ}
 use mathlib.Core.Path.{ap, sym, _∙_}
 use borrow.Author.Tests.{eq-eqb, ne-eqb}
 use Rattle.forest.specs.Place.{cellRun}
-use Rattle.tables.specs.Table.{sideOf}
+use Rattle.side.specs.Side.{sideOf}
 use Rattle.cells.specs.Cells.{cell, runCell}
 use borrow.Author.Needs.{needs}
 use Rattle.turns.proofs.run_from.Statement.{statement}

@@ -7,7 +7,8 @@ use Rattle.forest.specs.Place.{step}
 use Rattle.forest.specs.Walk.{cellAt, cellsIn}
 use Rattle.forest.proofs.Position.{other}
 use Rattle.cells.specs.declared.Cell.{Cell as Words}
-use Rattle.tables.specs.Table.{known, sideOf}
+use Rattle.tables.specs.Table.{known}
+use Rattle.side.specs.Side.{sideOf}
 use Rattle.cells.specs.Cells.{cell}
 use Rattle.cells.specs.Changes.{add, stepCells}
 use Rattle.cells.proofs.Stack.{top-one, top-two}

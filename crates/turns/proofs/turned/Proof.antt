@@ -5,7 +5,8 @@ use Rattle.forest.specs.Place.{step}
 use Rattle.forest.specs.Walk.{cellsIn}
 use Rattle.forest.proofs.Position.{other}
 use Rattle.model.specs.Model.{oneAbove, shrunk}
-use Rattle.tables.specs.Table.{known, sideOf}
+use Rattle.tables.specs.Table.{known}
+use Rattle.side.specs.Side.{sideOf}
 use Rattle.cells.specs.Cells.{runCell}
 use Rattle.cells.specs.Changes.{add, stepCells, stemCells, stemNode}
 use Rattle.turns.specs.Moves.{aboveTop}

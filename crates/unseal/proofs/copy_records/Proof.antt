@@ -5,10 +5,10 @@ use mathlib.Core.List.{List, _++_}
 use native.Mathlib.Omega.{arith}
 use lib.ListN.{length, take, drop}
 use denote.Ref.{now}
-use Rattle.rule.specs.declared.Record.{Record}
-use Rattle.rule.specs.Rule.{recordLength, recordBytes}
+use Rattle.record.specs.declared.Record.{Record}
+use Rattle.record.specs.Record.{recordLength, recordBytes}
 use Rattle.plan.specs.Check.{trailerLength}
-use Rattle.seal.proofs.Front.{copied, copied-none, copied-more}
+use Rattle.record.proofs.Copied.{copied, copied-none, copied-more}
 use Rattle.unseal.proofs.copy_records.Statement.{statement}
 use Rattle.unseal.proofs.copy_records.Tie as tie
 

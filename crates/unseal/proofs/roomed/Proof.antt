@@ -3,7 +3,7 @@ use Prim.Native.Nat.{_*_}
 use mathlib.Core.Path.{ap}
 use lib.Dec.{leb}
 use borrow.Author.Needs.{needs}
-use Rattle.rule.specs.Rule.{recordWords}
+use Rattle.record.specs.Record.{recordWords}
 use Rattle.unseal.proofs.roomed.Statement.{statement}
 use Rattle.unseal.proofs.roomed.Tie as tie
 

@@ -8,7 +8,7 @@ use denote.Ref.{now}
 use borrow.Author.Tests.{not-true, not-false, leb-true}
 use borrow.Author.Needs.{needs}
 use Rattle.words.specs.Number.{wordCount}
-use Rattle.rule.specs.Rule.{recordWords}
+use Rattle.record.specs.Record.{recordWords}
 use Rattle.plan.specs.declared.Checked.{Checked}
 use Rattle.plan.specs.Check.{checked}
 use Rattle.unseal.proofs.Unsealed.{unsealed-refused, unsealed-no-room, unsealed-roomed, unsealed-long}

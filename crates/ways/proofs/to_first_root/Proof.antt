@@ -1,8 +1,8 @@
 -- The root on the left. Assumes nothing.
 use denote.Ref.{now}
-use Rattle.tables.specs.Table.{sideOf}
+use Rattle.side.specs.Side.{sideOf}
 use Rattle.model.specs.Walk.{move}
-use Rattle.ways.specs.Letters.{moveOf}
+use Rattle.letter.specs.Letter.{moveOf}
 use Rattle.ways.proofs.Stands.{table-held, walked-in}
 use Rattle.ways.proofs.to_first_root.Statement.{statement}
 use Rattle.ways.proofs.to_first_root.Tie as tie

@@ -1,7 +1,7 @@
 -- The child on the right. Assumes nothing.
-use Rattle.tables.specs.Table.{sideOf}
+use Rattle.side.specs.Side.{sideOf}
 use Rattle.model.specs.Walk.{move}
-use Rattle.ways.specs.Letters.{moveOf}
+use Rattle.letter.specs.Letter.{moveOf}
 use Rattle.ways.proofs.Stands.{held, at-rule}
 use Rattle.ways.proofs.to_last_child.Statement.{statement}
 use Rattle.ways.proofs.to_last_child.Tie as tie

@@ -3,7 +3,7 @@ use mathlib.Core.Path.{_∙_}
 use denote.Ref.{now}
 use Rattle.model.specs.Walk.{move}
 use Rattle.turns.specs.Moves.{outcome}
-use Rattle.ways.specs.Letters.{moveOf}
+use Rattle.letter.specs.Letter.{moveOf}
 use Rattle.ways.proofs.Stands.{held, from-none, from-cells}
 use Rattle.ways.proofs.to_parent.Statement.{statement}
 use Rattle.ways.proofs.to_parent.Tie as tie

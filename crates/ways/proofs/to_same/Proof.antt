@@ -3,7 +3,7 @@ use mathlib.Core.Path.{_∙_}
 use denote.Ref.{now}
 use Rattle.model.specs.Walk.{move}
 use Rattle.turns.specs.Moves.{outcome}
-use Rattle.ways.specs.Letters.{moveOf}
+use Rattle.letter.specs.Letter.{moveOf}
 use Rattle.ways.proofs.Stands.{from-none, from-cells}
 use borrow.Author.Needs.{needs}
 use Rattle.ways.proofs.to_same.Statement.{statement}

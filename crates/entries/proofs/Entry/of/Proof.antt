@@ -1,5 +1,5 @@
 -- Each part is that of `entryOf`. Assumes nothing.
-use Rattle.tables.specs.Table.{sideOf}
+use Rattle.side.specs.Side.{sideOf}
 use Rattle.entries.specs.Entry.{entryOf}
 use borrow.Author.Needs.{needs}
 use Rattle.entries.proofs.Entry.of.Statement.{statement}

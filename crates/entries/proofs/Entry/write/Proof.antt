@@ -5,7 +5,8 @@ use mathlib.Core.List.{List}
 use Rattle.forest.specs.Place.{Side}
 use Rattle.entries.specs.declared.Entry.{Entry}
 use Rattle.rows.specs.Rows.{putField}
-use Rattle.tables.specs.Table.{sideOf, atRepresentative, atEmptiness, putLink}
+use Rattle.side.specs.Side.{sideOf}
+use Rattle.tables.specs.Table.{atRepresentative, atEmptiness, putLink}
 use Rattle.entries.specs.Entry.{flag, putEntry}
 use borrow.Author.Needs.{needs}
 use Rattle.entries.proofs.Entry.write.Statement.{statement}

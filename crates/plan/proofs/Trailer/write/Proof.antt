@@ -6,7 +6,7 @@ use native.Mathlib.Omega.{arith}
 use lib.ListN.{set}
 use denote.Ref.{now}
 use Rattle.words.specs.Number.{put}
-use Rattle.rule.specs.Rule.{recordLength}
+use Rattle.record.specs.Record.{recordLength}
 use Rattle.plan.proofs.TrailerBytes.{put-trailer}
 use borrow.Author.Needs.{needs}
 use Rattle.plan.proofs.Trailer.write.Statement.{statement}

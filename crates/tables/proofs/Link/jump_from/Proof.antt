@@ -6,7 +6,8 @@ use mathlib.Core.List.{List}
 use denote.Ref.{now}
 use lib.Dec.{eqb, ltb}
 use Rattle.forest.specs.Place.{Side}
-use Rattle.tables.specs.Table.{known, sideOf, linkIn, In}
+use Rattle.tables.specs.Table.{known, linkIn, In}
+use Rattle.side.specs.Side.{sideOf}
 use Rattle.tables.specs.Build.{jumpOver, jumpFrom, Steps}
 use borrow.Author.Needs.{needs}
 use Rattle.tables.proofs.Link.jump_from.Statement.{statement}

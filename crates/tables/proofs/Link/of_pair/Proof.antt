@@ -1,7 +1,8 @@
 -- The tests for emptiness are those of `linkPair`. Assumes nothing.
 use mathlib.Core.Path.{sym, ap, _∙_}
 use denote.Ref.{now}
-use Rattle.tables.specs.Table.{known, sideOf}
+use Rattle.tables.specs.Table.{known}
+use Rattle.side.specs.Side.{sideOf}
 use Rattle.tables.specs.Build.{linkFrom, linkPair}
 use borrow.Author.Needs.{needs}
 use Rattle.tables.proofs.Link.of_pair.Statement.{statement}

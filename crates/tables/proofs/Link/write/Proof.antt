@@ -9,8 +9,8 @@ use borrow.Author.Needs.{needs}
 use Rattle.tables.proofs.Link.write.Statement.{statement}
 use Rattle.tables.proofs.Link.write.Tie as tie
 
-link-requires : tie.Need-link-requires
-link-requires c κs = search needs
+link-offset-requires : tie.Need-link-offset-requires
+link-offset-requires c κs = search needs
 
 add-put16 : tie.Need-add-put16
 add-put16 c = search needs
@@ -44,16 +44,16 @@ unfolding putLink putLinkAt
 returns c =
     let a = c .before .before .before .before .before .before .before .before .before .before .before .before .before .before .before .before .before .before .args in
     c .before .before .put164 .ensures
-    ∙ ap (λ (l : List ℕ). putField 2 l (a .r) (c .before .before .before .before .before .before .before .before .before .before .before .before .before .before .before .before .link .result + atJump) (a .self .jump)) (c .before .before .before .before .before .before .put163 .ensures
-    ∙ ap (λ (l : List ℕ). putField 2 l (a .r) (c .before .before .before .before .before .before .before .before .before .before .before .before .before .before .before .before .link .result + atDepth) (a .self .depth)) (c .before .before .before .before .before .before .before .before .before .before .put162 .ensures
-    ∙ ap (λ (l : List ℕ). putField 2 l (a .r) (c .before .before .before .before .before .before .before .before .before .before .before .before .before .before .before .before .link .result + atLast) (a .self .last)) (c .before .before .before .before .before .before .before .before .before .before .before .before .before .before .put16 .ensures)))
-    ∙ ap (λ (o : ℕ). putLinkAt (now (a .work)) o (a .r) (a .self)) (c .before .before .before .before .before .before .before .before .before .before .before .before .before .before .before .before .link .ensures .at)
+    ∙ ap (λ (l : List ℕ). putField 2 l (a .r) (c .before .before .before .before .before .before .before .before .before .before .before .before .before .before .before .before .link-offset .result + atJump) (a .self .jump)) (c .before .before .before .before .before .before .put163 .ensures
+    ∙ ap (λ (l : List ℕ). putField 2 l (a .r) (c .before .before .before .before .before .before .before .before .before .before .before .before .before .before .before .before .link-offset .result + atDepth) (a .self .depth)) (c .before .before .before .before .before .before .before .before .before .before .put162 .ensures
+    ∙ ap (λ (l : List ℕ). putField 2 l (a .r) (c .before .before .before .before .before .before .before .before .before .before .before .before .before .before .before .before .link-offset .result + atLast) (a .self .last)) (c .before .before .before .before .before .before .before .before .before .before .before .before .before .before .put16 .ensures)))
+    ∙ ap (λ (o : ℕ). putLinkAt (now (a .work)) o (a .r) (a .self)) (c .before .before .before .before .before .before .before .before .before .before .before .before .before .before .before .before .link-offset .ensures .at)
 
 pub write-spec : {M : Type 1} → statement M
 write-spec =
     tie.close
     (tie.spec
-    link-requires
+    link-offset-requires
     add-put16
     put16-requires
     add-put16-2

@@ -1,0 +1,54 @@
+// A rule's record (document 01, "A plan's bytes"): four words as they stand in the bytes.
+ghost use mathlib.Core.Path.{_≡_};
+ghost use mathlib.Core.List.{_++_};
+ghost use Prim.Native.Nat.{_+_, _≤_};
+ghost use lib.ListN.{length, take, drop};
+ghost use Rattle.record.specs.Record.{recordLength, recordAt, recordBytes};
+
+// The four 16-bit words of a rule.
+pub struct Record {
+    pub kind: u16,
+    pub one: u16,
+    pub two: u16,
+    pub three: u16,
+}
+
+impl Record {
+    // Bytes and words of a record, and where its later words begin.
+    pub const LENGTH: usize = 8;
+
+    pub const WORDS: usize = 4;
+
+    const ONE: usize = 2;
+
+    const TWO: usize = 4;
+
+    const THREE: usize = 6;
+
+    // What an unused word holds.
+    pub const UNUSED: u16 = 0;
+
+    // The record whose bytes begin at an offset.
+    pub fn read(s: &[u8], at: usize) -> Record
+        requires { ⌜ at + recordLength ≤ length (now s) ⌝ }
+        ensures { λ r. ⌜ r ≡ recordAt (now (s .entry)) at ⌝ }
+    {
+        Record {
+            kind: words::read16(s, at),
+            one: words::read16(s, at + Record::ONE),
+            two: words::read16(s, at + Record::TWO),
+            three: words::read16(s, at + Record::THREE),
+        }
+    }
+
+    // The record's bytes, into the slice from an offset on.
+    pub fn write(self, s: &mut [u8], at: usize)
+        requires { ⌜ at + recordLength ≤ length (now s) ⌝ }
+        ensures { λ r. ⌜ now (s .exit) ≡ take at (now (s .entry)) ++ (recordBytes self ++ drop (at + recordLength) (now (s .entry))) ⌝ }
+    {
+        words::write16(s, at, self.kind);
+        words::write16(s, at + Record::ONE, self.one);
+        words::write16(s, at + Record::TWO, self.two);
+        words::write16(s, at + Record::THREE, self.three);
+    }
+}

@@ -1,3 +1,0 @@
-pub mod EmptyRules
-pub mod Resealed
-pub mod Bytes
