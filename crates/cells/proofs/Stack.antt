@@ -13,7 +13,8 @@ use Rattle.forest.specs.Walk.{cellAt, cellsIn}
 use Rattle.forest.proofs.Position.{other}
 use Rattle.model.specs.Facts.{Facts}
 use Rattle.model.specs.Model.{along, oneAbove, run, belowRow}
-use Rattle.model.proofs.Cells.{by-bool, topKind, topKind-step, step-begins}
+use Rattle.forest.proofs.Cases.{by-bool}
+use Rattle.model.proofs.Cells.{topKind, topKind-step, step-begins}
 use Rattle.cells.specs.declared.Cell.{Cell as Words}
 use Rattle.cells.specs.Cells.{words, cell, noCell, runCell}
 use Rattle.cells.specs.Changes.{add}

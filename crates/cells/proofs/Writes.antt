@@ -15,7 +15,7 @@ use Rattle.rows.specs.Rows.{Within}
 use Rattle.rows.proofs.Rows.{within-none, within-both, within-wider}
 use Rattle.forest.specs.Place.{Cells}
 use Rattle.forest.specs.Walk.{cellLength, cellAt, cellsIn}
-use Rattle.model.proofs.Cells.{by-bool}
+use Rattle.forest.proofs.Cases.{by-bool}
 use Rattle.cells.specs.declared.Cell.{Cell as Words}
 use Rattle.cells.specs.declared.Stem.{Stem}
 use Rattle.cells.specs.declared.Change.{Change}

@@ -1,23 +1,18 @@
 -- Demand 3 over a list of calls, from what each call comes to: by induction over the list, with the cursor at the finger's path
 -- before each call. Assumes nothing.
-use Prim.Native.Nat.{ℕ, _*_, _≤_}
+use Prim.Native.Nat.{ℕ}
 use mathlib.Core.Path.{_≡_, refl, sym, ap, ap₂, _∙_, subst}
-use mathlib.Core.Bool.{Bool, true, false, cond, not, _||_, false≢true}
+use mathlib.Core.Bool.{Bool, true, false, _||_, false≢true}
 use mathlib.Core.List.{List, [], _∷_, _++_, map, map-append}
-use mathlib.Core.Option.{Option}
-use lib.ListN.{length}
 use Rattle.plan.specs.declared.Checked.{Checked}
 use Rattle.plan.specs.Check.{checked, rulesOf}
 use Rattle.forest.specs.Forest.{Forest, forest}
 use Rattle.forest.specs.Place.{Placed, placedForest}
-use Rattle.forest.specs.Letter.{Letter, isRoot}
-use Rattle.forest.specs.Reference.{Path, labelAt, moved, answers, pathAfter}
-use Rattle.forest.specs.Walk.{lettersOf, cellAt, cellsIn, usedCells, placeAt, cellsOf, answerWord}
-use Rattle.forest.proofs.Forget.{label}
-use Rattle.forest.proofs.Relabel.{moved-relabel}
+use Rattle.forest.specs.Reference.{Path, labelAt, answers, pathAfter}
+use Rattle.forest.specs.Walk.{lettersOf, cellsIn, usedCells, placeAt, cellsOf, answerWord}
 use Rattle.forest.proofs.Steps.{Named}
-use Rattle.demand.specs.Calls.{Call, Left, lent, walkOf, lefts, cursorAfterCalls}
-use Rattle.demand.specs.Demand.{turnedDown, isRefused, refusals, fingerPath, fingerAnswers, wordsFrom, walkAnswers, someAccepted, ClearPast, Above, SameButSixteen, Meets, Demand3}
+use Rattle.demand.specs.Calls.{Call, lent, walkOf, lefts, cursorAfterCalls}
+use Rattle.demand.specs.Demand.{turnedDown, refusals, fingerPath, fingerAnswers, walkAnswers, someAccepted, ClearPast, Above, SameButSixteen, Meets, Demand3}
 use Rattle.demand.proofs.Walkable.{Walkable, Stands}
 use Rattle.demand.proofs.OneCall.{Came, one-call, named-after, same-move, place-short, stands-used}
 

@@ -1,26 +1,24 @@
 -- One call of the walk on a cursor that stands at a node: refused exactly when 8 or 9 says so, and then nothing changes; else
 -- the answers are the finger's, and the cursor stands at the node at the finger's path, with zeros past its cells.
 -- Assumes nothing.
-use Prim.Native.Nat.{ℕ, zero, suc, _+_, _-_, _*_, _≤_, _<_}
+use Prim.Native.Nat.{ℕ, _+_, _-_, _*_, _≤_}
 use native.Mathlib.Omega.{arith}
 use mathlib.Core.Path.{_≡_, refl, sym, ap, _∙_, subst}
-use mathlib.Core.Bool.{Bool, true, false, cond, not, _&&_, false≢true}
-use mathlib.Core.List.{List, [], _∷_, _++_, map}
+use mathlib.Core.Bool.{Bool, true, false, cond, _&&_, false≢true}
+use mathlib.Core.List.{List, map}
 use mathlib.Core.Option.{Option, none, some}
 use lib.ListN.{length}
 use lib.Dec.{leb, eqb}
 use borrow.Author.Tests.{le-leb, leb-true}
 use Rattle.words.specs.Number.{wordCount}
-use Rattle.rule.specs.declared.Rule.{Rule}
 use Rattle.refusal.specs.declared.Refusal.{Refusal}
 use Rattle.plan.specs.declared.Checked.{Checked}
 use Rattle.record.specs.Record.{wordLength}
 use Rattle.plan.specs.Check.{checked, rulesOf}
-use Rattle.forest.specs.declared.Walked.{Walked}
-use Rattle.forest.specs.Forest.{Forest, forest, relabel}
-use Rattle.forest.specs.Place.{Cell, Cells, Placed, placedForest}
+use Rattle.forest.specs.Forest.{Forest, forest}
+use Rattle.forest.specs.Place.{Cell, Placed, placedForest}
 use Rattle.forest.specs.Reference.{Path, labelAt, moved, answers, pathAfter}
-use Rattle.forest.specs.Walk.{cellLength, cellWords, cursorWords, enoughLent, lettersOf, firstOther, cellAt, cellsIn, usedCells, headed, pathOf, Begun, stored, placeJudged, lettersJudged, begunFrom, begun, walked, placeAt, cellsOf, storedCursor, cursorAfter, answerWord, answersAfter, wordsBytes}
+use Rattle.forest.specs.Walk.{cellLength, cellWords, cursorWords, enoughLent, lettersOf, firstOther, cellsIn, usedCells, headed, pathOf, Begun, stored, placeJudged, lettersJudged, begunFrom, begun, walked, placeAt, cellsOf, storedCursor, cursorAfter, answerWord, answersAfter, wordsBytes}
 use Rattle.forest.specs.Letter.{Letter}
 use Rattle.forest.proofs.Forget.{label}
 use Rattle.forest.proofs.Relabel.{pathAfter-relabel, moved-relabel}

@@ -1,43 +1,26 @@
 -- The forest of an accepted plan is walkable: its rules are sound, so its nodes are the positions in an expression, each position
 -- has cells of its own, and a letter on positions is a letter on cells. Assumes nothing.
-use Prim.Native.Nat.{ℕ, zero, suc, _+_, _-_, _*_, _≤_, _<_, min}
+use Prim.Native.Nat.{ℕ, _-_, _≤_}
 use native.Mathlib.Omega.{arith}
-use mathlib.Core.Path.{_≡_, refl, sym, ap, _∙_, subst}
-use mathlib.Core.Bool.{Bool, true, false, cond, not, _&&_}
-use mathlib.Core.List.{List, [], _∷_}
-use mathlib.Core.Option.{Option, none, some, Option·map, Option·none-ne-some, Option·some-injective}
-use lib.ListN.{length, drop}
-use lib.Dec.{eqb}
-use Rattle.rule.specs.declared.Rule.{Rule}
+use mathlib.Core.Path.{_≡_}
+use mathlib.Core.List.{List}
 use Rattle.plan.specs.declared.Checked.{Checked}
 use Rattle.rule.specs.Rule.{largestLabel}
-use Rattle.rule.specs.Sound.{Sound, Closed}
-use Rattle.plan.specs.Check.{checked, checkedUpTo, mostRules, rulesOf}
+use Rattle.plan.specs.Check.{checked, mostRules, rulesOf}
 use Rattle.plan.proofs.Sound.{Plan, accepted-plan}
-use Rattle.forest.specs.Expression.{Expression, expression, ruleNumber}
-use Rattle.forest.specs.Forest.{Forest, forest, relabel}
-use Rattle.forest.specs.Place.{Cell, Cells, Placed, Side, cellRun, representative, step, placedOf, placedForest}
-use Rattle.forest.specs.Letter.{Letter, isRoot}
-use Rattle.forest.specs.Reference.{Path, labelAt, tried, isAbove, answer, moved}
-use Rattle.forest.specs.Walk.{placeAt, cellsOf}
+use Rattle.forest.specs.Expression.{expression}
+use Rattle.forest.specs.Forest.{forest}
+use Rattle.forest.specs.Place.{Placed, placedOf, placedForest}
 use Rattle.forest.proofs.Good.{Sort, Good}
 use Rattle.forest.proofs.Unfold.{unfolding-equation, ruleNumber-expression, expression-known, closed-row}
 use Rattle.forest.proofs.Each.{each-labelAt}
-use Rattle.forest.proofs.Forget.{label, placedForest-forgets}
+use Rattle.forest.proofs.Forget.{placedForest-forgets}
 use Rattle.forest.proofs.Bound.{place-bound}
 use Rattle.forest.proofs.Fit.{places-fit}
 use Rattle.forest.proofs.Labels.{forest-labels}
-use Rattle.forest.proofs.Position.{Position, Located, At, Where, pick, orElse, cells, labelOf, locatedOf}
-use Rattle.forest.proofs.Cases.{by-option}
-use Rattle.forest.proofs.Steps.{Named, moved-nowhere, answer-label}
-use Rattle.forest.proofs.Finger.{answer-root, answer-child, answer-sibling, answer-parent, answer-stay, placed-labelAt, placed-moved}
-use Rattle.forest.proofs.Placed.{placedAs}
-use Rattle.forest.proofs.Nodes.{node-at}
-use Rattle.forest.proofs.Search.{Distinct}
 use Rattle.forest.proofs.Stored.{AllFitting}
 use Rattle.forest.proofs.Unique as paths
-use Rattle.model.specs.Facts.{Facts, factsOf}
-use Rattle.model.specs.Model.{Node}
+use Rattle.model.specs.Facts.{factsOf}
 use Rattle.model.specs.Walk as model
 use Rattle.model.proofs.Fit.{Fit}
 use Rattle.model.proofs.Rules.{facts-agree, rules-fit}

@@ -5,12 +5,13 @@ use native.Mathlib.Omega.{arith}
 use native.Mathlib.Decide.{decLt}
 use mathlib.Core.Path.{_≡_, refl, sym, ap, _∙_}
 use mathlib.Core.List.{List}
-use lib.ListN.{length, take, List·getD-eq-default}
+use lib.ListN.{length, take}
 use lib.Seq.{length-take-le}
 use borrow.Author.Tests.{le-ltb}
 use Rattle.words.proofs.Laws.{number-take}
 use Rattle.rule.specs.declared.Rule.{Rule}
 use Rattle.rule.specs.Sound.{rule, Sound}
+use Rattle.rule.proofs.Rules.{past-rule}
 use Rattle.forest.specs.Expression.{Expression, rhs, unfolded, expression}
 use Rattle.forest.specs.Place.{Side, isEmpty, representative}
 use Rattle.forest.proofs.Unfold.{named-below}
@@ -54,10 +55,6 @@ past-unfolded : (n : ℕ) (R : List Rule) (r : ℕ) → rule R r ≡ Rule.Empty 
 unfolding unfolded rhs
 past-unfolded zero R r e = refl
 past-unfolded (suc n) R r e = rw e
-
-past-rule : (R : List Rule) (r : ℕ) → length R ≤ r → rule R r ≡ Rule.Empty
-unfolding rule
-past-rule R r h = List·getD-eq-default R Rule.Empty h
 
 past : (R : List Rule) (r : ℕ) → length R ≤ r → expression R r ≡ Expression.empty r
 unfolding expression

@@ -26,7 +26,7 @@ use Rattle.tables.specs.Build.{jumpOver, jumpFrom, linkFrom, linkOwn, linkPair,
 use Rattle.entries.proofs.Entries.{other-entry}
 use Rattle.tables.proofs.Words.{known-isEmpty, known-representative, known-toward, known-last, known-depth}
 use Rattle.tables.proofs.Along.{leads-more, leads-copy, leads-next, leads-over}
-use Rattle.model.proofs.Cells.{by-bool}
+use Rattle.forest.proofs.Cases.{by-bool}
 use Rattle.entries.proofs.Ways.{Way, wayOf, Follows, Every, follows, way-done, representative-done, depth-rank}
 
 -- a link, and an entry, that say what is true of rule r

@@ -14,7 +14,7 @@ use Rattle.forest.specs.Place.{Side, isEmpty, representative}
 use Rattle.forest.proofs.Position.{pick, picked}
 use Rattle.forest.proofs.Unfold.{Names, named-below, named-falls, by-rank, unfolding-equation, ruleNumber-expression}
 use Rattle.model.specs.Facts.{Facts, toward, last, depth, factsOf}
-use Rattle.model.proofs.Cells.{by-bool}
+use Rattle.forest.proofs.Cases.{by-bool}
 use Rattle.model.proofs.Fit.{pick-map}
 
 pub data Way : Type 0 where

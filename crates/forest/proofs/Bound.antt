@@ -15,7 +15,7 @@ use Rattle.rule.specs.declared.Rule.{Rule}
 use Rattle.rule.specs.Sound.{Sound, Closed}
 use Rattle.forest.specs.Expression.{Expression, expression, ruleNumber}
 use Rattle.forest.specs.Forest.{Forest, append}
-use Rattle.forest.specs.Place.{Cell, Cells, Side, Placed, cellRow, cellSpine, cellRun, rowOfNode, rowOfPart, isEmpty, representative, step, placed, placedOf, placedForest}
+use Rattle.forest.specs.Place.{Cells, Side, Placed, cellRow, cellSpine, cellRun, rowOfNode, rowOfPart, isEmpty, representative, step, placed, placedOf, placedForest}
 use Rattle.forest.specs.Reference.{Path, labelAt}
 use Rattle.forest.proofs.Good.{Sort, Good}
 use Rattle.forest.proofs.Unfold.{height, height-rank, closed-row}

@@ -183,16 +183,3 @@ pub at-node : {w e : Expression} {z : Position} → Good Sort.row w → At w Whe
 unfolding Reaches located
 at-node g (At.node k) = inside-node ((found-node (reaches g k)) .inside)
 at-node g (At.part k) = inside-node ((reaches g k) .inside)
-
--- what stands at a position has the sort that the position asks for
-pub at-good-row : {w e : Expression} {z : Position} → Good Sort.row w → At w Where.row e z → Good Sort.row e
-unfolding Reaches
-at-good-row g k = (reaches g k) .good
-
-pub at-good-tree : {w e : Expression} {z : Position} → Good Sort.row w → At w Where.tree e z → Good Sort.tree e
-unfolding Reaches
-at-good-tree g k = (reaches g k) .good
-
-pub at-good-spine : {w e : Expression} {z : Position} → Good Sort.row w → At w Where.spine e z → Good Sort.spine e
-unfolding Reaches
-at-good-spine g k = (reaches g k) .good

@@ -1,8 +1,7 @@
 -- Every word of a place fits two bytes: the words are rule numbers below n and the cell forms' own small numbers, and a step
 -- brings in no other. Every place has a cell, because it begins with the row of the walked rule. Assumes nothing.
-use Prim.Native.Nat.{ℕ, zero, suc, _≤_, _<_}
+use Prim.Native.Nat.{ℕ, _≤_, _<_}
 use native.Mathlib.Omega.{arith}
-use mathlib.Core.Path.{_≡_, refl, sym, ap}
 use mathlib.Core.Bool.{Bool, true, false, cond}
 use mathlib.Core.List.{List, [], _∷_}
 use lib.ListN.{length}
@@ -11,7 +10,7 @@ use Rattle.rule.specs.declared.Rule.{Rule}
 use Rattle.rule.specs.Sound.{rule, Sound}
 use Rattle.forest.specs.Expression.{Expression, rhs, expression, ruleNumber}
 use Rattle.forest.specs.Forest.{Forest, append}
-use Rattle.forest.specs.Place.{Cell, Cells, Placed, Side, cellRun, cellRow, cellSpine, rowOfPart, rowOfNode, isEmpty, representative, step, placed, placedOf, placedForest}
+use Rattle.forest.specs.Place.{Cells, Placed, Side, cellRun, cellRow, cellSpine, rowOfPart, rowOfNode, isEmpty, representative, step, placed, placedOf, placedForest}
 use Rattle.forest.proofs.Each.{Each, each-append}
 use Rattle.forest.proofs.Unfold.{Names, by-rank, unfolding-equation}
 use Rattle.forest.proofs.Stored.{Fitting, AllFitting}

@@ -3,7 +3,8 @@
 -- and the sides that it skips are empty. Assumes nothing.
 use Prim.Native.Nat.{ℕ}
 use mathlib.Core.Path.{_≡_, refl, sym, _∙_, ap, ap₂, fun-ext}
-use mathlib.Core.Bool.{Bool, true, false, cond, _&&_, and-eq-true-iff, false≢true}
+use mathlib.Core.Bool.{_&&_}
+use mathlib.Core.Bool.{Bool, true, false, cond, and-eq-true-iff, false≢true}
 use mathlib.Core.List.{List, _∷_}
 use Rattle.rule.specs.declared.Rule.{Rule}
 use Rattle.forest.specs.Expression.{Expression, expression, ruleNumber}
@@ -165,10 +166,3 @@ same-placed (Good.join {r = r} {b = b} {c = c} g h) cs φ ψ q = ap (λ ρ. plac
 
 pub closed-placed : {e : Expression} → Good Sort.row e → (cs : Cells) (φ ψ : Cells → Forest Placed) → placed e cs φ ≡ placed e cs ψ
 closed-placed g cs φ ψ = same-placed g cs φ ψ tt
-
-pub hasNone-placed : {e : Expression} → Good Sort.row e → (cs : Cells) (φ : Cells → Forest Placed) → hasNone (placed e cs φ) ≡ isEmpty e
-hasNone-placed {e} g cs φ =
-    ap hasNone (closed-placed g cs φ (λ around. Forest.none))
-    ∙ sym (hasNone-relabel label (placed e cs (λ around. Forest.none)))
-    ∙ ap hasNone (placed-forgets e (λ around. Forest.none) Hedge.ε (λ around. unfold relabel trees in refl) cs ∙ trees-⟨ε⟩ (value e))
-    ∙ empty-no-trees g

@@ -1,7 +1,7 @@
 -- Stretches: trees that stand one after the other somewhere in a forest. A side of a stretch, and what is below its first tree,
 -- are stretches again, and the first tree of a stretch has a path. Assumes nothing.
 use Prim.Native.Nat.{ℕ, suc}
-use mathlib.Core.Path.{_≡_, refl, sym, _∙_, ap}
+use mathlib.Core.Path.{_≡_, sym, _∙_, ap}
 use mathlib.Core.List.{[], _∷_}
 use mathlib.Core.Option.{some}
 use Rattle.forest.specs.Forest.{Forest, append}

@@ -174,10 +174,6 @@ module _ {A : Type 0} {N : Neighbours A} where
   answer-neighbour k c (i ∷ p) e = tried-neighbour k c (i ∷ p) e
 
 -- a and z try the first and last root, from anywhere
-pub tried-edge : {A : Type 0} (g : Forest A) (s : Side) (p : Path) → labelAt g (tried g (Letter.root s) p) ≡ edge s g
-unfolding labelAt tried
-tried-edge g s p = top-end s g
-
 pub answer-edge : {A : Type 0} (g : Forest A) (s : Side) (p : Path) → answer g (Letter.root s) p ≡ edge s g
 unfolding answer tried
 answer-edge g s [] = top-end s g

@@ -1,13 +1,12 @@
 -- Every node of the located forest stands at a position in the expression: by induction over the sorts, each part of the forest
 -- being located at a position that the family At has. Assumes nothing.
-use Prim.Native.Nat.{ℕ, zero, suc}
+use Prim.Native.Nat.{ℕ}
 use mathlib.Core.Path.{_≡_, refl}
-use mathlib.Core.List.{[], _∷_}
-use mathlib.Core.Option.{some, Option·none-ne-some, Option·some-injective}
+use mathlib.Core.Option.{some}
 use Rattle.forest.specs.Expression.{Expression}
 use Rattle.forest.specs.Forest.{Forest, append}
 use Rattle.forest.specs.Place.{Side, isEmpty}
-use Rattle.forest.specs.Reference.{Path, later, from, below, top, childrenAt, labelAt}
+use Rattle.forest.specs.Reference.{Path, labelAt}
 use Rattle.forest.proofs.Good.{Sort, Good}
 use Rattle.forest.proofs.Position.{Position, Located, pick, located, locatedOf, lastPart, continues, Where, At}
 use Rattle.forest.proofs.Cases.{by-bool}

@@ -3,12 +3,12 @@
 -- Assumes nothing.
 use Prim.Native.Nat.{ℕ}
 use mathlib.Core.Path.{_≡_}
-use mathlib.Core.Bool.{Bool, true, false, cond}
-use mathlib.Core.List.{List, [], _∷_}
+use mathlib.Core.Bool.{true, false, cond}
+use mathlib.Core.List.{[], _∷_}
 use mathlib.Core.Option.{Option, none, some}
 use Rattle.forest.specs.Expression.{Expression, ruleNumber}
 use Rattle.forest.specs.Forest.{Forest, append}
-use Rattle.forest.specs.Place.{Cell, Cells, Side, cellRow, cellSpine, rowOfNode, rowOfPart, isEmpty, representative, step}
+use Rattle.forest.specs.Place.{Cells, Side, cellRow, cellSpine, rowOfNode, rowOfPart, isEmpty, representative, step}
 
 pub data Position : Type 0 where
   start : Expression → Position

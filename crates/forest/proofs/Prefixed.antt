@@ -1,10 +1,10 @@
 -- Bytes before an accepted plan (document 01's cover) change nothing that measure, spread and walk answer and leave: they look at the
 -- plan through check and its rules alone. Assumes nothing.
 use Prim.Native.Nat.{ℕ}
-use mathlib.Core.Path.{_≡_, refl, sym, ap, _∙_}
+use mathlib.Core.Path.{_≡_, sym, _∙_}
 use mathlib.Core.List.{List, _++_}
 use Rattle.plan.specs.declared.Checked.{Checked}
-use Rattle.plan.specs.Check.{checked, checkedUpTo, mostRules, rulesOf}
+use Rattle.plan.specs.Check.{checked, mostRules, rulesOf}
 use Rattle.plan.proofs.Prefix.{prefix-accepted, prefix-accepted-rules}
 use Rattle.forest.specs.Outcome.{measuredFrom, measured, measuredWork, spreadFrom, spread, textOf, spreadOutput}
 use Rattle.forest.specs.Walk.{begunFrom, begun, walkedWork}

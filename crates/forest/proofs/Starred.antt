@@ -16,8 +16,7 @@ use Rattle.refusal.specs.Refusal.{numberOf, positionOf}
 use Rattle.plan.specs.Check.{checked, rulesOf, planBytes}
 use Rattle.words.specs.Front.{inFront}
 use Rattle.forest.specs.declared.Measured.{Measured}
-use Rattle.forest.specs.declared.Walked.{Walked}
-use Rattle.forest.specs.Place.{Cell, Cells, placedForest}
+use Rattle.forest.specs.Place.{Cells, placedForest}
 use Rattle.forest.specs.Forest.{forest}
 use Rattle.forest.specs.Reference.{labelAt, answers, pathAfter}
 use Rattle.forest.specs.Outcome.{measured, spread, spreadOutput, enoughWork}

@@ -2,20 +2,19 @@
 -- are zeros, and what lies behind them is as it was. A cell's bytes stand where cellAt reads them, one cell after the other; and
 -- cells that are read have the bytes that they were read from, as a plan's records have.
 -- Assumes nothing.
-use Prim.Native.Nat.{ℕ, zero, suc, _+_, _-_, _*_, _^_, _≤_, _<_}
+use Prim.Native.Nat.{ℕ, zero, suc, _+_, _-_, _*_, _≤_, _<_}
 use native.Mathlib.Omega.{arith}
-use native.Mathlib.Nat.{add-assoc}
 use mathlib.Core.Path.{_≡_, refl, sym, ap, ap₂, _∙_}
 use mathlib.Core.List.{List, [], _∷_, _++_, append-assoc}
 use lib.ListN.{length, take, drop, replicate, length-append, length-drop, length-replicate}
-use lib.Seq.{take-at, drop-at, take-append-le, drop-append-le, length-take-le, take-add, drop-drop}
-use Rattle.words.specs.Number.{number, bytes, base}
+use lib.Seq.{take-at, drop-at, take-add, drop-drop}
+use Rattle.words.specs.Number.{number, bytes}
 use Rattle.words.proofs.Laws.{number-bytes, length-bytes}
 use Rattle.record.specs.Record.{wordLength, recordAt, recordBytes}
 use Rattle.words.specs.Front.{inFront}
 use Rattle.record.proofs.RecordBytes.{Bytes, record-bytes}
 use Rattle.forest.specs.Place.{Cell, Cells}
-use Rattle.forest.specs.Walk.{cellLength, cursorWords, cellAt, cellsIn, usedCells, cellBytes, cellsBytes, padded, storedCursor}
+use Rattle.forest.specs.Walk.{cellLength, cursorWords, cellAt, cellsIn, cellBytes, cellsBytes, padded, storedCursor}
 
 -- every word of a cell, and of every cell, fits its two bytes
 pub record Fitting (c : Cell) : Type 0 where

@@ -1,7 +1,6 @@
 -- Forests, their counts and their text (document 01, "Measure" and "Spread").
 use Prim.Native.Nat.{ℕ, suc, _+_, max}
 use mathlib.Core.List.{List, [], _∷_, _++_}
-use mathlib.Core.Bool.{Bool, true, false}
 use Rattle.rule.specs.declared.Rule.{Rule}
 use Rattle.forest.specs.Expression.{expression}
 use Rattle.forest.specs.Algebra.{Hedge, value}

@@ -2,8 +2,8 @@
 -- nowhere; in an empty forest all do. A root has no parent.").
 use Prim.Native.Nat.{ℕ}
 use mathlib.Core.Bool.{Bool, true, false, cond}
-use mathlib.Core.List.{List, [], _∷_}
-use lib.Dec.{leb, ltb}
+use mathlib.Core.List.{[], _∷_}
+use lib.Dec.{leb}
 use Rattle.forest.specs.Forest.{Forest, count}
 use Rattle.forest.specs.Place.{Side}
 use Rattle.forest.specs.Letter.{Letter}

@@ -4,7 +4,6 @@ use Prim.Native.Nat.{ℕ, zero, suc, pred}
 use mathlib.Core.Bool.{Bool, true, false, cond, not, _&&_}
 use mathlib.Core.List.{List, [], _∷_}
 use mathlib.Core.Option.{Option, none, some}
-use lib.Dec.{leb}
 use Rattle.forest.specs.Forest.{Forest, count}
 use Rattle.forest.specs.Place.{Side}
 use Rattle.forest.specs.Letter.{Letter, isRoot}

@@ -1,7 +1,7 @@
 -- What walk answers and leaves, from what is lent (document 01, "Walk" and "Letters").
 use Prim.Native.Nat.{ℕ, zero, suc, _+_, _-_, _*_}
 use mathlib.Core.Bool.{Bool, true, false, cond, _&&_}
-use mathlib.Core.List.{List, [], _∷_, _++_, map, reverse}
+use mathlib.Core.List.{List, [], _∷_, _++_, map}
 use mathlib.Core.Option.{Option, none, some}
 use lib.ListN.{length, replicate}
 use lib.Dec.{leb, eqb}
@@ -17,7 +17,7 @@ use Rattle.forest.specs.Forest.{Forest, forest}
 use Rattle.forest.specs.Place.{Cell, Cells, Placed, placedForest}
 use Rattle.forest.specs.Letter.{Letter, letterOf}
 use Rattle.forest.specs.Reference.{Path, labelAt, answers, pathAfter}
-use Rattle.forest.specs.Outcome.{workWords, enoughWork, workAfter}
+use Rattle.forest.specs.Outcome.{enoughWork, workAfter}
 
 -- "The cursor is a lent slice of 16-bit words, four to a cell."
 abbrev pub cellWords : ℕ

@@ -1,7 +1,6 @@
 -- What a refusal is held to: document 01's number and position.
 use Prim.Native.Nat.{ℕ}
 use mathlib.Core.Path.{_≡_}
-use Rattle.refusal.specs.declared.Refusal.{Refusal}
 use Rattle.plan.specs.declared.Checked.{Checked}
 use Rattle.refusal.specs.Refusal.{numberOf, positionOf}
 

@@ -1,18 +1,15 @@
 -- The flag of the nodes' count tells 2^64 or more, and where it
 -- is clear every count is exact, trees and levels being at most as many as nodes, and entries as many. Assumes nothing.
-use Prim.Native.Nat.{ℕ, _+_, _*_, _^_, _≤_, _<_}
+use Prim.Native.Nat.{ℕ, _^_, _≤_, _<_}
 use native.Mathlib.Omega.{arith}
-use mathlib.Core.Path.{_≡_, refl, sym, ap, _∙_}
+use mathlib.Core.Path.{_≡_}
 use mathlib.Core.List.{List}
-use lib.Dec.{ltb}
 use borrow.Author.Tests.{lt-ltb, le-ltb}
 use Rattle.refusal.specs.declared.Refusal.{Refusal}
 use Rattle.forest.specs.declared.Measured.{Measured}
-use Rattle.forest.specs.Expression.{Expression}
 use Rattle.forest.specs.Algebra.{value}
 use Rattle.forest.specs.Forest.{Forest, trees, count, weigh, one, levels}
 use Rattle.forest.specs.Outcome.{counted, entry}
-use Rattle.forest.proofs.Good.{Sort, Good}
 use Rattle.forest.proofs.Counts.{count-nodes, levels-nodes}
 use Rattle.rows.proofs.Rows.{within-both}
 use Rattle.count.specs.declared.Count.{Count}

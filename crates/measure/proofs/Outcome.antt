@@ -1,17 +1,13 @@
 -- Measure's answer and work, by the ways through its code: refused by check, refused for its work, or counted over the loaded rules and
 -- then cleared. Assumes nothing.
-use Prim.Native.Nat.{ℕ, _+_, _-_, _*_}
-use mathlib.Core.Path.{_≡_, sym, ap, subst, _∙_}
-use mathlib.Core.Bool.{Bool, true, false}
+use Prim.Native.Nat.{ℕ, _-_, _*_}
+use mathlib.Core.Path.{_≡_, _∙_}
+use mathlib.Core.Bool.{true, false}
 use mathlib.Core.List.{List}
-use lib.ListN.{length}
-use lib.Dec.{T}
 use Rattle.refusal.specs.declared.Refusal.{Refusal}
 use Rattle.plan.specs.declared.Checked.{Checked}
-use Rattle.record.specs.Record.{recordLength, wordLength}
-use Rattle.record.specs.Records.{recordsFrom}
-use Rattle.rule.specs.Rule.{rulesIn}
-use Rattle.plan.specs.Check.{checked, rulesOf, trailerLength}
+use Rattle.record.specs.Record.{wordLength}
+use Rattle.plan.specs.Check.{checked, rulesOf}
 use Rattle.forest.specs.declared.Measured.{Measured}
 use Rattle.forest.specs.Expression.{expression}
 use Rattle.forest.specs.Forest.{forest}

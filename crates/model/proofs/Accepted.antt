@@ -5,7 +5,7 @@ use Prim.Native.Nat.{ℕ, suc, _+_, _-_}
 use native.Mathlib.Omega.{arith}
 use mathlib.Core.Path.{_≡_, refl, ap, _∙_}
 use mathlib.Core.Bool.{Bool, true, false, cond, not, _&&_}
-use mathlib.Core.List.{[], _∷_, reverse, reverseAux}
+use mathlib.Core.List.{[], _∷_}
 use mathlib.Core.Option.{Option, none, some, Option·map}
 use lib.Dec.{eqb, ltb, lt→ltb}
 use Rattle.rule.specs.declared.Rule.{Rule}
@@ -16,20 +16,10 @@ use Rattle.forest.proofs.Position.{Position, At, Where, cells, continues, pick}
 use Rattle.model.specs.Facts.{Facts}
 use Rattle.model.specs.Model.{along, outer, innerOf}
 use Rattle.model.specs.Stored as S
-use Rattle.model.specs.Stored.{State, formOf, next, stateAfter, stateFrom, rowIn, rowUnder, afterRow, afterRun, reaches, keptBy, spineIn, spineAt, isThat, isNode, endsWell, accepts}
+use Rattle.model.specs.Stored.{State, formOf, next, stateAfter, rowIn, rowUnder, afterRow, afterRun, reaches, keptBy, spineIn, spineAt, isThat, isNode, endsWell, accepts}
 use Rattle.model.proofs.Cells.{Steps, Top, Grows, begins, grows, top-grows, topKind, topKind-step, step-begins, step-grows, is-true, eqb-same}
 use Rattle.model.proofs.Fit.{Fit, Tells, tells, shape, picked, pick-map, pair-steps, join-steps, node-outer, fill-outer}
 use Rattle.model.proofs.Standing.{Here, whole, says, pair-says, pair-itself}
-
--- the state from cell 1 up is the state of the stack
-first-up : (F : Facts) (r : ℕ) (cs rest : Cells) → stateFrom F r State.above (reverseAux cs rest) ≡ stateFrom F r (stateAfter F r cs) rest
-unfolding stateFrom stateAfter
-first-up F r [] rest = refl
-first-up F r (c ∷ cs) rest = first-up F r cs (c ∷ rest)
-
-pub state-first-up : (F : Facts) (r : ℕ) (cs : Cells) → stateFrom F r State.above (reverse cs) ≡ stateAfter F r cs
-unfolding stateFrom
-state-first-up F r cs = first-up F r cs []
 
 -- tests that hold, taken apart and put together
 pub both : (p q : Bool) → p ≡ true → q ≡ true → p && q ≡ true

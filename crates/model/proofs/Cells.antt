@@ -11,13 +11,9 @@ use mathlib.Core.Option.{some}
 use lib.Dec.{T, eqb, leb, leb→le, le→leb, eqb→eq, eqb-refl}
 use Rattle.forest.specs.Place.{Cells, Side, cellRow, cellSpine, cellRun, step}
 use Rattle.forest.proofs.Position.{other}
+use Rattle.forest.proofs.Cases.{by-bool}
 use Rattle.model.specs.Facts.{Facts}
 use Rattle.model.specs.Model.{along, oneAbove, outer, standing, popRun, run, shrunk, turned, besideTop, belowRow}
-
--- a Boolean test as a case split
-pub by-bool : {P : Type 0} (b : Bool) → (b ≡ true → P) → (b ≡ false → P) → P
-by-bool true f g = f refl
-by-bool false f g = g refl
 
 pub is-true : (b : Bool) → T b → b ≡ true
 is-true true t = refl

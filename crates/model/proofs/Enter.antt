@@ -14,7 +14,8 @@ use Rattle.forest.proofs.Position.{Position, Located, At, Where, cells, pick}
 use Rattle.model.specs.Facts.{Facts, last, depth}
 use Rattle.model.specs.Model as M
 use Rattle.model.specs.Model.{Node, run}
-use Rattle.model.proofs.Cells.{Steps, by-bool, run-step}
+use Rattle.model.proofs.Cells.{Steps, run-step}
+use Rattle.forest.proofs.Cases.{by-bool}
 use Rattle.model.proofs.Fit.{Fit, Tells, picked, pair-steps, join-steps, node-outer, fill-outer}
 
 -- a move on positions and a move on cells come to the same node

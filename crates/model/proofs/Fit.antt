@@ -14,7 +14,8 @@ use Rattle.forest.proofs.Good.{Sort}
 use Rattle.forest.proofs.Position.{pick}
 use Rattle.model.specs.Facts.{Facts, toward, last, depth}
 use Rattle.model.specs.Model.{outer, outerOf}
-use Rattle.model.proofs.Cells.{Steps, by-bool}
+use Rattle.model.proofs.Cells.{Steps}
+use Rattle.forest.proofs.Cases.{by-bool}
 
 -- the right-hand side of an expression's rule
 unfoldable pub shape : Expression → Rule
@@ -87,12 +88,7 @@ represents F k e (fill {r} {b} {c} t gb gc) = tells-stands F (Expression.fill r 
 represents F k e (part {r} {a} {b} {c} t gb gc) = tells-stands F (Expression.part r a b c) t
 represents F k e (join {r} {b} {c} t gb gc) = tells-stands F (Expression.join r b c) t
 
--- trees, and what stands in a spine, represent themselves
-pub tree-itself : (F : Facts) (e : Expression) → Fit F Sort.tree e → representative e ≡ ruleNumber e
-unfolding representative ruleNumber
-tree-itself F e (node t c) = refl
-tree-itself F e (fill t b c) = refl
-
+-- what stands in a spine represents itself
 pub spine-itself : (F : Facts) (e : Expression) → Fit F Sort.spine e → representative e ≡ ruleNumber e
 unfolding representative ruleNumber
 spine-itself F e (part t b c) = refl

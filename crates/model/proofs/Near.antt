@@ -17,7 +17,7 @@ use Rattle.forest.proofs.Position.{other, pick, orElse}
 use Rattle.model.specs.Facts.{Facts}
 use Rattle.model.specs.Model
 use Rattle.model.specs.Walk.{move, moved, fromNode}
-use Rattle.model.proofs.Cells.{by-bool}
+use Rattle.forest.proofs.Cases.{by-bool}
 
 -- t is what lies at the bottom of a stack
 pub data Under (t : Cells) : Cells → Type 0 where

@@ -1,18 +1,18 @@
 -- A whole call of the walker on cells is the finger's: the test of stored cells accepts exactly the places of nodes, and from such a
 -- place the answers and the cells after some letters are those of the finger's paths. Assumes nothing.
 use Prim.Native.Nat.{ℕ}
-use mathlib.Core.Path.{_≡_, refl, sym, ap, ap₂, _∙_, subst}
-use mathlib.Core.Bool.{Bool, true, false, true≢false}
+use mathlib.Core.Path.{_≡_, refl, sym, ap, ap₂, _∙_}
+use mathlib.Core.Bool.{true, false, true≢false}
 use mathlib.Core.List.{List, [], _∷_}
-use mathlib.Core.Option.{Option, none, some, Option·map, Option·none-ne-some}
+use mathlib.Core.Option.{Option, none, some, Option·map}
 use Rattle.forest.specs.Expression.{Expression, ruleNumber}
 use Rattle.forest.specs.Forest.{Forest, relabel}
-use Rattle.forest.specs.Place.{Cell, Cells, Placed, Side, placedOf}
+use Rattle.forest.specs.Place.{Cell, Cells, placedOf}
 use Rattle.forest.specs.Letter.{Letter}
 use Rattle.forest.specs.Reference.{Path, labelAt, answer, moved, answers, pathAfter}
-use Rattle.forest.specs.Walk.{placeAt, cellsOf, pathOf}
+use Rattle.forest.specs.Walk.{placeAt, pathOf}
 use Rattle.forest.proofs.Good.{Sort, Good}
-use Rattle.forest.proofs.Position.{Position, Located, Where, At, cells, labelOf, locatedOf}
+use Rattle.forest.proofs.Position.{Located, labelOf, locatedOf}
 use Rattle.forest.proofs.Forget.{label}
 use Rattle.forest.proofs.Steps.{Named, moved-named}
 use Rattle.forest.proofs.Relabel.{answer-relabel, moved-relabel, pathAfter-relabel}
@@ -28,8 +28,8 @@ use Rattle.model.specs.Walk as model
 use Rattle.model.proofs.Fit.{Fit}
 use Rattle.model.proofs.Accepted.{accepts-node}
 use Rattle.model.proofs.Rebuilt.{NodeWith, accepted-node}
-use Rattle.model.proofs.Walk.{moveAt, movedAt, answersAt, afterAt, cellsAt, Same, answers-are, cells-after, same-here}
-use Rattle.model.proofs.Paths.{answer-at, moved-at, place-cells, named-located, located-node, all-distinct}
+use Rattle.model.proofs.Walk.{moveAt, answersAt, afterAt, cellsAt, Same, answers-are, cells-after, same-here}
+use Rattle.model.proofs.Paths.{answer-at, moved-at, place-cells, all-distinct}
 
 -- labels taken off one by one
 map-twice : (x : Option Located) → Option·map label (Option·map placedAs x) ≡ Option·map (λ (y : Located). labelOf (y .0)) x

@@ -1,25 +1,24 @@
 -- The walker on cells and the finger on the forest. A path of the placed forest is a path of the located forest, its place the
 -- cells of the position there; so a letter on paths is the letter on positions, which is the letter on cells. Assumes nothing.
 use Prim.Native.Nat.{ℕ, _-_, min}
-use mathlib.Core.Path.{_≡_, refl, sym, ap, ap₂, _∙_, subst}
+use mathlib.Core.Path.{_≡_, refl, sym, ap, _∙_, subst}
 use mathlib.Core.Bool.{Bool, true, false, cond}
-use mathlib.Core.List.{List, [], _∷_, map}
+use mathlib.Core.List.{[], _∷_}
 use mathlib.Core.Option.{Option, none, some, Option·map, Option·none-ne-some, Option·some-injective}
 use lib.ListN.{length}
 use lib.Dec.{eqb}
 use Rattle.forest.specs.Expression.{Expression, ruleNumber}
-use Rattle.forest.specs.Place.{Cell, Cells, Placed, Side, cellRun, representative, step, placedOf, firstCells}
+use Rattle.forest.specs.Place.{Cells, Placed, Side, cellRun, representative, step, placedOf, firstCells}
 use Rattle.forest.specs.Letter.{Letter, isRoot}
-use Rattle.forest.specs.Reference.{Path, labelAt, isAbove, answer, moved, answers, pathAfter}
+use Rattle.forest.specs.Reference.{Path, labelAt, isAbove, answer, moved}
 use Rattle.forest.specs.Walk.{placeAt, cellsOf}
 use Rattle.forest.proofs.Good.{Sort, Good}
-use Rattle.forest.proofs.Position.{Position, Located, pick, orElse, cells, labelOf, locatedOf}
+use Rattle.forest.proofs.Position.{Position, Located, pick, orElse, cells, locatedOf}
 use Rattle.forest.proofs.Cases.{by-option}
-use Rattle.forest.proofs.Steps.{Named, moved-nowhere, answer-label, moved-named}
-use Rattle.forest.proofs.Finger.{answer-root, answer-child, answer-sibling, answer-parent, answer-stay, placed-labelAt, placed-moved, placed-after}
+use Rattle.forest.proofs.Steps.{Named, moved-nowhere, answer-label}
+use Rattle.forest.proofs.Finger.{answer-root, answer-child, answer-sibling, answer-parent, answer-stay, placed-labelAt, placed-moved}
 use Rattle.forest.proofs.Placed.{placedAs}
 use Rattle.forest.proofs.Nodes.{node-at}
-use Rattle.forest.proofs.Covered.{at-node}
 use Rattle.forest.proofs.Search.{Distinct}
 use Rattle.forest.proofs.Unique as paths
 use Rattle.model.specs.Facts.{Facts}
@@ -28,7 +27,7 @@ use Rattle.model.specs.Walk as model
 use Rattle.model.proofs.Fit.{Fit}
 use Rattle.model.proofs.Unique as places
 use Rattle.model.proofs.Near.{first-cells-stay}
-use Rattle.model.proofs.Walk.{moveAt, movedAt, answersAt, afterAt, cellsAt, Same, same-cells, moved-same, answers-are, cells-after}
+use Rattle.model.proofs.Walk.{moveAt, movedAt, cellsAt, Same, same-cells, moved-same}
 
 -- a position has cells
 filled : Cells → Type 0

@@ -8,7 +8,7 @@ use mathlib.Core.Option.{some, Option·none-ne-some, Option·some-injective}
 use Rattle.forest.specs.Expression.{Expression, ruleNumber}
 use Rattle.forest.specs.Place.{Cells, Side, cellRow, cellSpine, cellRun, isEmpty, representative, step}
 use Rattle.forest.proofs.Position.{Position, At, Where, cells, continues, pick}
-use Rattle.model.proofs.Cells.{by-bool}
+use Rattle.forest.proofs.Cases.{by-bool}
 use Rattle.model.proofs.Fit.{picked}
 
 -- P holds of the number of every rule inside e

@@ -15,7 +15,8 @@ use Rattle.forest.proofs.Position.{Position, At, Where, cells, continues, pick}
 use Rattle.model.specs.Facts.{Facts}
 use Rattle.model.specs.Model.{outer, innerOf}
 use Rattle.model.specs.Stored.{State, Form, formOf, next, stateAfter, rowIn, rowUnder, afterRow, afterRun, spineIn, spineAt, isThat, isNode, endsWell, accepts}
-use Rattle.model.proofs.Cells.{topKind, by-bool}
+use Rattle.model.proofs.Cells.{topKind}
+use Rattle.forest.proofs.Cases.{by-bool}
 use Rattle.model.proofs.Fit.{Fit, Tells, tells, shape, node-outer, fill-outer}
 use Rattle.model.proofs.Standing.{whole}
 use Rattle.model.proofs.Accepted.{second-holds}

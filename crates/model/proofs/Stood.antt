@@ -15,7 +15,8 @@ use Rattle.forest.proofs.Position.{Position, At, Where, cells, continues, pick}
 use Rattle.model.specs.Facts.{Facts, depth}
 use Rattle.model.specs.Model.{along}
 use Rattle.model.specs.Stored.{State, afterRun, reaches, keptBy}
-use Rattle.model.proofs.Cells.{Steps, topKind, topKind-step, step-begins, step-grows, by-bool}
+use Rattle.model.proofs.Cells.{Steps, topKind, topKind-step, step-begins, step-grows}
+use Rattle.forest.proofs.Cases.{by-bool}
 use Rattle.model.proofs.Fit.{Fit, Tells, picked, pair-steps, join-steps}
 use Rattle.model.proofs.Accepted.{first-holds, second-holds, kept-kept, kept-none, kept-continues, run-no-spine}
 

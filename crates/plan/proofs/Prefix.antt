@@ -9,6 +9,7 @@ use native.Mathlib.Omega.{arith}
 use lib.Dec.{leb, eqb}
 use lib.ListN.{length, drop, length-append}
 use lib.Seq.{drop-append-add}
+use borrow.Table.Steps.{cases}
 use borrow.Author.Tests.{le-leb, leb-true}
 use Rattle.words.specs.Number.{number}
 use Rattle.words.proofs.Laws.{number-after}
@@ -76,10 +77,6 @@ is-true : (b : Bool) → (b ≡ false → ⊥) → b ≡ true
 is-true true h = refl
 is-true false h = absurd (h refl)
 
-by-bool : (b : Bool) {P : Type 0} → (b ≡ true → P) → (b ≡ false → P) → P
-by-bool true f g = f refl
-by-bool false f g = g refl
-
 module _ (p s : List ℕ) (most : ℕ) (magical : checkedUpTo most s ≡ Checked.Refused Refusal.Magic → ⊥) (near : checkedUpTo most s ≡ Checked.Refused Refusal.Distance → ⊥) where
   trailer-passed : (leb trailerLength (length s) && marked s) ≡ true
   unfolding answer
@@ -96,7 +93,7 @@ module _ (p s : List ℕ) (most : ℕ) (magical : checkedUpTo most s ≡ Checked
   prefix-answer =
       let t = and-eq-true-iff (leb trailerLength (length s)) (marked s) .0 trailer-passed in
       let long : trailerLength ≤ length s = leb-true trailerLength (length s) (t .0) in
-      by-bool (inLimits most (countOf s))
+      cases (inLimits most (countOf s))
       (λ c. prefix-checked p s long (leb-true (distanceOf s) (trailerAt s) (and-eq-true-iff (eqb (distanceOf s) (recordLength * countOf s)) (leb (distanceOf s) (trailerAt s)) .0 (distance-passed c) .1)) most)
       (λ c.
       let a : leb trailerLength (length (p ++ s)) ≡ true = le-leb trailerLength (length (p ++ s)) (omega (arith, length-append p s)) in

@@ -1,17 +1,16 @@
 -- Records written one after another at the front of a slice. Assumes nothing.
-use Prim.Native.Nat.{ℕ, zero, suc, _+_, _*_, _≤_}
+use Prim.Native.Nat.{ℕ, zero, suc, _+_, _*_}
 use mathlib.Core.List.{List, [], _∷_, _++_, append-assoc, append-nil}
 use mathlib.Core.Path.{_≡_, refl, sym, ap, _∙_}
 use native.Mathlib.Nat.{add-zero}
 use native.Mathlib.Numerals.{add-one}
 use native.Mathlib.Omega.{arith}
-use lib.ListN.{length, take, drop, length-append, length-drop}
-use lib.Seq.{take-at, drop-append-add, drop-drop}
+use lib.ListN.{length, take, drop}
 use Rattle.record.specs.declared.Record.{Record}
 use Rattle.record.specs.Record.{recordLength, recordAt, recordBytes}
 use Rattle.record.specs.Records.{recordsFrom, recordsBytes}
 use Rattle.words.specs.Front.{inFront}
-use Rattle.words.proofs.Front.{length-inFront, inFront-more}
+use Rattle.words.proofs.Front.{inFront-more}
 use Rattle.record.proofs.Records.{records-length}
 use Rattle.record.proofs.RecordBytes.{length-recordBytes, length-recordsBytes}
 
@@ -45,10 +44,6 @@ length-read s at i = length-recordsBytes (recordsFrom s at i) ∙ ap (λ (k : �
 pub copied-none : (s : List ℕ) (at : ℕ) (out : List ℕ) → copied s at 0 out ≡ out
 unfolding copied recordsFrom recordsBytes inFront
 copied-none s at out = refl
-
-pub length-copied : (s : List ℕ) (at i : ℕ) (out : List ℕ) → recordLength * i ≤ length out → length (copied s at i out) ≡ length out
-unfolding copied
-length-copied s at i out h = length-inFront (recordsBytes (recordsFrom s at i)) out (omega (arith, length-read s at i))
 
 -- one record more
 pub copied-more : (s : List ℕ) (at i : ℕ) (out : List ℕ) (from : ℕ) → from ≡ at + recordLength * i

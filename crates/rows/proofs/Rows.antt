@@ -92,16 +92,6 @@ within-rule {a} {e} {s} {t} p r apart =
     = λ w o fits. within-field p w r o (λ h. let f : e ≤ rowLength * r = apart (omega arith) in omega arith) in
     rw (same 2 atKind (omega arith), same 4 atLabel (omega arith), same 2 atOne (omega arith), same 2 atTwo (omega arith))
 
--- a write past a row's own fields keeps every rule
-pub put-keeps-rule : (w : ℕ) (t : List ℕ) (r o v k : ℕ) → ownEnd ≤ o → o + w ≤ rowLength → ruleIn (putField w t r o v) k ≡ ruleIn t k
-put-keeps-rule w t r o v k low high =
-    within-rule (within-put w t r o v (rowLength * r + o) (rowLength * r + o + w) (omega arith) (omega arith)) k
-    (elim (decLt k r) as (λ (d : Dec (k < r)). rowLength * r + o < rowLength * k + ownEnd → rowLength * r + o + w ≤ rowLength * k) [
-      | yes below ↦ λ h. omega arith
-      | no above ↦ elim (decLt r k) as (λ (d : Dec (r < k)). rowLength * r + o < rowLength * k + ownEnd → rowLength * r + o + w ≤ rowLength * k)
-          [ yes under ↦ λ h. omega arith | no over ↦ λ h. let e : k ≡ r = omega arith in omega arith ]
-    ])
-
 -- a write to a row below i
 pub beyond-put : (w : ℕ) (t : List ℕ) (r o v i : ℕ) → rowLength * r + o + w ≤ rowLength * i → Beyond i t (putField w t r o v)
 beyond-put w t r o v i fits = within-put w t r o v 0 (rowLength * i) (omega arith) fits

@@ -22,6 +22,11 @@ pub kind-past : (s : List ℕ) (at n i : ℕ) → n ≤ i → kindAt (recordsFro
 unfolding kindAt
 kind-past s at n i past = ap (λ (w : Record). w .kind) (List·getD-eq-default (recordsFrom s at n) _ (rw records-length past))
 
+-- past the last rule a rule is empty
+pub past-rule : (R : List Rule) (r : ℕ) → length R ≤ r → rule R r ≡ Rule.Empty
+unfolding rule
+past-rule R r h = List·getD-eq-default R Rule.Empty h
+
 -- what a record has that is judged fine
 pub record Named (ws : List Record) (i : ℕ) (d : Decoded) : Type 0 where
   pub means : Rule

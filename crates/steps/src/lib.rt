@@ -1,9 +1,10 @@
 // What a task of spread (document 01) comes to: bytes to write, and up to three tasks to do after them.
 ghost use mathlib.Core.Path.{_≡_};
 ghost use mathlib.Core.Bool.{cond};
-ghost use Prim.Native.Nat.{_+_, _*_, _/_, _≤_, _<_};
+ghost use Prim.Native.Nat.{ℕ, _+_, _*_, _/_, _≤_, _<_};
 ghost use lib.Dec.{eqb};
 ghost use lib.ListN.{length};
+ghost use Rattle.rule.specs.declared.Rule.{Rule};
 ghost use Rattle.rows.specs.Rows.{rowLength, ruleIn};
 ghost use Rattle.steps.specs.Task.{parts, noTask, taskWord, taskOf};
 ghost use Rattle.steps.specs.Step.{leaving, ruleStep, tasksAt, stepIn, Steppable};
@@ -146,27 +147,39 @@ fn rule_step(work: &[u8], r: u16, p: u16, rule: Rule) -> Step
             whole(work, inner),
             Step::task(outer, Step::BEFORE),
         ),
-        Rule::Part { label, left, right } => {
-            if p == Step::BEFORE {
-                return Step::opening(label, whole(work, left), none);
-            }
-            Step::nothing(Step::task(r, Step::CLOSE), whole(work, right), none)
-        }
-        Rule::Join { outer, inner } => {
-            if p == Step::BEFORE {
-                return Step::nothing(
-                    Step::task(inner, Step::BEFORE),
-                    Step::task(outer, Step::BEFORE),
-                    none,
-                );
-            }
-            Step::nothing(
-                Step::task(outer, Step::AFTER),
-                Step::task(inner, Step::AFTER),
-                none,
-            )
-        }
+        Rule::Part { label, left, right } => part_step(work, r, p, label, left, right),
+        Rule::Join { outer, inner } => join_step(p, outer, inner),
     }
+}
+
+// The same of a part, before its hole or after it.
+fn part_step(work: &[u8], r: u16, p: u16, label: u32, left: u16, right: u16) -> Step
+    requires { ⌜ Steppable (now work) r (Rule.Part label left right) ⌝ }
+    ensures { λ x. ⌜ x ≡ ruleStep (tasksAt (now (work .entry))) r p (Rule.Part label left right) ⌝ }
+{
+    if p == Step::BEFORE {
+        return Step::opening(label, whole(work, left), Step::NONE);
+    }
+    Step::nothing(Step::task(r, Step::CLOSE), whole(work, right), Step::NONE)
+}
+
+// The same of a join.
+fn join_step(p: u16, outer: u16, inner: u16) -> Step
+    requires { ⌜ (outer < 16383) × (inner < 16383) ⌝ }
+    ensures { λ x. ⌜ ((f : ℕ → ℕ) (r : ℕ) → x ≡ ruleStep f r p (Rule.Join outer inner)) ⌝ }
+{
+    if p == Step::BEFORE {
+        return Step::nothing(
+            Step::task(inner, Step::BEFORE),
+            Step::task(outer, Step::BEFORE),
+            Step::NONE,
+        );
+    }
+    Step::nothing(
+        Step::task(outer, Step::AFTER),
+        Step::task(inner, Step::AFTER),
+        Step::NONE,
+    )
 }
 
 // What a task comes to.

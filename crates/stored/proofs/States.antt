@@ -13,7 +13,7 @@ use Rattle.forest.specs.Place.{Cell, Cells, Side, cellRow, cellSpine, cellRun, 
 use Rattle.model.specs.Facts.{Facts}
 use Rattle.model.specs.Model.{along, outer, innerOf}
 use Rattle.model.specs.Stored.{Form, State, formOf, rowUnder, rowIn, afterRow, isThat, spineAt, spineIn, reaches, keptBy, afterRun, next, stateAfter, endsWell}
-use Rattle.model.proofs.Cells.{by-bool}
+use Rattle.forest.proofs.Cases.{by-bool}
 use Rattle.model.proofs.Accepted.{first-holds, second-holds}
 use Rattle.tables.specs.Closes.{Names, Closed}
 use types.Run.{OneOf, miss}

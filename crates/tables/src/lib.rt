@@ -1,7 +1,6 @@
 // What is known of each rule, in rows of the lent work.
 ghost use mathlib.Core.Path.{_≡_};
 ghost use Prim.Native.Nat.{_+_, _-_, _≤_};
-ghost use Rattle.forest.proofs.Position.{other, pick};
 ghost use Rattle.rows.specs.Rows.{field};
 ghost use Rattle.model.specs.Run.{along, oneAbove};
 ghost use Rattle.model.specs.Model.{outer};

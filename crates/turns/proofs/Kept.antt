@@ -16,7 +16,7 @@ use Rattle.model.specs.Facts.{Facts}
 use Rattle.model.specs.Model.{Node, oneAbove, outer, innerOf, standing, tail, popRun, run, shrunk, turned, besideTop, beside, opened, enter, continuing, inward, under, partAt, isPart, outward, ended, follow, child, childOf, besideHole, sibling, siblingFrom, belowRow, nodeAt, parent, root}
 use Rattle.tables.specs.Closes.{Names, Closed}
 use Rattle.turns.specs.Moves.{Each, Fits, Node-has, Kept}
-use Rattle.model.proofs.Cells.{by-bool}
+use Rattle.forest.proofs.Cases.{by-bool}
 use Rattle.turns.proofs.Turns.{run-no-row}
 use Rattle.tables.proofs.Closes.{above-has, outer-has}
 

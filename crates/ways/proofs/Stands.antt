@@ -6,11 +6,12 @@ use mathlib.Core.Path.{_≡_, sym, ap, subst, _∙_}
 use mathlib.Core.List.{List, [], _∷_, cons≢nil}
 use mathlib.Core.Option.{Option, none, some, Option·map}
 use native.Mathlib.Decide.{decLt}
-use lib.ListN.{length, List·getD-eq-default}
+use lib.ListN.{length}
 use lib.Dec.{T, leb→le}
 use Rattle.rule.specs.declared.Rule.{Rule}
 use Rattle.rule.specs.Rule.{labelled, largestLabel}
 use Rattle.rule.specs.Sound.{rule, Sound}
+use Rattle.rule.proofs.Rules.{past-rule}
 use Rattle.forest.specs.Place.{Cells}
 use Rattle.forest.specs.Letter.{Letter}
 use Rattle.forest.specs.Walk.{cellLength, cursorWords, cellsIn, nowhere, answerWord}
@@ -46,10 +47,6 @@ labelled-small (Rule.Join b c) h = omega arith
 none-small : label Rule.Empty < 65536
 unfolding label
 none-small = omega arith
-
-past-rule : (R : List Rule) (k : ℕ) → length R ≤ k → rule R k ≡ Rule.Empty
-unfolding rule
-past-rule R k h = List·getD-eq-default R Rule.Empty h
 
 module _ {r : ℕ} {t : List ℕ} (T : Table r t) where
   count : length (rulesKept t) ≡ rows t

@@ -7,8 +7,8 @@ use mathlib.Core.List.{List, [], _∷_, _++_, append-assoc}
 use native.Mathlib.Nat.{add-zero, add-suc, suc-add, add-assoc, pow-suc}
 use native.Mathlib.Numerals.{add-two}
 use native.Mathlib.Omega.{arith}
-use lib.ListN.{length, getD, take, drop, set, List·getD-append}
-use lib.Seq.{sets-eq, length-sets, length-take-le, getD-append-add, getD-set-other, getD-take, getD-drop, drop-cons, take-set-le, drop-set-lt}
+use lib.ListN.{length, getD, take, drop, set}
+use lib.Seq.{sets-eq, length-sets, length-take-le, getD-append-add, getD-set-other, getD-take, drop-cons, take-set-le, drop-set-lt}
 use Rattle.words.specs.Number.{base, number, bytes, put}
 
 -- a number depends only on its own bytes
@@ -25,14 +25,8 @@ number-agrees (suc w) s t at to same =
 pub number-after : (w : ℕ) (p s : List ℕ) (at : ℕ) → number w (p ++ s) (length p + at) ≡ number w s at
 number-after w p s at = number-agrees w (p ++ s) s (length p + at) at (λ i below. rw add-assoc (getD-append-add p s (at + i) 0))
 
-pub number-before : (w : ℕ) (s t : List ℕ) (at : ℕ) → at + w ≤ length s → number w (s ++ t) at ≡ number w s at
-number-before w s t at fits = number-agrees w (s ++ t) s at at (λ i below. List·getD-append s t 0 (at + i) (omega arith))
-
 pub number-take : (w : ℕ) (n : ℕ) (s : List ℕ) (at : ℕ) → at + w ≤ n → number w (take n s) at ≡ number w s at
 number-take w n s at fits = number-agrees w (take n s) s at at (λ i below. getD-take n s (at + i) 0 (omega arith))
-
-pub number-drop : (w : ℕ) (n : ℕ) (s : List ℕ) (at : ℕ) → number w (drop n s) at ≡ number w s (n + at)
-number-drop w n s at = number-agrees w (drop n s) s at (n + at) (λ i below. getD-drop n s (at + i) 0 ∙ ap (λ (k : ℕ). getD s k 0) (omega arith))
 
 -- bytes below 256 make a number below 256 ^ w
 pub number-below : (w : ℕ) (s : List ℕ) (at : ℕ) → ((i : ℕ) → getD s i 0 < base) → number w s at < base ^ w

@@ -1,5 +1,4 @@
 -- The invariant: what is written and the text of the tasks make the whole text (`Running`). The measure: the tasks to come. Assumes nothing.
-use Prim.Native.Nat.{_*_}
 use Rattle.tasks.specs.Stack.{tasksTurns, tasksIn}
 use Rattle.tasks.specs.Run.{meant, stackAt}
 use Rattle.tasks.proofs.Runs.{Running, running-start, turnable, running-more, running-less, running-end}

@@ -1,6 +1,5 @@
 -- Bytes are stored one after the other. Assumes nothing.
 use borrow.Author.Needs.{needs}
-use mathlib.Core.Path.{_≡_, sym, ap}
 use Prim.Native.Nat.{_+_, _≤_}
 use lib.ListN.{length, length-set}
 use Rattle.steps.specs.Step.{saidBytes}
