@@ -4,7 +4,7 @@
 use Prim.Native.Nat.{ℕ, _+_, _-_, _*_, _≤_}
 use native.Mathlib.Omega.{arith}
 use mathlib.Core.Path.{_≡_, refl, sym, ap, _∙_, subst}
-use mathlib.Core.Bool.{Bool, true, false, cond, _&&_, false≢true}
+use mathlib.Core.Bool.{Bool, true, false, cond, _&&_, and-eq-true-iff}
 use mathlib.Core.List.{List, map}
 use mathlib.Core.Option.{Option, none, some}
 use lib.ListN.{length}
@@ -99,14 +99,6 @@ pub data Came (s : List ℕ) (n : ℕ) (g : Forest ℕ) (G : Forest Placed) (fir
       → wordsFrom (length (c .letters)) (l .answers) 0 ≡ map answerWord (answers g (lettersOf (c .letters)) p)
       → Came s n g G first cursor p c l
 
-and-first : (a b : Bool) → (a && b) ≡ true → a ≡ true
-and-first true b e = refl
-and-first false b e = e
-
-and-second : (a b : Bool) → (a && b) ≡ true → b ≡ true
-and-second true b e = e
-and-second false b e = absurd (false≢true e)
-
 module _ (s : List ℕ) (n start : ℕ) (first : List ℕ) (accepted : checked s ≡ Checked.Accepted n start) (W : Walkable n (forest (rulesOf s) start) (placedForest (rulesOf s) start)) where
   placed-judged : (cursor : List ℕ) (p : Path) → Stands (placedForest (rulesOf s) start) first cursor p → placeJudged (rulesOf s) n start cursor ≡ Begun.at n start p
   unfolding placeJudged stored
@@ -128,7 +120,7 @@ module _ (s : List ℕ) (n start : ℕ) (first : List ℕ) (accepted : checked s
   lent-enough : (c : Call) → enoughLent (c .work) first (c .letters) (c .answers) n ≡ true → wordLength * cursorWords n ≤ length first
   unfolding enoughLent
   lent-enough c e =
-      let h = leb-true (cursorWords n) (wordCount first) (and-first (leb (cursorWords n) (wordCount first)) _ (and-second (enoughWork n (c .work)) _ e)) in
+      let h = leb-true (cursorWords n) (wordCount first) (and-eq-true-iff (leb (cursorWords n) (wordCount first)) _ .0 (and-eq-true-iff (enoughWork n (c .work)) _ .0 e .1) .0) in
       omega arith
 
   -- a call that is accepted

@@ -5,7 +5,7 @@ use native.Mathlib.Numerals.{add-one}
 use native.Mathlib.Omega.{arith}
 use native.Mathlib.Decide.{ℕ-discrete}
 use mathlib.Core.Path.{_≡_, refl, sym, ap, ap₂, _∙_}
-use mathlib.Core.Bool.{Bool, true, false, cond, _&&_}
+use mathlib.Core.Bool.{Bool, cond, _&&_, and-eq-true-iff}
 use mathlib.Core.List.{List}
 use lib.ListN.{length}
 use lib.Dec.{eqb, ltb}
@@ -58,13 +58,6 @@ linkOf-way t s r (Rule.Fill b c) = refl
 linkOf-way t s r (Rule.Part a b c) = refl
 linkOf-way t s r (Rule.Join b c) = refl
 
--- both tests of a conjunction
-both : (p q : Bool) → (p && q) ≡ true → (p ≡ true) × (q ≡ true)
-both true true e = (refl, refl)
-both true false e = (refl, e)
-both false true e = (e, refl)
-both false false e = (e, e)
-
 stayed : (F : Facts) (Done : ℕ → Type 0) (s : Side) (r : ℕ) → Done r → Follows F s r Way.stay → TrueLink F Done s r (linkOwn r)
 unfolding linkOwn
 stayed F Done s r d e =
@@ -99,7 +92,7 @@ module _ (R : List Rule) (Done : ℕ → Type 0) (t : List ℕ) (T : Tabled R Do
       let dj : (known t) .depth s j ≡ F .depth s j = T .depth s j (hj .inside) in
       let dk : (known t) .depth s k ≡ F .depth s k = T .depth s k (hk .inside) in
       by-bool (jumpOver t s p j k)
-      (λ u. let w = both (ltb ((known t) .depth s j) ((known t) .depth s p)) (eqb ((known t) .depth s j + (known t) .depth s j) ((known t) .depth s p + (known t) .depth s k)) u in
+      (λ u. let w = and-eq-true-iff (ltb ((known t) .depth s j) ((known t) .depth s p)) (eqb ((known t) .depth s j + (known t) .depth s j) ((known t) .depth s p + (known t) .depth s k)) .0 u in
       let below : (known t) .depth s j < (known t) .depth s p = ltb-true _ _ (w .0) in
       let equal : (known t) .depth s j + (known t) .depth s j ≡ (known t) .depth s p + (known t) .depth s k = eqb-true _ _ (w .1) in
       rw u (leads-over F s p j k (e .toward) (e .depth) hj hk (omega arith) (omega arith)))

@@ -3,7 +3,7 @@
 -- Assumes nothing.
 use Prim.Native.Nat.{ℕ, zero, suc}
 use mathlib.Core.Path.{_≡_, refl, sym, ap, _∙_}
-use mathlib.Core.Bool.{Bool, true, false, cond, _&&_, true≢false, false≢true}
+use mathlib.Core.Bool.{Bool, true, false, cond, true≢false, false≢true, and-eq-true-iff}
 use mathlib.Core.List.{[], _∷_}
 use mathlib.Core.Option.{Option, none, some}
 use mathlib.Core.Logic.{_⊎_, inl, inr, ⊎-elim}
@@ -18,19 +18,12 @@ use Rattle.forest.proofs.Steps.{Named}
 
 -- ---- equal cells
 
-and-both : (a b : Bool) → (a && b) ≡ true → (a ≡ true) × (b ≡ true)
-and-both true b e = (refl, e)
-and-both false b e = absurd (false≢true e)
-
-both-and : (a b : Bool) → a ≡ true → b ≡ true → (a && b) ≡ true
-both-and a b p q = rw p q
-
 same-cell : (c d : Cell) → sameCell c d ≡ true → c ≡ d
 unfolding sameCell
 same-cell c d e =
-    let p = and-both (eqb (c .0) (d .0)) _ e in
-    let q = and-both (eqb (c .1) (d .1)) _ (p .1) in
-    let r = and-both (eqb (c .2) (d .2)) _ (q .1) in
+    let p = and-eq-true-iff (eqb (c .0) (d .0)) _ .0 e in
+    let q = and-eq-true-iff (eqb (c .1) (d .1)) _ .0 (p .1) in
+    let r = and-eq-true-iff (eqb (c .2) (d .2)) _ .0 (q .1) in
     λ i. (eqb-true (c .0) (d .0) (p .0) i, eqb-true (c .1) (d .1) (q .0) i, eqb-true (c .2) (d .2) (r .0) i, eqb-true (c .3) (d .3) (r .1) i)
 
 cell-same : (c : Cell) → sameCell c c ≡ true
@@ -43,13 +36,13 @@ same-cells [] [] e = refl
 same-cells [] (d ∷ ds) e = absurd (false≢true e)
 same-cells (c ∷ cs) [] e = absurd (false≢true e)
 same-cells (c ∷ cs) (d ∷ ds) e =
-    let p = and-both (sameCell c d) (sameCells cs ds) e in
+    let p = and-eq-true-iff (sameCell c d) (sameCells cs ds) .0 e in
     λ i. same-cell c d (p .0) i ∷ same-cells cs ds (p .1) i
 
 pub cells-same : (cs : Cells) → sameCells cs cs ≡ true
 unfolding sameCells
 cells-same [] = refl
-cells-same (c ∷ cs) = both-and (sameCell c c) (sameCells cs cs) (cell-same c) (cells-same cs)
+cells-same (c ∷ cs) = and-eq-true-iff (sameCell c c) (sameCells cs cs) .1 (cell-same c, cells-same cs)
 
 -- ---- what is found
 

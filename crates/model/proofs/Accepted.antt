@@ -4,7 +4,7 @@
 use Prim.Native.Nat.{ℕ, suc, _+_, _-_}
 use native.Mathlib.Omega.{arith}
 use mathlib.Core.Path.{_≡_, refl, ap, _∙_}
-use mathlib.Core.Bool.{Bool, true, false, cond, not, _&&_}
+use mathlib.Core.Bool.{Bool, true, false, cond, not, _&&_, and-eq-true-iff}
 use mathlib.Core.List.{[], _∷_}
 use mathlib.Core.Option.{Option, none, some, Option·map}
 use lib.Dec.{eqb, ltb, lt→ltb}
@@ -21,18 +21,6 @@ use Rattle.model.proofs.Cells.{Steps, Top, Grows, begins, grows, top-gr
 use Rattle.model.proofs.Fit.{Fit, Tells, tells, shape, picked, pick-map, pair-steps, join-steps, node-outer, fill-outer}
 use Rattle.model.proofs.Standing.{Here, whole, says, pair-says, pair-itself}
 
--- tests that hold, taken apart and put together
-pub both : (p q : Bool) → p ≡ true → q ≡ true → p && q ≡ true
-both p q u v = rw (u, v)
-
-pub first-holds : (p q : Bool) → p && q ≡ true → p ≡ true
-first-holds true q u = refl
-first-holds false q u = u
-
-pub second-holds : (p q : Bool) → p && q ≡ true → q ≡ true
-second-holds true q u = u
-second-holds false q u = cc
-
 -- a cell of each form
 pub run-form : (s : Side) (a b : ℕ) → formOf (cellRun s, a, b, 0) ≡ S.run s a b
 unfolding formOf cellRun
@@ -43,9 +31,10 @@ run-form Side.right a b = refl
 pub reached : (F : Facts) (s : Side) (a b j : ℕ) → along F s (suc j) a ≡ b → F .depth s a ≡ suc j + F .depth s b → reaches F s a b ≡ true
 unfolding reaches
 reached F s a b j e d =
-    both (ltb (F .depth s b) (F .depth s a)) (eqb (along F s (F .depth s a - F .depth s b) a) b)
-    (is-true (ltb (F .depth s b) (F .depth s a)) (lt→ltb (F .depth s b) (F .depth s a) (omega arith)))
-    (rw (let k : F .depth s a - F .depth s b ≡ suc j = omega arith in k, e) (eqb-same b))
+    and-eq-true-iff (ltb (F .depth s b) (F .depth s a)) (eqb (along F s (F .depth s a - F .depth s b) a) b) .1 (
+      is-true (ltb (F .depth s b) (F .depth s a)) (lt→ltb (F .depth s b) (F .depth s a) (omega arith)),
+      rw (let k : F .depth s a - F .depth s b ≡ suc j = omega arith in k, e) (eqb-same b),
+    )
 
 pub taken : (b : Bool) (x : State) (p k : ℕ) (o : Option ℕ) → cond b x State.wrong ≡ State.at p k o → (b ≡ true) × (x ≡ State.at p k o)
 taken true x p k o q = (refl, q)
@@ -63,7 +52,7 @@ regrown F State.above s x a k o q v h = cc
 regrown F State.wrong s x a k o q v h = cc
 regrown F (State.at p i o′) s x a k o q v h =
     let t = taken (not (eqb i (cellRun s)) && eqb p x && reaches F s x a) (State.at a (cellRun s) (keptBy s o′)) a k o q in
-    let f : not (eqb i (cellRun s)) && eqb p x ≡ true = first-holds (not (eqb i (cellRun s)) && eqb p x) (reaches F s x a) (t .0) in
+    let f : not (eqb i (cellRun s)) && eqb p x ≡ true = and-eq-true-iff (not (eqb i (cellRun s)) && eqb p x) (reaches F s x a) .0 (t .0) .0 in
     let e : State.at a (cellRun s) (keptBy s o′) ≡ State.at a k o = t .1 in
     let d : keptBy s o′ ≡ o = cc in
     rw (f, h, ← d, kept-kept s o′)

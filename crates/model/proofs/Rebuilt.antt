@@ -3,7 +3,7 @@
 -- Assumes nothing.
 use Prim.Native.Nat.{ℕ}
 use mathlib.Core.Path.{_≡_, refl}
-use mathlib.Core.Bool.{true, false, not, _&&_, false≢true}
+use mathlib.Core.Bool.{true, false, not, _&&_, false≢true, and-eq-true-iff}
 use mathlib.Core.List.{[], _∷_}
 use mathlib.Core.Option.{Option, none, some, Option·map}
 use lib.Dec.{eqb, eqb→eq}
@@ -19,7 +19,6 @@ use Rattle.model.proofs.Cells.{topKind}
 use Rattle.forest.proofs.Cases.{by-bool}
 use Rattle.model.proofs.Fit.{Fit, Tells, tells, shape, node-outer, fill-outer}
 use Rattle.model.proofs.Standing.{whole}
-use Rattle.model.proofs.Accepted.{second-holds}
 use Rattle.model.proofs.Stood.{Row, hollow, two, tree, row-of, Stood, nowhere, in-row, in-spine, at-node, Fine, fine-taken, run-stood}
 
 -- a cell is of the form that it has
@@ -115,7 +114,7 @@ Opened F w a cs = Stood F w (State.at (outer F a) cellSpine (innerOf (F .rule a)
 
 tree-opens : (F : Facts) (w e : Expression) (z : Position) (k a : ℕ) → Fit F Sort.tree e → At w Where.tree e z → not (eqb k cellSpine) && eqb (ruleNumber e) a ≡ true → Opened F w a (cells z)
 tree-opens F w e z k a g h u =
-    rw (eqb→eq (ruleNumber e) a (rw (second-holds (not (eqb k cellSpine)) (eqb (ruleNumber e) a) u) tt)) at (tree-spine F w e z g h)
+    rw (eqb→eq (ruleNumber e) a (rw (and-eq-true-iff (not (eqb k cellSpine)) (eqb (ruleNumber e) a) .0 u .1) tt)) at (tree-spine F w e z g h)
 
 row-spine : (F : Facts) (w : Expression) (z : Position) (p k a : ℕ) (o : Option ℕ) → Row F w z p → spineAt (F .rule p) p k o a ≡ true → Opened F w a (cells z)
 unfolding spineAt shape ruleNumber

@@ -4,7 +4,7 @@
 use Prim.Native.Nat.{ℕ, zero, suc, _+_, _-_, _<_, _≤_}
 use native.Mathlib.Omega.{arith}
 use mathlib.Core.Path.{_≡_, refl, sym}
-use mathlib.Core.Bool.{Bool, true, false, cond, not, _&&_}
+use mathlib.Core.Bool.{Bool, true, false, cond, not, _&&_, and-eq-true-iff}
 use mathlib.Core.List.{[], _∷_}
 use mathlib.Core.Option.{Option, none, Option·map}
 use lib.Dec.{eqb, ltb, ltb→lt, eqb→eq}
@@ -18,7 +18,7 @@ use Rattle.model.specs.Stored.{State, afterRun, reaches, keptBy}
 use Rattle.model.proofs.Cells.{Steps, topKind, topKind-step, step-begins, step-grows}
 use Rattle.forest.proofs.Cases.{by-bool}
 use Rattle.model.proofs.Fit.{Fit, Tells, picked, pair-steps, join-steps}
-use Rattle.model.proofs.Accepted.{first-holds, second-holds, kept-kept, kept-none, kept-continues, run-no-spine}
+use Rattle.model.proofs.Accepted.{kept-kept, kept-none, kept-continues, run-no-spine}
 
 -- what stands at a row position, by the number of its representative: nothing, a two-sided pair, or a tree
 pub data Row (F : Facts) (w : Expression) (z : Position) : ℕ → Type 0 where
@@ -155,10 +155,10 @@ run-stood F w State.above s a b cs h f = absurd f
 run-stood F w State.wrong s a b cs h f = absurd f
 run-stood F w (State.at p k o) s a b cs h f =
     let u = fine-taken (not (eqb k (cellRun s)) && eqb p a && reaches F s a b) (State.at b (cellRun s) (keptBy s o)) f in
-    let v = first-holds (not (eqb k (cellRun s)) && eqb p a) (reaches F s a b) u in
-    let x = second-holds (not (eqb k (cellRun s)) && eqb p a) (reaches F s a b) u in
-    let e : p ≡ a = eqb→eq p a (rw (second-holds (not (eqb k (cellRun s))) (eqb p a) v) tt) in
+    let v = and-eq-true-iff (not (eqb k (cellRun s)) && eqb p a) (reaches F s a b) .0 u .0 in
+    let x = and-eq-true-iff (not (eqb k (cellRun s)) && eqb p a) (reaches F s a b) .0 u .1 in
+    let e : p ≡ a = eqb→eq p a (rw (and-eq-true-iff (not (eqb k (cellRun s))) (eqb p a) .0 v .1) tt) in
     rw u
-    (run-end F w s a b k o cs (rw e at h) (not-true (eqb k (cellRun s)) (first-holds (not (eqb k (cellRun s))) (eqb p a) v))
-    (ltb→lt (F .depth s b) (F .depth s a) (rw (first-holds (ltb (F .depth s b) (F .depth s a)) (eqb (along F s (F .depth s a - F .depth s b) a) b) x) tt))
-    (eqb→eq (along F s (F .depth s a - F .depth s b) a) b (rw (second-holds (ltb (F .depth s b) (F .depth s a)) (eqb (along F s (F .depth s a - F .depth s b) a) b) x) tt)))
+    (run-end F w s a b k o cs (rw e at h) (not-true (eqb k (cellRun s)) (and-eq-true-iff (not (eqb k (cellRun s))) (eqb p a) .0 v .0))
+    (ltb→lt (F .depth s b) (F .depth s a) (rw (and-eq-true-iff (ltb (F .depth s b) (F .depth s a)) (eqb (along F s (F .depth s a - F .depth s b) a) b) .0 x .0) tt))
+    (eqb→eq (along F s (F .depth s a - F .depth s b) a) b (rw (and-eq-true-iff (ltb (F .depth s b) (F .depth s a)) (eqb (along F s (F .depth s a - F .depth s b) a) b) .0 x .1) tt)))

@@ -3,7 +3,7 @@
 -- Assumes nothing.
 use Prim.Native.Nat.{ℕ, _-_}
 use mathlib.Core.Path.{_≡_, refl}
-use mathlib.Core.Bool.{Bool, true, false, false≢true, cond, not, _&&_}
+use mathlib.Core.Bool.{Bool, true, false, false≢true, cond, not, _&&_, and-eq-true-iff}
 use mathlib.Core.List.{List, [], _∷_}
 use mathlib.Core.Option.{Option, none, some}
 use lib.Dec.{eqb, ltb}
@@ -14,7 +14,6 @@ use Rattle.model.specs.Facts.{Facts}
 use Rattle.model.specs.Model.{along, outer, innerOf}
 use Rattle.model.specs.Stored.{Form, State, formOf, rowUnder, rowIn, afterRow, isThat, spineAt, spineIn, reaches, keptBy, afterRun, next, stateAfter, endsWell}
 use Rattle.forest.proofs.Cases.{by-bool}
-use Rattle.model.proofs.Accepted.{first-holds, second-holds}
 use Rattle.tables.specs.Closes.{Names, Closed}
 use types.Run.{OneOf, miss}
 use denote.Enum.Declared.{tagOf}
@@ -60,7 +59,7 @@ module _ (P : ℕ → Type 0) where
   that-has (some c) a m e = rw (eqb-true c a e) at m
 
   same-has : (p a : ℕ) (b : Bool) → P p → b && eqb p a ≡ true → P a
-  same-has p a b h e = rw (eqb-true p a (second-holds b (eqb p a) e)) at h
+  same-has p a b h e = rw (eqb-true p a (and-eq-true-iff b (eqb p a) .0 e .1)) at h
 
   -- the tree whose spine may open
   pub spine-has : (x : Rule) (p k a : ℕ) (o : Option ℕ) → P p → MaybeHas P o → spineAt x p k o a ≡ true → P a
@@ -103,7 +102,7 @@ module _ (F : Facts) (P : ℕ → Type 0) (h : Closed F P) where
   unfolding reaches
   reached-has s a b p e =
       let to = along F s (F .depth s a - F .depth s b) a in
-      rw (eqb-true to b (second-holds (ltb (F .depth s b) (F .depth s a)) (eqb to b) e)) at (along-has h s (F .depth s a - F .depth s b) a p)
+      rw (eqb-true to b (and-eq-true-iff (ltb (F .depth s b) (F .depth s a)) (eqb to b) .0 e .1)) at (along-has h s (F .depth s a - F .depth s b) a p)
 
   pub unreached : (s : Side) (a b : ℕ) → P a → (P b → ⊥) → reaches F s a b ≡ false
   unreached s a b p n = by-bool (reaches F s a b) (λ u. absurd (n (reached-has s a b p u))) (λ u. u)
@@ -119,7 +118,7 @@ module _ (F : Facts) (P : ℕ → Type 0) (h : Closed F P) where
   after-run-has (State.at p k o) s a b e =
       let fresh = not (eqb k (cellRun s)) in
       by-bool (fresh && eqb p a && reaches F s a b)
-      (λ u. rw u (reached-has s a b (same-has P p a fresh (e .0) (first-holds (fresh && eqb p a) (reaches F s a b) u)) (second-holds (fresh && eqb p a) (reaches F s a b) u), kept-has s o (e .1)))
+      (λ u. rw u (reached-has s a b (same-has P p a fresh (e .0) (and-eq-true-iff (fresh && eqb p a) (reaches F s a b) .0 u .0)) (and-eq-true-iff (fresh && eqb p a) (reaches F s a b) .0 u .1), kept-has s o (e .1)))
       (λ u. rw u tt)
   after-run-has State.wrong s a b e = tt
 

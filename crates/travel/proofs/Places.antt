@@ -3,7 +3,7 @@
 use Prim.Native.Nat.{ℕ, _+_, _*_, _≤_, _<_}
 use native.Mathlib.Omega.{arith}
 use mathlib.Core.Path.{_≡_, sym, ap, subst, _∙_}
-use mathlib.Core.Bool.{true, false}
+use mathlib.Core.Bool.{true, false, and-eq-true-iff}
 use mathlib.Core.List.{List, map}
 use lib.ListN.{length, drop}
 use lib.Dec.{eqb}
@@ -20,7 +20,6 @@ use Rattle.model.specs.Facts.{Facts, factsOf}
 use Rattle.model.specs.Model.{standing}
 use Rattle.model.specs.Stored.{accepts}
 use Rattle.model.specs.Walk.{answers, after}
-use Rattle.model.proofs.Accepted.{second-holds}
 use Rattle.tables.specs.Table.{known}
 use Rattle.cells.specs.declared.Cell.{Cell as Words}
 use Rattle.cells.specs.Cells.{cell, Lies, cursorLength}
@@ -71,7 +70,7 @@ module _ {r n : ℕ} {t s letters given : List ℕ} (J : Travels r n t s letters
     used-lies =
         let room = J .room in
         let few : 4 * (usedCells s + 1) ≤ 16 * (n + 1)
-        = leb-true _ _ (second-holds (eqb ((cellAt s 0) .3) 0) _ (second-holds (eqb ((cellAt s 0) .2) 0) _ (second-holds (eqb ((cellAt s 0) .1) 0) _ h))) in
+        = leb-true _ _ (and-eq-true-iff (eqb ((cellAt s 0) .3) 0) _ .0 (and-eq-true-iff (eqb ((cellAt s 0) .2) 0) _ .0 (and-eq-true-iff (eqb ((cellAt s 0) .1) 0) _ .0 h .1) .1) .1) in
         omega arith
 
     pub not-placed : placed (known t) r (cellsIn s k) ≡ false → Walks (rulesKept t) (placeJudged (rulesKept t) n r s) letters s s given given (Walked.Refused Refusal.Place)

@@ -3,7 +3,7 @@
 use Prim.Native.Nat.{ℕ, _+_, _-_, _*_, _/_, _≤_}
 use native.Mathlib.Omega.{arith}
 use mathlib.Core.Path.{_≡_, sym, ap, _∙_}
-use mathlib.Core.Bool.{true, false}
+use mathlib.Core.Bool.{true, false, and-eq-true-iff}
 use mathlib.Core.List.{List}
 use lib.ListN.{length}
 use lib.Dec.{leb}
@@ -16,7 +16,6 @@ use Rattle.plan.specs.Check.{checked, rulesOf}
 use Rattle.forest.specs.declared.Walked.{Walked}
 use Rattle.forest.specs.Outcome.{workWords, enoughWork, cleared, workAfter}
 use Rattle.forest.specs.Walk.{cursorWords, enoughLent, firstOther, Begun, placeJudged, lettersJudged, begunFrom, begun, walked, cursorAfter, answersAfter, walkedWork}
-use Rattle.model.proofs.Accepted.{first-holds, second-holds}
 use Rattle.demand.specs.Calls.{walkOf}
 use Rattle.rows.specs.Rows.{workLength, Within}
 use Rattle.rows.proofs.Work.{enough-room, work-cleared}
@@ -37,10 +36,10 @@ module _ (s work cursor letters given : List ℕ) where
     pub lendable : enoughLent work cursor letters given n ≡ true → Lendable s n start work cursor letters given
     unfolding enoughLent cursorWords
     lendable e =
-        let worked = first-holds (enoughWork n work) _ e in
-        let rest = second-holds (enoughWork n work) _ e in
-        let far : 16 * (n + 1) ≤ length cursor / 2 = leb-true _ _ (first-holds (leb (cursorWords n) (wordCount cursor)) _ rest) in
-        let all : length letters ≤ length given / 2 = leb-true _ _ (second-holds (leb (cursorWords n) (wordCount cursor)) _ rest) in
+        let worked = and-eq-true-iff (enoughWork n work) _ .0 e .0 in
+        let rest = and-eq-true-iff (enoughWork n work) _ .0 e .1 in
+        let far : 16 * (n + 1) ≤ length cursor / 2 = leb-true _ _ (and-eq-true-iff (leb (cursorWords n) (wordCount cursor)) _ .0 rest .0) in
+        let all : length letters ≤ length given / 2 = leb-true _ _ (and-eq-true-iff (leb (cursorWords n) (wordCount cursor)) _ .0 rest .1) in
         record { accepted = q; worked = enough-room n work worked; room = omega arith; answerable = omega arith }
 
     begins : enoughLent work cursor letters given n ≡ true
