@@ -1,15 +1,15 @@
 -- The reference walker on the located forest moves as the neighbours of positions say, for every node there knows its
 -- neighbours. On the placed forest, which is the located one relabelled, it takes the same paths. Assumes nothing.
 use mathlib.Core.Path.{_≡_, sym, _∙_, ap}
-use mathlib.Core.List.{List, map}
+use mathlib.Core.List.{List}
 use mathlib.Core.Option.{some, Option·map}
 use Rattle.forest.specs.Expression.{Expression}
 use Rattle.forest.specs.Place.{Side, placedOf}
 use Rattle.forest.specs.Letter.{Letter}
-use Rattle.forest.specs.Reference.{Path, labelAt, answer, moved, answers, pathAfter}
+use Rattle.forest.specs.Reference.{Path, labelAt, answer, moved, pathAfter}
 use Rattle.forest.proofs.Good.{Sort, Good}
 use Rattle.forest.proofs.Position.{Position, locatedOf, enter, child, sibling, parent}
-use Rattle.forest.proofs.Relabel.{labelAt-relabel, answer-relabel, moved-relabel, answers-relabel, pathAfter-relabel}
+use Rattle.forest.proofs.Relabel.{labelAt-relabel, answer-relabel, moved-relabel, pathAfter-relabel}
 use Rattle.forest.proofs.Neighbours.{neighbour, answer-neighbour, answer-edge}
 use Rattle.forest.proofs.Knows.{located-knows, located-root}
 use Rattle.forest.proofs.Placed.{placedAs, placed-of}
@@ -46,9 +46,6 @@ module _ (w : Expression) where
 
   pub placed-moved : (c : Letter) (p : Path) → moved (placedOf w) c p ≡ moved (locatedOf w) c p
   placed-moved c p = ap (λ g. moved g c p) (sym (placed-of w)) ∙ moved-relabel placedAs (locatedOf w) c p
-
-  pub placed-answers : (cs : List Letter) (p : Path) → answers (placedOf w) cs p ≡ map (Option·map placedAs) (answers (locatedOf w) cs p)
-  placed-answers cs p = ap (λ g. answers g cs p) (sym (placed-of w)) ∙ answers-relabel placedAs (locatedOf w) cs p
 
   pub placed-after : (cs : List Letter) (p : Path) → pathAfter (placedOf w) cs p ≡ pathAfter (locatedOf w) cs p
   placed-after cs p = ap (λ g. pathAfter g cs p) (sym (placed-of w)) ∙ pathAfter-relabel placedAs (locatedOf w) cs p

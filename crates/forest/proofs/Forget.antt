@@ -121,11 +121,6 @@ unfolding hasNone append
 hasNone-append Forest.none g = refl
 hasNone-append (Forest.tree a c f) g = refl
 
-pub hasNone-relabel : {A B : Type 0} (h : A → B) (f : Forest A) → hasNone (relabel h f) ≡ hasNone f
-unfolding hasNone relabel
-hasNone-relabel h Forest.none = refl
-hasNone-relabel h (Forest.tree a c f) = refl
-
 one-tree-some : {f : Hedge} → OneTree f → hasNone (trees f) ≡ false
 unfolding hasNone trees
 one-tree-some OneTree.one-tree = refl
@@ -164,5 +159,6 @@ same-placed (Good.fill {r = r} {b = b} {c = c} g h) cs φ ψ q =
 same-placed (Good.part {r = r} {a = a} {b = b} {c = c} g h) cs φ ψ q = ap (λ ρ. placed (Expression.part r a b c) cs ρ) q
 same-placed (Good.join {r = r} {b = b} {c = c} g h) cs φ ψ q = ap (λ ρ. placed (Expression.join r b c) cs ρ) q
 
+-- a closed expression never asks what a hole holds
 pub closed-placed : {e : Expression} → Good Sort.row e → (cs : Cells) (φ ψ : Cells → Forest Placed) → placed e cs φ ≡ placed e cs ψ
 closed-placed g cs φ ψ = same-placed g cs φ ψ tt

@@ -3,7 +3,6 @@
 -- Assumes nothing.
 use Prim.Native.Nat.{ℕ}
 use mathlib.Core.Path.{_≡_, refl, ap, ap₂}
-use mathlib.Core.Bool.{true}
 use mathlib.Core.List.{List, [], _∷_}
 use mathlib.Core.Option.{Option, none, some, Option·map, Option·getD}
 use Rattle.forest.specs.Expression.{Expression, ruleNumber}
@@ -14,14 +13,12 @@ use Rattle.forest.proofs.Position as P
 use Rattle.forest.proofs.Position.{Position, Located, At, Where, cells, labelOf, orElse}
 use Rattle.model.specs.Facts.{Facts}
 use Rattle.model.specs.Model.{Node, standing}
-use Rattle.model.specs.Stored.{accepts}
 use Rattle.model.specs.Walk.{label, fromNode, move, moved, answer, answers, after}
 use Rattle.model.proofs.Cells.{Top, at-row, at-run, at-spine}
 use Rattle.model.proofs.Fit.{Fit, shape}
 use Rattle.model.proofs.Standing.{Here, whole, says, standing-here}
 use Rattle.model.proofs.Enter.{Agree, nowhere, found}
 use Rattle.model.proofs.Moves.{child-agrees, sibling-agrees, parent-agrees, root-agrees}
-use Rattle.model.proofs.Rebuilt.{NodeWith, accepted-node}
 
 -- the node that a letter leads to on positions, from a node or from above the forest
 unfoldable pub moveAt : Expression → Letter → Option Located → Option Located
@@ -129,9 +126,3 @@ module _ (F : Facts) (w : Expression) (g : Fit F Sort.row w) where
   -- a node's cells alone are its place: the rule is read off the last cell
   pub same-here : (e : Expression) (z : Position) → At w Where.here e z → Same w (some (e, z)) (standing F (cells z), cells z)
   same-here e z h = rw (standing-here F w g e z h) (at h)
-
-  -- stored cells that the test accepts are a node's place
-  pub same-stored : (cs : Cells) → accepts F (ruleNumber w) cs ≡ true → (x : Located) × Same w (some x) (standing F cs, cs)
-  same-stored cs q =
-      let n : NodeWith w cs = accepted-node F w g cs q in
-      ((n .expression, n .position), rw (n .same-cells) at (same-here (n .expression) (n .position) (n .there)))

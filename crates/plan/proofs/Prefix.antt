@@ -106,6 +106,3 @@ module _ (p s : List ℕ) (most n start : ℕ) (h : checkedUpTo most s ≡ Check
 
   pub prefix-accepted-rules : rulesOf (p ++ s) ≡ rulesOf s
   prefix-accepted-rules = let q = accepted-plan most s n start h in prefix-rules p s (q .trailer) (q .within)
-
-  pub prefix-accepted-records : recordsOf (p ++ s) ≡ recordsOf s
-  prefix-accepted-records = let q = accepted-plan most s n start h in prefix-records p s (q .trailer) (q .within)

@@ -13,10 +13,9 @@ use Rattle.record.specs.declared.Record.{Record}
 use Rattle.rule.specs.declared.Rule.{Rule}
 use Rattle.rule.specs.declared.Decoded.{Decoded}
 use Rattle.record.specs.Record.{recordLength, recordAt}
-use Rattle.rule.specs.Rule.{decode, encode}
+use Rattle.rule.specs.Rule.{decode}
 use Rattle.record.specs.Records.{recordsFrom, recordIn}
 use Rattle.rule.specs.Sound.{rule, Sound, Closed}
-use Rattle.rule.proofs.Decode.{encode-decode}
 use Rattle.record.proofs.Records.{records-length, records-at}
 use Rattle.rule.proofs.Rules.{length-rulesIn, rule-decoded}
 use Rattle.judge.specs.declared.Judged.{Judged}
@@ -126,7 +125,3 @@ module _ (most : ℕ) (s : List ℕ) (n start : ℕ) (q : Plan most s n start) w
       ap (λ (ws : List Record). recordIn ws i) plan-records ∙ records-at s (firstAt s) n i l
       in
       ap decode (sym at) ∙ named .decodes ∙ ap {B = Decoded} (λ (r : Rule). Decoded.Whole r) (sym (rule-decoded (recordsOf s) i (named .means) (named .decodes)))
-
-  -- and the rule writes that record
-  pub plan-encodes : (i : ℕ) → i < n → encode (rule (rulesOf s) i) ≡ recordAt s (firstAt s + recordLength * i)
-  plan-encodes i l = encode-decode (recordAt s (firstAt s + recordLength * i)) (rule (rulesOf s) i) (plan-decodes i l)

@@ -1,16 +1,11 @@
 -- Bytes written one after another at the front of a slice: each write goes where the last one ended, so the slice is always
 -- what was written so far and then what was there before. Assumes nothing.
-use Prim.Native.Nat.{ℕ, _+_, _≤_}
+use Prim.Native.Nat.{ℕ, _+_}
 use mathlib.Core.List.{List, _++_, append-assoc}
-use mathlib.Core.Path.{_≡_, _∙_}
-use native.Mathlib.Omega.{arith}
-use lib.ListN.{length, take, drop, length-append, length-drop}
+use mathlib.Core.Path.{_≡_}
+use lib.ListN.{length, take, drop, length-append}
 use lib.Seq.{take-at, drop-append-add, drop-drop}
 use Rattle.words.specs.Front.{inFront}
-
-pub length-inFront : (bs out : List ℕ) → length bs ≤ length out → length (inFront bs out) ≡ length out
-unfolding inFront
-length-inFront bs out h = length-append bs (drop (length bs) out) ∙ omega (arith, length-drop (length bs) out)
 
 -- what is written where the last write ended
 pub inFront-more : (bs out vs : List ℕ) (k m : ℕ) → length bs ≡ k → length vs ≡ m
