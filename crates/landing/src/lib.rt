@@ -40,8 +40,3 @@ pub fn arrive(work: &[u8], cursor: &mut [u8], change: Change) -> Landing
     let used = cells::write(cursor, change);
     Landing { used, rule, answer }
 }
-
-impl Landing {
-    // The answer of a letter that leads nowhere.
-    pub const NOWHERE: u32 = 65535;
-}

@@ -15,6 +15,11 @@ pub enum Letter {
     S,
 }
 
+impl Letter {
+    // The answer to a letter that leads nowhere.
+    pub const NOWHERE: u32 = 65535;
+}
+
 // What a byte is: a letter, or something else.
 pub enum Read {
     Move(Letter),

@@ -1,6 +1,6 @@
 // The lines of letters and of a refusal (document 01, "One sample plan"), written into a lent slice; each writer gives the offset
 // after what it wrote.
-use landing::Landing;
+use letter::Letter;
 use refusal::Refusal;
 ghost use Prim.Native.Nat.{_+_, _*_, _≤_};
 ghost use lib.ListN.{length};
@@ -28,7 +28,7 @@ fn put_answer(out: &mut [u8], at: usize, word: u16) -> usize
     requires { ⌜ at + length (shown (answerOf word)) ≤ length (now out) ⌝ }
     ensures { λ r. ⌜ Put (shown (answerOf word)) at (now (out .entry)) (now (out .exit)) r ⌝ }
 {
-    if word as u32 == Landing::NOWHERE {
+    if word as u32 == Letter::NOWHERE {
         return decimal::put_byte(out, at, b'-');
     }
     decimal::put_decimal(out, at, word as u64)

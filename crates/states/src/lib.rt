@@ -18,7 +18,7 @@ fn first_root(table: &[u8], cursor: &mut [u8], at: &mut Standing, r: u16) -> u32
     ensures { λ x. ⌜ Stepped r (now (table .entry)) (moveOf Letter.A) (now (at .entry) .used) (now (at .entry) .rule) (now (cursor .entry)) (now (cursor .exit)) (landed (now (at .exit)) x) ⌝ }
 {
     let Outcome::Node(change) = ways::to_first_root(table, cursor, at.used, at.rule, r) else {
-        return Landing::NOWHERE;
+        return Letter::NOWHERE;
     };
     let landing = landing::arrive(table, cursor, change);
     *at = Standing {
@@ -34,7 +34,7 @@ fn last_root(table: &[u8], cursor: &mut [u8], at: &mut Standing, r: u16) -> u32
     ensures { λ x. ⌜ Stepped r (now (table .entry)) (moveOf Letter.Z) (now (at .entry) .used) (now (at .entry) .rule) (now (cursor .entry)) (now (cursor .exit)) (landed (now (at .exit)) x) ⌝ }
 {
     let Outcome::Node(change) = ways::to_last_root(table, cursor, at.used, at.rule, r) else {
-        return Landing::NOWHERE;
+        return Letter::NOWHERE;
     };
     let landing = landing::arrive(table, cursor, change);
     *at = Standing {
@@ -50,7 +50,7 @@ fn first_child(table: &[u8], cursor: &mut [u8], at: &mut Standing, r: u16) -> u3
     ensures { λ x. ⌜ Stepped r (now (table .entry)) (moveOf Letter.F) (now (at .entry) .used) (now (at .entry) .rule) (now (cursor .entry)) (now (cursor .exit)) (landed (now (at .exit)) x) ⌝ }
 {
     let Outcome::Node(change) = ways::to_first_child(table, cursor, at.used, at.rule, r) else {
-        return Landing::NOWHERE;
+        return Letter::NOWHERE;
     };
     let landing = landing::arrive(table, cursor, change);
     *at = Standing {
@@ -66,7 +66,7 @@ fn last_child(table: &[u8], cursor: &mut [u8], at: &mut Standing, r: u16) -> u32
     ensures { λ x. ⌜ Stepped r (now (table .entry)) (moveOf Letter.L) (now (at .entry) .used) (now (at .entry) .rule) (now (cursor .entry)) (now (cursor .exit)) (landed (now (at .exit)) x) ⌝ }
 {
     let Outcome::Node(change) = ways::to_last_child(table, cursor, at.used, at.rule, r) else {
-        return Landing::NOWHERE;
+        return Letter::NOWHERE;
     };
     let landing = landing::arrive(table, cursor, change);
     *at = Standing {
@@ -82,7 +82,7 @@ fn next_sibling(table: &[u8], cursor: &mut [u8], at: &mut Standing, r: u16) -> u
     ensures { λ x. ⌜ Stepped r (now (table .entry)) (moveOf Letter.N) (now (at .entry) .used) (now (at .entry) .rule) (now (cursor .entry)) (now (cursor .exit)) (landed (now (at .exit)) x) ⌝ }
 {
     let Outcome::Node(change) = ways::to_next_sibling(table, cursor, at.used, at.rule, r) else {
-        return Landing::NOWHERE;
+        return Letter::NOWHERE;
     };
     let landing = landing::arrive(table, cursor, change);
     *at = Standing {
@@ -98,7 +98,7 @@ fn previous_sibling(table: &[u8], cursor: &mut [u8], at: &mut Standing, r: u16) 
     ensures { λ x. ⌜ Stepped r (now (table .entry)) (moveOf Letter.P) (now (at .entry) .used) (now (at .entry) .rule) (now (cursor .entry)) (now (cursor .exit)) (landed (now (at .exit)) x) ⌝ }
 {
     let Outcome::Node(change) = ways::to_previous_sibling(table, cursor, at.used, at.rule, r) else {
-        return Landing::NOWHERE;
+        return Letter::NOWHERE;
     };
     let landing = landing::arrive(table, cursor, change);
     *at = Standing {
@@ -114,7 +114,7 @@ fn parent(table: &[u8], cursor: &mut [u8], at: &mut Standing, r: u16) -> u32
     ensures { λ x. ⌜ Stepped r (now (table .entry)) (moveOf Letter.U) (now (at .entry) .used) (now (at .entry) .rule) (now (cursor .entry)) (now (cursor .exit)) (landed (now (at .exit)) x) ⌝ }
 {
     let Outcome::Node(change) = ways::to_parent(table, cursor, at.used, at.rule, r) else {
-        return Landing::NOWHERE;
+        return Letter::NOWHERE;
     };
     let landing = landing::arrive(table, cursor, change);
     *at = Standing {
@@ -130,7 +130,7 @@ fn same(table: &[u8], cursor: &mut [u8], at: &mut Standing, r: u16) -> u32
     ensures { λ x. ⌜ Stepped r (now (table .entry)) (moveOf Letter.S) (now (at .entry) .used) (now (at .entry) .rule) (now (cursor .entry)) (now (cursor .exit)) (landed (now (at .exit)) x) ⌝ }
 {
     let Outcome::Node(change) = ways::to_same(table, cursor, at.used, at.rule, r) else {
-        return Landing::NOWHERE;
+        return Letter::NOWHERE;
     };
     let landing = landing::arrive(table, cursor, change);
     *at = Standing {

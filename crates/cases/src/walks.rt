@@ -1,6 +1,6 @@
 // Letters on a plan from above its forest, with enough lent for eight rules and thirty-two letters.
 ghost use mathlib.Core.Path.{_≡_};
-ghost use Rattle.walk_cases.specs.Walks.{answered, stood};
+ghost use Rattle.cases.specs.Walks.{answered, stood};
 
 // The words of answers that they leave.
 pub fn answers(plan: &[u8], letters: &[u8]) -> [u8; 64]

@@ -1,8 +1,8 @@
 -- The cells are rows of the cases as bytes. Assumes nothing.
 use borrow.Author.Needs.{needs}
-use Rattle.walk_cases.proofs.Bytes.{rows}
-use Rattle.walk_cases.proofs.cell_cases.Statement.{statement}
-use Rattle.walk_cases.proofs.cell_cases.Tie as tie
+use Rattle.cases.proofs.Bytes.{rows}
+use Rattle.cases.proofs.cell_cases.Statement.{statement}
+use Rattle.cases.proofs.cell_cases.Tie as tie
 
 slice-aggregate-words-are : tie.Need-slice-aggregate-words-are
 slice-aggregate-words-are c = search needs

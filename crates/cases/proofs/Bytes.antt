@@ -6,7 +6,7 @@ use mathlib.Core.List.{List, [], _∷_}
 use lib.ListN.{take}
 use Rattle.forest.proofs.Starred.{sample}
 use Rattle.words.specs.Front.{inFront}
-use Rattle.walk_cases.specs.Walks.{answered, stood}
+use Rattle.cases.specs.Walks.{answered, stood}
 use Rattle.plan.specs.Check.{rulesOf, checked}
 use Rattle.words.specs.Number.{bytes, number}
 use Rattle.forest.specs.Outcome.{enoughWork}

@@ -2,8 +2,8 @@
 use mathlib.Core.Path.{ap}
 use Rattle.demand.specs.Calls.{Left, walkOf}
 use borrow.Author.Needs.{needs}
-use Rattle.walk_cases.proofs.walks.answers.Statement.{statement}
-use Rattle.walk_cases.proofs.walks.answers.Tie as tie
+use Rattle.cases.proofs.walks.cursor.Statement.{statement}
+use Rattle.cases.proofs.walks.cursor.Tie as tie
 
 slice-aggregate-walk : tie.Need-slice-aggregate-walk
 slice-aggregate-walk c = search needs
@@ -19,10 +19,10 @@ walk-requires c κs = search needs
 
 returns : tie.Need-returns
 unfolding walkOf
-returns c = ap (λ (l : Left). l .answers) (c .before .before .before .walk .ensures)
+returns c = ap (λ (l : Left). l .cursor) (c .before .before .before .walk .ensures)
 
-pub answers-spec : {M : Type 1} → statement M
-answers-spec =
+pub cursor-spec : {M : Type 1} → statement M
+cursor-spec =
     tie.close
     (tie.spec
     slice-aggregate-walk
