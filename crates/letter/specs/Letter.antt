@@ -1,4 +1,4 @@
--- The code's letters, and what a byte is, as the definitions have them.
+-- The code's letters, and what a byte is, as the definitions have them (document 01, "Letters").
 use mathlib.Core.Option.{Option, none, some}
 use Rattle.forest.specs.Place.{Side}
 use Rattle.forest.specs.Letter as spec

@@ -1,4 +1,4 @@
--- What an operation leaves that writes bytes.
+-- What an operation leaves that writes bytes (document 01, "Seal" and "Spread").
 use Prim.Native.Nat.{ℕ}
 use mathlib.Core.List.{List}
 use Rattle.words.specs.Front.{inFront}

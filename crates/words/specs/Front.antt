@@ -1,4 +1,4 @@
--- Bytes at the front of a slice.
+-- Bytes at the front of a slice (document 01, "Seal": "leaves later bytes").
 use Prim.Native.Nat.{ℕ}
 use mathlib.Core.List.{List, _++_}
 use lib.ListN.{length, drop}
