@@ -12,7 +12,7 @@ ghost use Rattle.given.specs.Interface.{measuredResult, measuredPosition, trees
 // Check.
 #[no_mangle]
 pub extern "C" fn plan_check(plan: &[u8], n: &mut u16, start: &mut u16, position: &mut u64) -> u32
-    ensures { λ r. ⌜ (r ≡ checkedResult (checked (now (plan .entry)))) × (now (n .exit) ≡ countAfter (checked (now (plan .entry))) (now (n .entry))) × (now (start .exit) ≡ startAfter (checked (now (plan .entry))) (now (start .entry))) × (now (position .exit) ≡ checkedPosition (checked (now (plan .entry)))) ⌝ }
+    ensures { λ r. let c = checked (now (plan .entry)) in ⌜ (r ≡ checkedResult c) × (now (n .exit) ≡ countAfter c (now (n .entry))) × (now (start .exit) ≡ startAfter c (now (start .entry))) × (now (position .exit) ≡ checkedPosition c) ⌝ }
 {
     given::give_checked(plan::check(plan), n, start, position)
 }
@@ -26,7 +26,7 @@ pub extern "C" fn plan_seal(
     written: &mut u64,
     position: &mut u64,
 ) -> u32
-    ensures { λ r. ⌜ (r ≡ writtenResult (sealed (now (words .entry)) start (now (out .entry)))) × (now (out .exit) ≡ sealedOutput (now (words .entry)) start (now (out .entry))) × (now (written .exit) ≡ lengthAfter (sealed (now (words .entry)) start (now (out .entry))) (now (written .entry))) × (now (position .exit) ≡ writtenPosition (sealed (now (words .entry)) start (now (out .entry)))) ⌝ }
+    ensures { λ r. let w = sealed (now (words .entry)) start (now (out .entry)) in ⌜ (r ≡ writtenResult w) × (now (out .exit) ≡ sealedOutput (now (words .entry)) start (now (out .entry))) × (now (written .exit) ≡ lengthAfter w (now (written .entry))) × (now (position .exit) ≡ writtenPosition w) ⌝ }
 {
     given::give_written(seal::seal(words, start, out), written, position)
 }
@@ -40,7 +40,7 @@ pub extern "C" fn plan_unseal(
     start: &mut u16,
     position: &mut u64,
 ) -> u32
-    ensures { λ r. ⌜ (r ≡ checkedResult (unsealed (now (plan .entry)) (now (out .entry)))) × (now (out .exit) ≡ unsealedOutput (now (plan .entry)) (now (out .entry))) × (now (n .exit) ≡ countAfter (unsealed (now (plan .entry)) (now (out .entry))) (now (n .entry))) × (now (start .exit) ≡ startAfter (unsealed (now (plan .entry)) (now (out .entry))) (now (start .entry))) × (now (position .exit) ≡ checkedPosition (unsealed (now (plan .entry)) (now (out .entry)))) ⌝ }
+    ensures { λ r. let c = unsealed (now (plan .entry)) (now (out .entry)) in ⌜ (r ≡ checkedResult c) × (now (out .exit) ≡ unsealedOutput (now (plan .entry)) (now (out .entry))) × (now (n .exit) ≡ countAfter c (now (n .entry))) × (now (start .exit) ≡ startAfter c (now (start .entry))) × (now (position .exit) ≡ checkedPosition c) ⌝ }
 {
     given::give_checked(unseal::unseal(plan, out), n, start, position)
 }
@@ -55,7 +55,7 @@ pub extern "C" fn plan_measure(
     levels: &mut u64,
     position: &mut u64,
 ) -> u32
-    ensures { λ r. ⌜ (r ≡ measuredResult (measured (now (plan .entry)) (now (work .entry)))) × (now (work .exit) ≡ measuredWork (now (plan .entry)) (now (work .entry))) × (now (trees .exit) ≡ treesAfter (measured (now (plan .entry)) (now (work .entry))) (now (trees .entry))) × (now (entries .exit) ≡ entriesAfter (measured (now (plan .entry)) (now (work .entry))) (now (entries .entry))) × (now (levels .exit) ≡ levelsAfter (measured (now (plan .entry)) (now (work .entry))) (now (levels .entry))) × (now (position .exit) ≡ measuredPosition (measured (now (plan .entry)) (now (work .entry)))) ⌝ }
+    ensures { λ r. let m = measured (now (plan .entry)) (now (work .entry)) in ⌜ (r ≡ measuredResult m) × (now (work .exit) ≡ measuredWork (now (plan .entry)) (now (work .entry))) × (now (trees .exit) ≡ treesAfter m (now (trees .entry))) × (now (entries .exit) ≡ entriesAfter m (now (entries .entry))) × (now (levels .exit) ≡ levelsAfter m (now (levels .entry))) × (now (position .exit) ≡ measuredPosition m) ⌝ }
 {
     given::give_measured(
         measure::measure(plan, work),
@@ -75,7 +75,7 @@ pub extern "C" fn plan_spread(
     written: &mut u64,
     position: &mut u64,
 ) -> u32
-    ensures { λ r. ⌜ (r ≡ writtenResult (spread (now (plan .entry)) (now (work .entry)) (now (out .entry)))) × (now (work .exit) ≡ measuredWork (now (plan .entry)) (now (work .entry))) × (now (out .exit) ≡ spreadOutput (now (plan .entry)) (now (work .entry)) (now (out .entry))) × (now (written .exit) ≡ lengthAfter (spread (now (plan .entry)) (now (work .entry)) (now (out .entry))) (now (written .entry))) × (now (position .exit) ≡ writtenPosition (spread (now (plan .entry)) (now (work .entry)) (now (out .entry)))) ⌝ }
+    ensures { λ r. let w = spread (now (plan .entry)) (now (work .entry)) (now (out .entry)) in ⌜ (r ≡ writtenResult w) × (now (work .exit) ≡ measuredWork (now (plan .entry)) (now (work .entry))) × (now (out .exit) ≡ spreadOutput (now (plan .entry)) (now (work .entry)) (now (out .entry))) × (now (written .exit) ≡ lengthAfter w (now (written .entry))) × (now (position .exit) ≡ writtenPosition w) ⌝ }
 {
     given::give_written(spread::spread(plan, work, out), written, position)
 }
@@ -90,7 +90,7 @@ pub extern "C" fn plan_walk(
     answers: &mut [u8],
     position: &mut u64,
 ) -> u32
-    ensures { λ r. ⌜ (r ≡ walkedResult ((walkOf (lends (now (plan .entry)) (now (work .entry)) (now (cursor .entry)) (now (letters .entry)) (now (answers .entry)))) .answer)) × (now (work .exit) ≡ (walkOf (lends (now (plan .entry)) (now (work .entry)) (now (cursor .entry)) (now (letters .entry)) (now (answers .entry)))) .work) × (now (cursor .exit) ≡ (walkOf (lends (now (plan .entry)) (now (work .entry)) (now (cursor .entry)) (now (letters .entry)) (now (answers .entry)))) .cursor) × (now (answers .exit) ≡ (walkOf (lends (now (plan .entry)) (now (work .entry)) (now (cursor .entry)) (now (letters .entry)) (now (answers .entry)))) .answers) × (now (position .exit) ≡ walkedPosition ((walkOf (lends (now (plan .entry)) (now (work .entry)) (now (cursor .entry)) (now (letters .entry)) (now (answers .entry)))) .answer)) ⌝ }
+    ensures { λ r. let l = walkOf (lends (now (plan .entry)) (now (work .entry)) (now (cursor .entry)) (now (letters .entry)) (now (answers .entry))) in ⌜ (r ≡ walkedResult (l .answer)) × (now (work .exit) ≡ l .work) × (now (cursor .exit) ≡ l .cursor) × (now (answers .exit) ≡ l .answers) × (now (position .exit) ≡ walkedPosition (l .answer)) ⌝ }
 {
     given::give_walked(walk::walk(plan, work, cursor, letters, answers), position)
 }
