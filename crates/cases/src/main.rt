@@ -1,6 +1,8 @@
 // Every case of document 01 ("One sample plan"), a line each: a function's contract names what comes of it, and `expect`, in the crate
 // held, holds it to that. Further cases, for each of document 01's sentences on the operations, stand in tests/cases.txt with what it
 // says of them; the Rust tests run them through the C interface.
+use check::expect;
+use check::same;
 use forest_cases::forest_cases;
 use forest_cases::sample_cases;
 use format_cases::rule_cases;
@@ -45,6 +47,19 @@ fn cell_cases() {
     );
 }
 
+// The lines that stroll prints for document 01's letters.
+fn line_cases() {
+    let mut out = [0u8; lines::MOST_OUTPUT];
+    let length = lines::stroll(&sample::bytes(), b"afnnfnnnnununnn", &mut out);
+    let printed = &out[..length];
+    expect(same(
+        printed,
+        b"a 99\nf 97\nn 98\nn 99\nf 97\nn 98\nn 97\nn 98\nn -\nu 99\nn 98\nu 99\nn 97\nn 98\nn -\n",
+    ));
+    io::write_all(1, b"the lines of stroll:\n");
+    io::write_all(1, printed);
+}
+
 fn main() {
     sample_cases();
     trailer_cases();
@@ -52,5 +67,6 @@ fn main() {
     forest_cases();
     answer_cases();
     cell_cases();
+    line_cases();
     io::write_all(1, b"every case is as document 01 says\n");
 }

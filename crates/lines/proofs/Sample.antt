@@ -16,7 +16,7 @@ use Rattle.printing.specs.Lines.{shown, line, lines, refusedLine}
 use Rattle.lines.specs.Stroll.{walkPrinted, checkPrinted, strollOutput}
 
 -- afnnfnnnnununnn
-abbrev letters : List ℕ
+abbrev pub letters : List ℕ
 letters = 97 ∷ 102 ∷ 110 ∷ 110 ∷ 102 ∷ 110 ∷ 110 ∷ 110 ∷ 110 ∷ 117 ∷ 110 ∷ 117 ∷ 110 ∷ 110 ∷ 110 ∷ []
 
 pub record Sample : Type 0 where
