@@ -1,21 +1,19 @@
 -- An accepted plan's rules in the rows: what the passes ask of them. Assumes nothing.
-use Prim.Native.Nat.{ℕ, _-_, _*_, _≤_, _<_}
+use Prim.Native.Nat.{ℕ, _*_, _≤_, _<_}
 use native.Mathlib.Omega.{arith}
 use mathlib.Core.Path.{_≡_}
 use mathlib.Core.List.{List}
 use lib.ListN.{length}
 use Rattle.plan.specs.declared.Checked.{Checked}
-use Rattle.record.specs.Record.{recordLength}
-use Rattle.record.specs.Records.{recordsFrom}
-use Rattle.rule.specs.Rule.{rulesIn}
-use Rattle.plan.specs.Check.{checked, rulesOf, trailerLength, mostRules}
+use Rattle.plan.specs.Check.{rulesOf, mostRules}
 use Rattle.rule.specs.Sound.{rule}
 use Rattle.plan.proofs.Sound.{Plan, checked-plan}
 use Rattle.forest.specs.Expression.{expression}
 use Rattle.forest.proofs.Unfold.{unfolding-equation, closed-row}
 use Rattle.forest.proofs.Good.{Sort, Good}
 use Rattle.rows.specs.Rows.{workLength, ruleIn, Holds, Loaded}
-use Rattle.rows.proofs.Work.{rules-first}
+use Rattle.rows.proofs.Work.{enough-room}
+use Rattle.loading.specs.Begun.{Loads, Begun}
 use Rattle.counts.specs.Tally.{Ready, Unfolds}
 use Rattle.counts.specs.Total.{Startable}
 
@@ -29,19 +27,20 @@ pub record Held (s : List ℕ) (n start : ℕ) (t : List ℕ) : Type 0 where
   pub same : (k : ℕ) → k < n → ruleIn t k ≡ rule (rulesOf s) k
   pub room : workLength * n ≤ length t
 
-pub held : {s u t : List ℕ} (n start : ℕ) → checked s ≡ Checked.Accepted n start → workLength * n ≤ length u
-    → Loaded (rulesIn (recordsFrom s (length s - trailerLength - recordLength * n) n)) n u t → Held s n start t
+pub held : {s u t : List ℕ} {x : Checked} {n start : ℕ} → Begun s u t x → x ≡ Checked.Accepted n start → Held s n start t
 unfolding Holds
-held {s} {u} {t} n start q enough l =
-    let p : Plan mostRules s n start = checked-plan s n start q in
-    let l′ : Loaded (rulesOf s) n u t = rw (rules-first s n start p) at l in
+held {s} {u} {t} {n = n} {start = start} b e =
+    let begun : Loads s u t n start = b .loaded n start e in
+    let l : Loaded (rulesOf s) n u t = begun .rows in
+    let p : Plan mostRules s n start = checked-plan s n start (begun .accepted) in
+    let enough : workLength * n ≤ length u = enough-room n u (begun .enough) in
     let long : length (rulesOf s) ≡ n = p .rules in
-    let same : (k : ℕ) → k < n → ruleIn t k ≡ rule (rulesOf s) k = l′ .holds in
+    let same : (k : ℕ) → k < n → ruleIn t k ≡ rule (rulesOf s) k = l .holds in
     let small : start < length (rulesOf s) = p .ends .below in
     record {
       ready =
           record {
-            room = let a : length t ≡ length u = l′ .beyond .same-length in omega arith;
+            room = let a : length t ≡ length u = l .beyond .same-length in omega arith;
             lower = λ r below. rw (same r below) (p .sound .falls r (omega arith));
           };
       unfolds = record { unfolds = λ r below. rw (same r below) (unfolding-equation (p .sound) r (omega arith)) };
@@ -49,7 +48,7 @@ held {s} {u} {t} n start q enough l =
       closed = closed-row (p .sound) (p .ends);
       accepted = p;
       same = same;
-      room = let a : length t ≡ length u = l′ .beyond .same-length in omega arith;
+      room = let a : length t ≡ length u = l .beyond .same-length in omega arith;
     }
 
 -- what the loaded rows are good for

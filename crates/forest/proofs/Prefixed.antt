@@ -6,7 +6,7 @@ use mathlib.Core.List.{List, _++_}
 use Rattle.plan.specs.declared.Checked.{Checked}
 use Rattle.plan.specs.Check.{checked, mostRules, rulesOf}
 use Rattle.plan.proofs.Prefix.{prefix-accepted, prefix-accepted-rules}
-use Rattle.forest.specs.Outcome.{measuredFrom, measured, measuredWork, spreadFrom, spread, textOf, spreadOutput}
+use Rattle.forest.specs.Outcome.{measured, measuredWork, spread, textOf, spreadOutput}
 use Rattle.forest.specs.Walk.{begunFrom, begun, walkedWork}
 
 module _ (p s : List ℕ) (n start : ℕ) (h : checked s ≡ Checked.Accepted n start) where
@@ -19,16 +19,16 @@ module _ (p s : List ℕ) (n start : ℕ) (h : checked s ≡ Checked.Accepted n 
   prefix-plan = prefix-accepted-rules p s mostRules n start h
 
   pub prefix-measured : (work : List ℕ) → measured (p ++ s) work ≡ measured s work
-  unfolding measured measuredFrom
-  prefix-measured work = rw (prefix-check, h, prefix-plan)
+  unfolding measured
+  prefix-measured work = rw (prefix-check, prefix-plan)
 
   pub prefix-work : (work : List ℕ) → measuredWork (p ++ s) work ≡ measuredWork s work
   unfolding measuredWork
   prefix-work work = rw prefix-check
 
   pub prefix-spread : (work out : List ℕ) → spread (p ++ s) work out ≡ spread s work out
-  unfolding spread spreadFrom
-  prefix-spread work out = rw (prefix-check, h, prefix-plan)
+  unfolding spread
+  prefix-spread work out = rw (prefix-check, prefix-plan)
 
   pub prefix-spread-output : (work out : List ℕ) → spreadOutput (p ++ s) work out ≡ spreadOutput s work out
   unfolding spreadOutput textOf

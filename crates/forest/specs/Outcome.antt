@@ -5,6 +5,7 @@ use mathlib.Core.List.{List, _++_}
 use lib.ListN.{length, drop, replicate}
 use lib.Dec.{leb, ltb}
 use Rattle.words.specs.Number.{wordCount}
+use Rattle.rule.specs.declared.Rule.{Rule}
 use Rattle.refusal.specs.declared.Refusal.{Refusal}
 use Rattle.plan.specs.declared.Checked.{Checked}
 use Rattle.plan.specs.declared.Written.{Written}
@@ -45,16 +46,21 @@ unfoldable pub counted : Forest ℕ → Measured
 unfolding count weigh levels entry
 counted g = cond (ltb (weigh one g) (2 ^ 64)) (Measured.Counts (count g) (weigh entry g) (levels g)) (Measured.Refused Refusal.Room)
 
--- "As check; 8: work has fewer than 32 × n words; 11"
-unfoldable pub measuredFrom : List ℕ → List ℕ → Checked → Measured
-unfolding enoughWork counted forest rulesOf
-measuredFrom s work (Checked.Accepted n start) =
-    cond (enoughWork n work) (counted (forest (rulesOf s) start)) (Measured.Refused Refusal.Lent)
-measuredFrom s work (Checked.Refused r) = Measured.Refused r
+-- "As check; 8: work has fewer than 32 × n words": n and start, or the refusal
+unfoldable pub workJudged : List ℕ → Checked → Checked
+unfolding enoughWork
+workJudged work (Checked.Accepted n start) = cond (enoughWork n work) (Checked.Accepted n start) (Checked.Refused Refusal.Lent)
+workJudged work (Checked.Refused r) = Checked.Refused r
+
+-- ".. 11", of the start rule's forest
+unfoldable pub measuredFrom : List Rule → Checked → Measured
+unfolding counted forest
+measuredFrom R (Checked.Accepted n start) = counted (forest R start)
+measuredFrom R (Checked.Refused r) = Measured.Refused r
 
 unfoldable pub measured : List ℕ → List ℕ → Measured
-unfolding measuredFrom checked
-measured s work = measuredFrom s work (checked s)
+unfolding measuredFrom workJudged checked rulesOf
+measured s work = measuredFrom (rulesOf s) (workJudged work (checked s))
 
 unfoldable pub measuredWork : List ℕ → List ℕ → List ℕ
 unfolding workAfter enoughWork checked
@@ -70,15 +76,14 @@ unfolding weigh text
 textRoomed g out = cond (leb (nodeLength * weigh one g) (length out)) (Written.Length (length (text g))) (Written.Refused Refusal.Room)
 
 -- "As check; 8 as in measure; 11"
-unfoldable pub spreadFrom : List ℕ → List ℕ → List ℕ → Checked → Written
-unfolding enoughWork textRoomed forest rulesOf
-spreadFrom s work out (Checked.Accepted n start) =
-    cond (enoughWork n work) (textRoomed (forest (rulesOf s) start) out) (Written.Refused Refusal.Lent)
-spreadFrom s work out (Checked.Refused r) = Written.Refused r
+unfoldable pub spreadFrom : List Rule → List ℕ → Checked → Written
+unfolding textRoomed forest
+spreadFrom R out (Checked.Accepted n start) = textRoomed (forest R start) out
+spreadFrom R out (Checked.Refused r) = Written.Refused r
 
 unfoldable pub spread : List ℕ → List ℕ → List ℕ → Written
-unfolding spreadFrom checked
-spread s work out = spreadFrom s work out (checked s)
+unfolding spreadFrom workJudged checked rulesOf
+spread s work out = spreadFrom (rulesOf s) out (workJudged work (checked s))
 
 -- the text of the plan's start rule
 unfoldable pub textOf : List ℕ → Checked → List ℕ

@@ -1,6 +1,5 @@
 // Measure (document 01): the trees, entries and levels of a plan's forest.
 ghost use mathlib.Core.Path.{_≡_};
-ghost use Rattle.plan.specs.Check.{checked};
 ghost use Rattle.forest.specs.Outcome.{measured, measuredWork};
 ghost use Rattle.counts.specs.Total.{Startable};
 ghost use Rattle.measure.specs.Answer.{Answered};
@@ -29,26 +28,16 @@ fn answer(work: &mut [u8], n: u16, r: u16) -> Measured
     }
 }
 
-// An accepted plan measured: the work is tested, filled and cleared.
-fn measure_rules(plan: &[u8], work: &mut [u8], n: u16, start: u16) -> Measured
-    requires { ⌜ checked (now plan) ≡ Checked.Accepted n start ⌝ }
-    ensures { λ x. ⌜ (x ≡ measured (now (plan .entry)) (now (work .entry))) × (now (work .exit) ≡ measuredWork (now (plan .entry)) (now (work .entry))) ⌝ }
-{
-    if !rows::enough_work(work, n) {
-        return Measured::Refused(Refusal::Lent);
-    }
-    rows::load_rules(plan, work, n);
-    let answer = answer(work, n, start);
-    rows::clear_work(work, n);
-    answer
-}
-
 // Measure a plan: its trees, entries (all nodes) and levels, or why it is turned down.
 pub fn measure(plan: &[u8], work: &mut [u8]) -> Measured
     ensures { λ x. ⌜ (x ≡ measured (now (plan .entry)) (now (work .entry))) × (now (work .exit) ≡ measuredWork (now (plan .entry)) (now (work .entry))) ⌝ }
 {
-    match plan::check(plan) {
-        Checked::Accepted { n, start } => measure_rules(plan, work, n, start),
+    match loading::load_plan(plan, work) {
+        Checked::Accepted { n, start } => {
+            let answer = answer(work, n, start);
+            rows::clear_work(work, n);
+            answer
+        }
         Checked::Refused(refusal) => Measured::Refused(refusal),
     }
 }

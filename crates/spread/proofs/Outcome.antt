@@ -1,9 +1,8 @@
--- Spread's answer, work and output, by the ways through its code: refused by check, refused for its work, or answered over the loaded rules
--- and then cleared. Assumes nothing.
-use Prim.Native.Nat.{ℕ, _-_, _*_}
+-- Spread's answer, work and output, by the ways through its code: refused, or answered over the loaded rules and then cleared.
+-- Assumes nothing.
+use Prim.Native.Nat.{ℕ, _*_}
 use native.Mathlib.Omega.{arith}
 use mathlib.Core.Path.{_≡_, sym, ap, _∙_}
-use mathlib.Core.Bool.{true, false}
 use mathlib.Core.List.{List}
 use Rattle.refusal.specs.declared.Refusal.{Refusal}
 use Rattle.rule.specs.declared.Rule.{Rule}
@@ -13,11 +12,11 @@ use Rattle.record.specs.Record.{wordLength}
 use Rattle.plan.specs.Check.{checked, rulesOf}
 use Rattle.plan.specs.Written.{outputAfter}
 use Rattle.forest.specs.Forest.{forest, text}
-use Rattle.forest.specs.Outcome.{workWords, enoughWork, cleared, measuredWork, textRoomed, spread, textOf, spreadOutput}
-use Rattle.rows.specs.Rows.{workLength, Within}
+use Rattle.forest.specs.Outcome.{workWords, enoughWork, cleared, measuredWork, textRoomed, spreadFrom, spread, textOf, spreadOutput}
 use Rattle.rows.proofs.Rows.{within-both}
-use Rattle.rows.proofs.Work.{work-refused, work-lent, work-cleared}
-use Rattle.counts.proofs.Work.{Held}
+use Rattle.rows.proofs.Work.{work-cleared, beyond-work}
+use Rattle.loading.specs.Begun.{Loads, Begun}
+use Rattle.counts.proofs.Work.{Held, held}
 use Rattle.tasks.specs.Run.{rowsIn}
 use Rattle.spread.specs.Answer.{Answerable, Answered}
 use Rattle.tasks.proofs.Rows.{rows-are}
@@ -39,33 +38,32 @@ answerable {n = n} h =
       room = h .room;
     }
 
-module _ (s work out : List ℕ) where
-  pub refused : (r : Refusal) → checked s ≡ Checked.Refused r → Outcome s work out (Written.Refused r) work out
-  unfolding spread spreadOutput outputAfter measuredWork
-  refused r q = (rw q, work-refused (λ m. enoughWork m work) s work r q, rw q)
+module _ {s work t : List ℕ} {x : Checked} (b : Begun s work t x) (out : List ℕ) where
+  pub refused : {r : Refusal} → x ≡ Checked.Refused r → Outcome s work out (Written.Refused r) t out
+  unfolding spread spreadFrom spreadOutput outputAfter
+  refused {r} e =
+      let answer : Written.Refused r ≡ spread s work out = ap (spreadFrom (rulesOf s) out) (sym e ∙ b .answer) in
+      (answer, b .refused r e, ap (λ (y : Written). outputAfter y (textOf s (checked s)) out) answer)
 
-  module _ (n start : ℕ) (q : checked s ≡ Checked.Accepted n start) where
-    pub lent : enoughWork n work ≡ false → Outcome s work out (Written.Refused Refusal.Lent) work out
-    unfolding spread spreadOutput outputAfter measuredWork
-    lent e = (rw (q, e), work-lent (λ m. enoughWork m work) s work n start q e, rw (q, e))
-
-    spread-is : enoughWork n work ≡ true → spread s work out ≡ textRoomed (forest (rulesOf s) start) out
-    unfolding spread
-    spread-is e = rw (q, e)
+  module _ {n start : ℕ} (e : x ≡ Checked.Accepted n start) where
+    spread-is : spread s work out ≡ textRoomed (forest (rulesOf s) start) out
+    unfolding spread spreadFrom
+    spread-is = ap (spreadFrom (rulesOf s) out) (sym (b .answer) ∙ e)
 
     output-is : spreadOutput s work out ≡ outputAfter (spread s work out) (text (forest (rulesOf s) start)) out
     unfolding spreadOutput textOf
-    output-is = ap (λ (c : Checked). outputAfter (spread s work out) (textOf s c) out) q
+    output-is = ap (λ (c : Checked). outputAfter (spread s work out) (textOf s c) out) (b .loaded n start e .accepted)
 
-    pub finished : {x : Written} {t u v out′ : List ℕ} → enoughWork n work ≡ true → Held s n start t → Within 0 (workLength * n) work t
-        → Answered n start x t u out out′ → v ≡ cleared (wordLength * workWords n) u → Outcome s work out x v out′
+    pub finished : {y : Written} {u v out′ : List ℕ} → Answered n start y t u out out′ → v ≡ cleared (wordLength * workWords n) u → Outcome s work out y v out′
     unfolding measuredWork
-    finished {x} {t} {u} e h w a p =
-        let answer : x ≡ spread s work out = a .answer ∙ ap (λ (R : List Rule). textRoomed (forest R start) out) (rows-loaded h) ∙ sym (spread-is e) in (
+    finished {y} {u} a p =
+        let h : Held s n start t = held b e in
+        let l : Loads s work t n start = b .loaded n start e in
+        let answer : y ≡ spread s work out = a .answer ∙ ap (λ (R : List Rule). textRoomed (forest R start) out) (rows-loaded h) ∙ sym spread-is in (
           answer,
-          p ∙ work-cleared (λ m. enoughWork m work) s work n start q e u (within-both w (a .within)),
+          p ∙ work-cleared (λ k. enoughWork k work) s work n start (l .accepted) (l .enough) u (within-both (beyond-work n (l .rows .beyond)) (a .within)),
           a .writes
-              ∙ ap (λ (y : Written). outputAfter y (text (forest (rowsIn t n) start)) out) answer
+              ∙ ap (λ (z : Written). outputAfter z (text (forest (rowsIn t n) start)) out) answer
               ∙ ap (λ (R : List Rule). outputAfter (spread s work out) (text (forest R start)) out) (rows-loaded h)
               ∙ sym output-is,
         )

@@ -3,7 +3,6 @@ ghost use mathlib.Core.Path.{_≡_};
 ghost use Prim.Native.Nat.{_*_};
 ghost use lib.Dec.{leb};
 ghost use Rattle.spread.specs.Answer.{Answerable, Answered};
-ghost use Rattle.plan.specs.Check.{checked};
 ghost use Rattle.forest.specs.Outcome.{nodeLength, spread, measuredWork, spreadOutput};
 ghost use Rattle.count.specs.Count.{numberOf};
 use count::Count;
@@ -36,26 +35,16 @@ fn answer(work: &mut [u8], out: &mut [u8], n: u16, r: u16) -> Written
     Written::Length(tasks::spread_rule(work, out, n, r))
 }
 
-// An accepted plan spread: the work is tested, filled and cleared.
-fn spread_rules(plan: &[u8], work: &mut [u8], out: &mut [u8], n: u16, start: u16) -> Written
-    requires { ⌜ checked (now plan) ≡ Checked.Accepted n start ⌝ }
-    ensures { λ x. ⌜ (x ≡ spread (now (plan .entry)) (now (work .entry)) (now (out .entry))) × (now (work .exit) ≡ measuredWork (now (plan .entry)) (now (work .entry))) × (now (out .exit) ≡ spreadOutput (now (plan .entry)) (now (work .entry)) (now (out .entry))) ⌝ }
-{
-    if !rows::enough_work(work, n) {
-        return Written::Refused(Refusal::Lent);
-    }
-    rows::load_rules(plan, work, n);
-    let answer = answer(work, out, n, start);
-    rows::clear_work(work, n);
-    answer
-}
-
 // Spread a plan: its text and the length of it, or why it is turned down.
 pub fn spread(plan: &[u8], work: &mut [u8], out: &mut [u8]) -> Written
     ensures { λ x. ⌜ (x ≡ spread (now (plan .entry)) (now (work .entry)) (now (out .entry))) × (now (work .exit) ≡ measuredWork (now (plan .entry)) (now (work .entry))) × (now (out .exit) ≡ spreadOutput (now (plan .entry)) (now (work .entry)) (now (out .entry))) ⌝ }
 {
-    match plan::check(plan) {
-        Checked::Accepted { n, start } => spread_rules(plan, work, out, n, start),
+    match loading::load_plan(plan, work) {
+        Checked::Accepted { n, start } => {
+            let answer = answer(work, out, n, start);
+            rows::clear_work(work, n);
+            answer
+        }
         Checked::Refused(refusal) => Written::Refused(refusal),
     }
 }

@@ -1,18 +1,24 @@
--- Refused by check, or measured. Assumes nothing.
+-- The plan's rules are loaded, measured and cleared away, on both answers; or it is refused. Assumes nothing.
 use borrow.Author.Needs.{needs}
-use mathlib.Core.Path.{sym, _∙_}
-use Rattle.measure.proofs.Outcome.{refused}
+use Rattle.counts.proofs.Work.{held, startable}
+use Rattle.measure.proofs.Outcome.{refused, finished}
+use native.Mathlib.Omega.{arith}
 use Rattle.measure.proofs.measure.Statement.{statement}
 use Rattle.measure.proofs.measure.Tie as tie
 
-check-requires : tie.Need-check-requires
-check-requires c κs = search needs
+load-plan-requires : tie.Need-load-plan-requires
+load-plan-requires c κs = search needs
 
 enum-known-n : tie.Need-enum-known-n
 enum-known-n c = search needs
 
-measure-rules-requires : tie.Need-measure-rules-requires
-measure-rules-requires c κs = sym (c .before .before .before .before .check .ensures) ∙ c .before .before .n .given .1
+answer-requires : tie.Need-answer-requires
+answer-requires c κs = startable (held (c .before .before .before .before .before .before .load-plan .ensures) (c .before .before .n .given .1))
+
+clear-work-requires : tie.Need-clear-work-requires
+clear-work-requires c κs =
+    let h = held (c .before .before .before .before .before .before .before .before .before .before .load-plan .ensures) (c .before .before .before .before .before .before .n .given .1) in
+    let same = c .before .before .before .answer .ensures .beyond .same-length in omega (arith, h .room)
 
 enum-known-refusal : tie.Need-enum-known-refusal
 enum-known-refusal c = search needs
@@ -21,19 +27,24 @@ same-length : tie.Need-same-length
 same-length c = search needs
 
 returns : tie.Need-returns
-returns c = search needs
+returns c = finished (c .before .before .before .before .before .before .before .before .before .before .before .before .before .load-plan .ensures) (c .before .before .before .before .before .before .before .before .before .n .given .1) (c .before .before .before .before .before .before .answer .ensures) (c .before .before .clear-work .ensures)
+
+same-length-2 : tie.Need-same-length-2
+same-length-2 c = search needs
 
 returns-2 : tie.Need-returns-2
-returns-2 c = refused _ _ _ (sym (c .before .before .before .check .ensures) ∙ c .before .refusal .given .1)
+returns-2 c = refused (c .before .before .before .before .before .load-plan .ensures) (c .before .refusal .given .1)
 
 pub measure-spec : {M : Type 1} → statement M
 measure-spec =
     tie.close
     (tie.spec
-    check-requires
+    load-plan-requires
     enum-known-n
-    measure-rules-requires
+    answer-requires
+    clear-work-requires
     enum-known-refusal
     same-length
     returns
+    same-length-2
     returns-2)

@@ -1,18 +1,24 @@
--- Refused by check, or spread. Assumes nothing.
+-- The plan's rules are loaded, spread and cleared away, on both answers; or it is refused. Assumes nothing.
 use borrow.Author.Needs.{needs}
-use mathlib.Core.Path.{sym, _∙_}
-use Rattle.spread.proofs.Outcome.{refused}
+use Rattle.counts.proofs.Work.{held}
+use Rattle.spread.proofs.Outcome.{refused, finished, answerable}
+use native.Mathlib.Omega.{arith}
 use Rattle.spread.proofs.spread.Statement.{statement}
 use Rattle.spread.proofs.spread.Tie as tie
 
-check-requires : tie.Need-check-requires
-check-requires c κs = search needs
+load-plan-requires : tie.Need-load-plan-requires
+load-plan-requires c κs = search needs
 
 enum-known-n : tie.Need-enum-known-n
 enum-known-n c = search needs
 
-spread-rules-requires : tie.Need-spread-rules-requires
-spread-rules-requires c κs = sym (c .before .before .before .before .before .check .ensures) ∙ c .before .before .before .n .given .1
+answer-requires : tie.Need-answer-requires
+answer-requires c κs = answerable (held (c .before .before .before .before .before .before .before .load-plan .ensures) (c .before .before .before .n .given .1))
+
+clear-work-requires : tie.Need-clear-work-requires
+clear-work-requires c κs =
+    let h = held (c .before .before .before .before .before .before .before .before .before .before .before .before .before .load-plan .ensures) (c .before .before .before .before .before .before .before .before .before .n .given .1) in
+    let same = c .before .before .before .before .before .answer .ensures .within .same-length in omega (arith, h .room)
 
 enum-known-refusal : tie.Need-enum-known-refusal
 enum-known-refusal c = search needs
@@ -24,20 +30,25 @@ same-length-2 : tie.Need-same-length-2
 same-length-2 c = search needs
 
 returns : tie.Need-returns
-returns c = search needs
+returns c = finished (c .before .before .before .before .before .before .before .before .before .before .before .before .before .before .before .before .load-plan .ensures) _ (c .before .before .before .before .before .before .before .before .before .before .before .before .n .given .1) (c .before .before .before .before .before .before .before .before .answer .ensures) (c .before .before .clear-work .ensures)
+
+same-length-3 : tie.Need-same-length-3
+same-length-3 c = search needs
 
 returns-2 : tie.Need-returns-2
-returns-2 c = refused _ _ _ _ (sym (c .before .before .before .check .ensures) ∙ c .before .refusal .given .1)
+returns-2 c = refused (c .before .before .before .before .before .load-plan .ensures) _ (c .before .refusal .given .1)
 
 pub spread-spec : {M : Type 1} → statement M
 spread-spec =
     tie.close
     (tie.spec
-    check-requires
+    load-plan-requires
     enum-known-n
-    spread-rules-requires
+    answer-requires
+    clear-work-requires
     enum-known-refusal
     same-length
     same-length-2
     returns
+    same-length-3
     returns-2)
