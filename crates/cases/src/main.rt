@@ -4,8 +4,8 @@
 use check::expect;
 use check::same;
 use forest_cases::forest_cases;
-use forest_cases::sample_cases;
 use format_cases::rule_cases;
+use format_cases::sample_cases;
 use format_cases::trailer_cases;
 use held::words_are;
 

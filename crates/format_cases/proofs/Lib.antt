@@ -1,1 +1,2 @@
 pub mod EmptyRules
+pub mod Resealed

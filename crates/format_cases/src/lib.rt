@@ -1,10 +1,20 @@
-// The cases of document 01 for trailer, rules and start, a line each: a function's contract names what comes of it, and `expect`, in the
-// crate held, holds it to that.
+// The cases of document 01 for the sample plan's bytes, trailer, rules and start, a line each: a function's contract names what comes of
+// it, and `expect`, here or in the crate held, holds it to that.
+use check::expect;
 use held::accepts;
 use held::refuses;
 
 mod rules;
+mod sampled;
 mod trailer;
+
+// The sample, checked, unsealed, and sealed again.
+pub fn sample_cases() {
+    accepts(b"the sample plan", sampled::checked(), 8, 7);
+    accepts(b"the sample plan, unsealed", sampled::unsealed(), 8, 7);
+    expect(sampled::resealed());
+    io::write_all(1, b"the sample plan, unsealed and sealed: the same bytes\n");
+}
 
 // The trailer, in the order of check's tests.
 pub fn trailer_cases() {

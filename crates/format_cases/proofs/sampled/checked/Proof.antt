@@ -2,8 +2,8 @@
 use mathlib.Core.Path.{ap, _∙_}
 use borrow.Author.Needs.{needs}
 use Rattle.plan.specs.Check.{checked}
-use Rattle.forest_cases.proofs.sampled.checked.Statement.{statement}
-use Rattle.forest_cases.proofs.sampled.checked.Tie as tie
+use Rattle.format_cases.proofs.sampled.checked.Statement.{statement}
+use Rattle.format_cases.proofs.sampled.checked.Tie as tie
 
 bytes-requires : tie.Need-bytes-requires
 bytes-requires c κs = search needs

@@ -5,8 +5,8 @@ use mathlib.Core.List.{List}
 use lib.ListN.{replicate}
 use borrow.Author.Needs.{needs}
 use Rattle.unseal.specs.Unseal.{unsealed}
-use Rattle.forest_cases.proofs.sampled.unsealed.Statement.{statement}
-use Rattle.forest_cases.proofs.sampled.unsealed.Tie as tie
+use Rattle.format_cases.proofs.sampled.unsealed.Statement.{statement}
+use Rattle.format_cases.proofs.sampled.unsealed.Tie as tie
 
 bytes-requires : tie.Need-bytes-requires
 bytes-requires c κs = search needs

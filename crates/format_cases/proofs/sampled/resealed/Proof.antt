@@ -6,9 +6,9 @@ use mathlib.Core.List.{List}
 use lib.ListN.{replicate}
 use borrow.Author.Needs.{needs}
 use Rattle.seal.specs.Seal.{sealedOutput}
-use Rattle.forest_cases.proofs.Resealed.{resealed}
-use Rattle.forest_cases.proofs.sampled.resealed.Statement.{statement}
-use Rattle.forest_cases.proofs.sampled.resealed.Tie as tie
+use Rattle.format_cases.proofs.Resealed.{resealed}
+use Rattle.format_cases.proofs.sampled.resealed.Statement.{statement}
+use Rattle.format_cases.proofs.sampled.resealed.Tie as tie
 
 bytes-requires : tie.Need-bytes-requires
 bytes-requires c κs = search needs
