@@ -13,7 +13,7 @@ use Rattle.forest.proofs.Unfold.{unfolding-equation, closed-row}
 use Rattle.forest.proofs.Good.{Sort, Good}
 use Rattle.rows.specs.Rows.{workLength, ruleIn, Holds, Loaded}
 use Rattle.rows.proofs.Work.{enough-room}
-use Rattle.loading.specs.Begun.{Loads, Begun}
+use Rattle.loading.specs.Prepared.{Loads, Prepared}
 use Rattle.counts.specs.Tally.{Ready, Unfolds}
 use Rattle.counts.specs.Total.{Startable}
 
@@ -27,13 +27,13 @@ pub record Held (s : List ℕ) (n start : ℕ) (t : List ℕ) : Type 0 where
   pub same : (k : ℕ) → k < n → ruleIn t k ≡ rule (rulesOf s) k
   pub room : workLength * n ≤ length t
 
-pub held : {s u t : List ℕ} {x : Checked} {n start : ℕ} → Begun s u t x → x ≡ Checked.Accepted n start → Held s n start t
+pub held : {s u t : List ℕ} {x : Checked} {n start : ℕ} → Prepared s u t x → x ≡ Checked.Accepted n start → Held s n start t
 unfolding Holds
 held {s} {u} {t} {n = n} {start = start} b e =
-    let begun : Loads s u t n start = b .loaded n start e in
-    let l : Loaded (rulesOf s) n u t = begun .rows in
-    let p : Plan mostRules s n start = checked-plan s n start (begun .accepted) in
-    let enough : workLength * n ≤ length u = enough-room n u (begun .enough) in
+    let loads : Loads s u t n start = b .loaded n start e in
+    let l : Loaded (rulesOf s) n u t = loads .rows in
+    let p : Plan mostRules s n start = checked-plan s n start (loads .accepted) in
+    let enough : workLength * n ≤ length u = enough-room n u (loads .enough) in
     let long : length (rulesOf s) ≡ n = p .rules in
     let same : (k : ℕ) → k < n → ruleIn t k ≡ rule (rulesOf s) k = l .holds in
     let small : start < length (rulesOf s) = p .ends .below in

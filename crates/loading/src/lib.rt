@@ -1,11 +1,11 @@
 // What measure and spread begin with (document 01, "As check; 8"): a plan's rules in the rows of the lent work, or why not.
 use plan::Checked;
 use refusal::Refusal;
-ghost use Rattle.loading.specs.Begun.{Begun};
+ghost use Rattle.loading.specs.Prepared.{Prepared};
 
 // n and start of a plan whose rules are then in the rows of work, or why it is turned down.
 pub fn load_plan(plan: &[u8], work: &mut [u8]) -> Checked
-    ensures { λ x. ⌜ Begun (now (plan .entry)) (now (work .entry)) (now (work .exit)) x ⌝ }
+    ensures { λ x. ⌜ Prepared (now (plan .entry)) (now (work .entry)) (now (work .exit)) x ⌝ }
 {
     match plan::check(plan) {
         Checked::Accepted { n, start } => {

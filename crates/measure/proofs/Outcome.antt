@@ -12,7 +12,7 @@ use Rattle.forest.specs.Forest.{forest}
 use Rattle.forest.specs.Outcome.{workWords, enoughWork, cleared, measuredFrom, measured, measuredWork}
 use Rattle.rows.proofs.Rows.{within-both}
 use Rattle.rows.proofs.Work.{work-cleared, beyond-work}
-use Rattle.loading.specs.Begun.{Loads, Begun}
+use Rattle.loading.specs.Prepared.{Loads, Prepared}
 use Rattle.counts.proofs.Work.{Held, held}
 use Rattle.measure.specs.Answer.{Answered}
 
@@ -20,7 +20,7 @@ use Rattle.measure.specs.Answer.{Answered}
 abbrev pub Outcome : List ℕ → List ℕ → Measured → List ℕ → Type 0
 Outcome s work m t = (m ≡ measured s work) × (t ≡ measuredWork s work)
 
-module _ {s work t : List ℕ} {x : Checked} (b : Begun s work t x) where
+module _ {s work t : List ℕ} {x : Checked} (b : Prepared s work t x) where
   pub refused : {r : Refusal} → x ≡ Checked.Refused r → Outcome s work (Measured.Refused r) t
   unfolding measured measuredFrom
   refused {r} e = (ap (measuredFrom (rulesOf s)) (sym e ∙ b .answer), b .refused r e)

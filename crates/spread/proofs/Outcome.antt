@@ -15,7 +15,7 @@ use Rattle.forest.specs.Forest.{forest, text}
 use Rattle.forest.specs.Outcome.{workWords, enoughWork, cleared, measuredWork, textRoomed, spreadFrom, spread, textOf, spreadOutput}
 use Rattle.rows.proofs.Rows.{within-both}
 use Rattle.rows.proofs.Work.{work-cleared, beyond-work}
-use Rattle.loading.specs.Begun.{Loads, Begun}
+use Rattle.loading.specs.Prepared.{Loads, Prepared}
 use Rattle.counts.proofs.Work.{Held, held}
 use Rattle.tasks.specs.Run.{rowsIn}
 use Rattle.spread.specs.Answer.{Answerable, Answered}
@@ -38,7 +38,7 @@ answerable {n = n} h =
       room = h .room;
     }
 
-module _ {s work t : List ℕ} {x : Checked} (b : Begun s work t x) (out : List ℕ) where
+module _ {s work t : List ℕ} {x : Checked} (b : Prepared s work t x) (out : List ℕ) where
   pub refused : {r : Refusal} → x ≡ Checked.Refused r → Outcome s work out (Written.Refused r) t out
   unfolding spread spreadFrom spreadOutput outputAfter
   refused {r} e =

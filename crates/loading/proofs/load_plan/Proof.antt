@@ -3,7 +3,7 @@ use borrow.Author.Needs.{needs}
 use mathlib.Core.Path.{sym, _∙_}
 use borrow.Author.Tests.{not-true, not-false}
 use Rattle.rows.proofs.Work.{loadable, enough-room}
-use Rattle.loading.proofs.Begins.{refused, lent, loaded}
+use Rattle.loading.proofs.Prepares.{refused, lent, loaded}
 use Rattle.loading.proofs.load_plan.Statement.{statement}
 use Rattle.loading.proofs.load_plan.Tie as tie
 

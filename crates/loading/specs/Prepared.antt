@@ -1,5 +1,5 @@
--- What an operation begins with, once load_plan has answered x: the rules of an accepted plan with enough work are in the rows; refused,
--- the work is as measure and spread leave it.
+-- What measure and spread begin with, once load_plan has answered x: the rules of an accepted plan with enough work are in the rows;
+-- refused, the work is as they leave it.
 use Prim.Native.Nat.{ℕ}
 use mathlib.Core.Path.{_≡_}
 use mathlib.Core.Bool.{true}
@@ -16,7 +16,7 @@ pub record Loads (s work t : List ℕ) (n start : ℕ) : Type 0 where
   pub enough : enoughWork n work ≡ true
   pub rows : Loaded (rulesOf s) n work t
 
-pub record Begun (s work t : List ℕ) (x : Checked) : Type 0 where
+pub record Prepared (s work t : List ℕ) (x : Checked) : Type 0 where
   pub answer : x ≡ workJudged work (checked s)
   pub loaded : (n start : ℕ) → x ≡ Checked.Accepted n start → Loads s work t n start
   pub refused : (r : Refusal) → x ≡ Checked.Refused r → t ≡ measuredWork s work

@@ -15,36 +15,36 @@ use Rattle.plan.proofs.Sound.{checked-plan}
 use Rattle.forest.specs.Outcome.{enoughWork, workJudged, measuredWork}
 use Rattle.rows.specs.Rows.{Loaded}
 use Rattle.rows.proofs.Work.{work-refused, work-lent, rules-first}
-use Rattle.loading.specs.Begun.{Loads, Begun}
+use Rattle.loading.specs.Prepared.{Loads, Prepared}
 
 -- what holds of an answer, by its case
-unfoldable Left : List ℕ → List ℕ → List ℕ → Checked → Type 0
-Left s work t (Checked.Accepted n start) = Loads s work t n start
-Left s work t (Checked.Refused r) = t ≡ measuredWork s work
+unfoldable ByAnswer : List ℕ → List ℕ → List ℕ → Checked → Type 0
+ByAnswer s work t (Checked.Accepted n start) = Loads s work t n start
+ByAnswer s work t (Checked.Refused r) = t ≡ measuredWork s work
 
 module _ (s work t : List ℕ) where
-  begun : (x : Checked) → x ≡ workJudged work (checked s) → Left s work t x → Begun s work t x
-  unfolding Left
-  begun x e l =
+  prepared : (x : Checked) → x ≡ workJudged work (checked s) → ByAnswer s work t x → Prepared s work t x
+  unfolding ByAnswer
+  prepared x e l =
       record {
         answer = e;
-        loaded = λ n start q. subst (λ (y : Checked). Left s work t y) q l;
-        refused = λ r q. subst (λ (y : Checked). Left s work t y) q l;
+        loaded = λ n start q. subst (λ (y : Checked). ByAnswer s work t y) q l;
+        refused = λ r q. subst (λ (y : Checked). ByAnswer s work t y) q l;
       }
 
 module _ (s work : List ℕ) where
-  pub refused : (r : Refusal) → checked s ≡ Checked.Refused r → Begun s work work (Checked.Refused r)
-  unfolding workJudged Left measuredWork
-  refused r q = begun s work work (Checked.Refused r) (rw q) (work-refused (λ m. enoughWork m work) s work r q)
+  pub refused : (r : Refusal) → checked s ≡ Checked.Refused r → Prepared s work work (Checked.Refused r)
+  unfolding workJudged ByAnswer measuredWork
+  refused r q = prepared s work work (Checked.Refused r) (rw q) (work-refused (λ m. enoughWork m work) s work r q)
 
   module _ (n start : ℕ) (q : checked s ≡ Checked.Accepted n start) where
-    pub lent : enoughWork n work ≡ false → Begun s work work (Checked.Refused Refusal.Lent)
-    unfolding workJudged Left measuredWork
-    lent e = begun s work work (Checked.Refused Refusal.Lent) (rw (q, e)) (work-lent (λ m. enoughWork m work) s work n start q e)
+    pub lent : enoughWork n work ≡ false → Prepared s work work (Checked.Refused Refusal.Lent)
+    unfolding workJudged ByAnswer measuredWork
+    lent e = prepared s work work (Checked.Refused Refusal.Lent) (rw (q, e)) (work-lent (λ m. enoughWork m work) s work n start q e)
 
     pub loaded : {t : List ℕ} → enoughWork n work ≡ true → Loaded (rulesIn (recordsFrom s (length s - trailerLength - recordLength * n) n)) n work t
-        → Begun s work t (Checked.Accepted n start)
-    unfolding workJudged Left
+        → Prepared s work t (Checked.Accepted n start)
+    unfolding workJudged ByAnswer
     loaded {t} e l =
-        begun s work t (Checked.Accepted n start) (rw (q, e))
+        prepared s work t (Checked.Accepted n start) (rw (q, e))
         (record { accepted = q; enough = e; rows = rw (rules-first s n start (checked-plan s n start q)) at l })
