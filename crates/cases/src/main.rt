@@ -1,6 +1,6 @@
-// Every case of document 01 ("One sample plan"), a line each: a function's contract names what comes of it, and `expect`, in the crate
-// held, holds it to that. Further cases, for each of document 01's sentences on the operations, stand in tests/cases.txt with what it
-// says of them; the Rust tests run them through the C interface.
+// Every case of document 01 ("One sample plan"), a line each: a function's contract names what comes of it, and `expect`, here or in the
+// crate held, holds it to that. Further cases, for each of document 01's sentences on the operations, stand in tests/cases.txt with what
+// it says of them; the Rust tests run them through the C interface.
 use check::expect;
 use check::same;
 use forest_cases::forest_cases;

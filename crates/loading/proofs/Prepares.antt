@@ -10,7 +10,7 @@ use Rattle.record.specs.Record.{recordLength}
 use Rattle.record.specs.Records.{recordsFrom}
 use Rattle.rule.specs.Rule.{rulesIn}
 use Rattle.plan.specs.declared.Checked.{Checked}
-use Rattle.plan.specs.Check.{checked, rulesOf, trailerLength}
+use Rattle.plan.specs.Check.{checked, trailerLength}
 use Rattle.plan.proofs.Sound.{checked-plan}
 use Rattle.forest.specs.Outcome.{enoughWork, workJudged, measuredWork}
 use Rattle.rows.specs.Rows.{Loaded}
