@@ -1,13 +1,13 @@
 // Every case of document 01 ("One sample plan"), a line each: a function's contract names what comes of it, and `expect`, here or in the
 // crate held, holds it to that. Further cases, for each of document 01's sentences on the operations, stand in tests/cases.txt with what
 // it says of them; the Rust tests run them through the C interface.
+use case_report::words_are;
 use check::expect;
 use check::same;
 use forest_cases::forest_cases;
 use format_cases::rule_cases;
 use format_cases::sample_cases;
 use format_cases::trailer_cases;
-use held::words_are;
 
 mod walks;
 
@@ -49,8 +49,8 @@ fn cell_cases() {
 
 // The lines that stroll prints for document 01's letters.
 fn line_cases() {
-    let mut out = [0u8; lines::MOST_OUTPUT];
-    let length = lines::stroll(&sample::bytes(), b"afnnfnnnnununnn", &mut out);
+    let mut out = [0u8; stroll_output::MOST_OUTPUT];
+    let length = stroll_output::stroll(&sample::bytes(), b"afnnfnnnnununnn", &mut out);
     let printed = &out[..length];
     expect(same(
         printed,

@@ -1,8 +1,8 @@
 // The cases of document 01 for the sample plan's counts and its text, a line each: a function's contract names what comes of it, and
 // `expect`, in the crate held, holds it to that.
-use held::counts;
-use held::lacks_room;
-use held::writes;
+use case_report::counts;
+use case_report::lacks_room;
+use case_report::writes;
 
 mod sampled;
 

@@ -1,8 +1,8 @@
 // The cases of document 01 for the sample plan's bytes, trailer, rules and start, a line each: a function's contract names what comes of
 // it, and `expect`, here or in the crate held, holds it to that.
+use case_report::accepts;
+use case_report::refuses;
 use check::expect;
-use held::accepts;
-use held::refuses;
 
 mod rules;
 mod sampled;

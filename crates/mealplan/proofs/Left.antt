@@ -5,7 +5,7 @@ use mathlib.Core.List.{List}
 use Rattle.forest.specs.declared.Walked.{Walked}
 use Rattle.demand.specs.Calls.{Left}
 use Rattle.walk.specs.Calls.{leaves}
-use Rattle.given.specs.Interface.{walkedResult, walkedPosition}
+use Rattle.c_result.specs.Interface.{walkedResult, walkedPosition}
 
 pub left-given : {x : Walked} {work cursor answers : List ℕ} {l : Left} {result position : ℕ} → leaves x work cursor answers ≡ l
     → (result ≡ walkedResult x) × (position ≡ walkedPosition x)

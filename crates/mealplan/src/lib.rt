@@ -7,14 +7,14 @@ ghost use Rattle.unseal.specs.Unseal.{unsealed, unsealedOutput};
 ghost use Rattle.forest.specs.Outcome.{measured, measuredWork, spread, spreadOutput};
 ghost use Rattle.demand.specs.Calls.{walkOf};
 ghost use Rattle.walk.specs.Calls.{lends};
-ghost use Rattle.given.specs.Interface.{measuredResult, measuredPosition, treesAfter, entriesAfter, levelsAfter, checkedResult, writtenResult, checkedPosition, writtenPosition, countAfter, startAfter, lengthAfter, walkedResult, walkedPosition};
+ghost use Rattle.c_result.specs.Interface.{measuredResult, measuredPosition, treesAfter, entriesAfter, levelsAfter, checkedResult, writtenResult, checkedPosition, writtenPosition, countAfter, startAfter, lengthAfter, walkedResult, walkedPosition};
 
 // Check.
 #[no_mangle]
 pub extern "C" fn plan_check(plan: &[u8], n: &mut u16, start: &mut u16, position: &mut u64) -> u32
     ensures { λ r. let c = checked (now (plan .entry)) in ⌜ (r ≡ checkedResult c) × (now (n .exit) ≡ countAfter c (now (n .entry))) × (now (start .exit) ≡ startAfter c (now (start .entry))) × (now (position .exit) ≡ checkedPosition c) ⌝ }
 {
-    given::give_checked(plan::check(plan), n, start, position)
+    c_result::give_checked(plan::check(plan), n, start, position)
 }
 
 // Seal.
@@ -28,7 +28,7 @@ pub extern "C" fn plan_seal(
 ) -> u32
     ensures { λ r. let w = sealed (now (words .entry)) start (now (out .entry)) in ⌜ (r ≡ writtenResult w) × (now (out .exit) ≡ sealedOutput (now (words .entry)) start (now (out .entry))) × (now (written .exit) ≡ lengthAfter w (now (written .entry))) × (now (position .exit) ≡ writtenPosition w) ⌝ }
 {
-    given::give_written(seal::seal(words, start, out), written, position)
+    c_result::give_written(seal::seal(words, start, out), written, position)
 }
 
 // Unseal.
@@ -42,7 +42,7 @@ pub extern "C" fn plan_unseal(
 ) -> u32
     ensures { λ r. let c = unsealed (now (plan .entry)) (now (out .entry)) in ⌜ (r ≡ checkedResult c) × (now (out .exit) ≡ unsealedOutput (now (plan .entry)) (now (out .entry))) × (now (n .exit) ≡ countAfter c (now (n .entry))) × (now (start .exit) ≡ startAfter c (now (start .entry))) × (now (position .exit) ≡ checkedPosition c) ⌝ }
 {
-    given::give_checked(unseal::unseal(plan, out), n, start, position)
+    c_result::give_checked(unseal::unseal(plan, out), n, start, position)
 }
 
 // Measure.
@@ -57,7 +57,7 @@ pub extern "C" fn plan_measure(
 ) -> u32
     ensures { λ r. let m = measured (now (plan .entry)) (now (work .entry)) in ⌜ (r ≡ measuredResult m) × (now (work .exit) ≡ measuredWork (now (plan .entry)) (now (work .entry))) × (now (trees .exit) ≡ treesAfter m (now (trees .entry))) × (now (entries .exit) ≡ entriesAfter m (now (entries .entry))) × (now (levels .exit) ≡ levelsAfter m (now (levels .entry))) × (now (position .exit) ≡ measuredPosition m) ⌝ }
 {
-    given::give_measured(
+    c_result::give_measured(
         measure::measure(plan, work),
         trees,
         entries,
@@ -77,7 +77,7 @@ pub extern "C" fn plan_spread(
 ) -> u32
     ensures { λ r. let w = spread (now (plan .entry)) (now (work .entry)) (now (out .entry)) in ⌜ (r ≡ writtenResult w) × (now (work .exit) ≡ measuredWork (now (plan .entry)) (now (work .entry))) × (now (out .exit) ≡ spreadOutput (now (plan .entry)) (now (work .entry)) (now (out .entry))) × (now (written .exit) ≡ lengthAfter w (now (written .entry))) × (now (position .exit) ≡ writtenPosition w) ⌝ }
 {
-    given::give_written(spread::spread(plan, work, out), written, position)
+    c_result::give_written(spread::spread(plan, work, out), written, position)
 }
 
 // Walk.
@@ -92,5 +92,5 @@ pub extern "C" fn plan_walk(
 ) -> u32
     ensures { λ r. let l = walkOf (lends (now (plan .entry)) (now (work .entry)) (now (cursor .entry)) (now (letters .entry)) (now (answers .entry))) in ⌜ (r ≡ walkedResult (l .answer)) × (now (work .exit) ≡ l .work) × (now (cursor .exit) ≡ l .cursor) × (now (answers .exit) ≡ l .answers) × (now (position .exit) ≡ walkedPosition (l .answer)) ⌝ }
 {
-    given::give_walked(walk::walk(plan, work, cursor, letters, answers), position)
+    c_result::give_walked(walk::walk(plan, work, cursor, letters, answers), position)
 }

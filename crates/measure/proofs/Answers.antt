@@ -11,15 +11,15 @@ use Rattle.forest.specs.Algebra.{value}
 use Rattle.forest.specs.Forest.{Forest, trees, count, weigh, one, levels}
 use Rattle.forest.specs.Outcome.{counted, entry}
 use Rattle.forest.proofs.Counts.{count-nodes, levels-nodes}
-use Rattle.rows.proofs.Rows.{within-both}
-use Rattle.count.specs.declared.Count.{Count}
-use Rattle.counts.specs.declared.Tally.{Tally}
-use Rattle.tally.specs.declared.Weight.{Weight}
-use Rattle.count.specs.Count.{capped, limit, numberOf}
-use Rattle.tally.specs.ByRule.{weightOf}
-use Rattle.counts.specs.Total.{Totalled}
-use Rattle.counts.proofs.Meaning.{entries-nodes}
-use Rattle.counts.proofs.Totals.{unfolds-after, nodes-total, trees-total, levels-total}
+use Rattle.work_rows.proofs.Rows.{within-both}
+use Rattle.count_capped.specs.declared.Count.{Count}
+use Rattle.count_passes.specs.declared.Tally.{Tally}
+use Rattle.count_rule.specs.declared.Weight.{Weight}
+use Rattle.count_capped.specs.Count.{capped, limit, numberOf}
+use Rattle.count_rule.specs.ByRule.{weightOf}
+use Rattle.count_passes.specs.Total.{Totalled}
+use Rattle.count_passes.proofs.Meaning.{entries-nodes}
+use Rattle.count_passes.proofs.Totals.{unfolds-after, nodes-total, trees-total, levels-total}
 use Rattle.measure.specs.Answer.{Answered}
 
 -- the flag, and the answer

@@ -10,10 +10,10 @@ use Rattle.forest.specs.declared.Measured.{Measured}
 use Rattle.forest.specs.Expression.{expression}
 use Rattle.forest.specs.Forest.{forest}
 use Rattle.forest.specs.Outcome.{workWords, enoughWork, cleared, measuredFrom, measured, measuredWork}
-use Rattle.rows.proofs.Rows.{within-both}
-use Rattle.rows.proofs.Work.{work-cleared, beyond-work}
-use Rattle.loading.specs.Prepared.{Loads, Prepared}
-use Rattle.counts.proofs.Work.{Held, held}
+use Rattle.work_rows.proofs.Rows.{within-both}
+use Rattle.work_rows.proofs.Work.{work-cleared, beyond-work}
+use Rattle.work_load.specs.Prepared.{Loads, Prepared}
+use Rattle.count_passes.proofs.Work.{Held, held}
 use Rattle.measure.specs.Answer.{Answered}
 
 -- the answer and the work that measure gives

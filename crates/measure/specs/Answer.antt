@@ -8,8 +8,8 @@ use Rattle.forest.specs.Algebra.{value}
 use Rattle.forest.specs.Forest.{trees}
 use Rattle.forest.specs.Outcome.{counted}
 use Rattle.forest.proofs.Good.{Sort, Good}
-use Rattle.rows.specs.Rows.{Beyond}
-use Rattle.counts.specs.Tally.{Unfolds}
+use Rattle.work_rows.specs.Rows.{Beyond}
+use Rattle.count_passes.specs.Tally.{Unfolds}
 
 -- the answer for rule r, whatever its expression, as long as it unfolds the rules in the rows and is closed
 pub record Answered (n r : ℕ) (m : Measured) (s t : List ℕ) : Type 0 where

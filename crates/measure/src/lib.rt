@@ -1,26 +1,26 @@
 // Measure (document 01): the trees, entries and levels of a plan's forest.
 ghost use mathlib.Core.Path.{_≡_};
 ghost use Rattle.forest.specs.Outcome.{measured, measuredWork};
-ghost use Rattle.counts.specs.Total.{Startable};
+ghost use Rattle.count_passes.specs.Total.{Startable};
 ghost use Rattle.measure.specs.Answer.{Answered};
-use counts::Tally;
+use count_passes::Tally;
+use count_rule::Weight;
 use forest::Measured;
 use plan::Checked;
 use refusal::Refusal;
-use tally::Weight;
 
 // The answer for rule r of the rules in the rows. Trees and levels are at most as many as nodes, and so are entries.
 fn answer(work: &mut [u8], n: u16, r: u16) -> Measured
     requires { ⌜ Startable (now work) n r ⌝ }
     ensures { λ x. ⌜ Answered n r x (now (work .entry)) (now (work .exit)) ⌝ }
 {
-    let nodes = counts::total(work, n, r, Tally::Own(Weight::Node), Tally::Sum);
+    let nodes = count_passes::total(work, n, r, Tally::Own(Weight::Node), Tally::Sum);
     if nodes.over != 0 {
         return Measured::Refused(Refusal::Room);
     }
-    let entries = counts::total(work, n, r, Tally::Own(Weight::Entry), Tally::Sum);
-    let trees = counts::total(work, n, r, Tally::Own(Weight::Node), Tally::Trees);
-    let levels = counts::total(work, n, r, Tally::Depth, Tally::Levels);
+    let entries = count_passes::total(work, n, r, Tally::Own(Weight::Entry), Tally::Sum);
+    let trees = count_passes::total(work, n, r, Tally::Own(Weight::Node), Tally::Trees);
+    let levels = count_passes::total(work, n, r, Tally::Depth, Tally::Levels);
     Measured::Counts {
         trees: trees.low,
         entries: entries.low,
@@ -32,10 +32,10 @@ fn answer(work: &mut [u8], n: u16, r: u16) -> Measured
 pub fn measure(plan: &[u8], work: &mut [u8]) -> Measured
     ensures { λ x. ⌜ (x ≡ measured (now (plan .entry)) (now (work .entry))) × (now (work .exit) ≡ measuredWork (now (plan .entry)) (now (work .entry))) ⌝ }
 {
-    match loading::load_plan(plan, work) {
+    match work_load::load_plan(plan, work) {
         Checked::Accepted { n, start } => {
             let answer = answer(work, n, start);
-            rows::clear_work(work, n);
+            work_rows::clear_work(work, n);
             answer
         }
         Checked::Refused(refusal) => Measured::Refused(refusal),

@@ -17,24 +17,24 @@ use Rattle.forest.specs.Outcome.{nodeLength, textRoomed}
 use Rattle.forest.proofs.Good.{Sort, Good}
 use Rattle.forest.proofs.Unfold.{unfolding-equation, closed-row}
 use Rattle.forest.proofs.Counts.{text-length}
-use Rattle.rows.specs.Rows.{ownEnd}
-use Rattle.rows.proofs.Rows.{within-both, within-wider}
-use Rattle.count.specs.declared.Count.{Count}
-use Rattle.counts.specs.declared.Tally.{Tally}
-use Rattle.tally.specs.declared.Weight.{Weight}
-use Rattle.count.specs.Count.{capped, limit, numberOf}
-use Rattle.counts.specs.Says.{whole, says}
-use Rattle.tally.specs.ByRule.{weightOf}
-use Rattle.counts.specs.Tally.{Besides, Unfolds}
-use Rattle.counts.specs.Total.{Startable, Totalled}
-use Rattle.counts.proofs.Meaning.{told}
-use Rattle.counts.proofs.Column.{besides-rule}
-use Rattle.counts.proofs.Totals.{nodes-total}
-use Rattle.steps.specs.Task.{taskIn}
-use Rattle.tasks.specs.Run.{rowsIn, meant, workEnd, Taskable, Tasked, Tabled, Ran, Spreadable}
+use Rattle.work_rows.specs.Rows.{ownEnd}
+use Rattle.work_rows.proofs.Rows.{within-both, within-wider}
+use Rattle.count_capped.specs.declared.Count.{Count}
+use Rattle.count_passes.specs.declared.Tally.{Tally}
+use Rattle.count_rule.specs.declared.Weight.{Weight}
+use Rattle.count_capped.specs.Count.{capped, limit, numberOf}
+use Rattle.count_passes.specs.Says.{whole, says}
+use Rattle.count_rule.specs.ByRule.{weightOf}
+use Rattle.count_passes.specs.Tally.{Besides, Unfolds}
+use Rattle.count_passes.specs.Total.{Startable, Totalled}
+use Rattle.count_passes.proofs.Meaning.{told}
+use Rattle.count_passes.proofs.Column.{besides-rule}
+use Rattle.count_passes.proofs.Totals.{nodes-total}
+use Rattle.spread_step.specs.Task.{taskIn}
+use Rattle.spread_stack.specs.Run.{rowsIn, meant, workEnd, Taskable, Tasked, RowsTasked, Ran, Spreadable}
 use Rattle.spread.specs.Answer.{Answerable, Answered}
-use Rattle.steps.proofs.Tasks.{by-test}
-use Rattle.tasks.proofs.Rows.{rows-length, rows-rule, rows-same, task-recurs}
+use Rattle.spread_step.proofs.Tasks.{by-test}
+use Rattle.spread_stack.proofs.Rows.{rows-length, rows-rule, rows-same, task-recurs}
 
 -- two tests that say the same
 same-test : (a b c d : ℕ) → (a ≤ b → c ≤ d) → (c ≤ d → a ≤ b) → leb a b ≡ leb c d
@@ -132,8 +132,8 @@ module _ {s t : List ℕ} {n r : ℕ} {c : Count} (a : Answerable s n r) (p : To
       all-same : rowsIn u n ≡ rowsIn s n
       all-same = rows-kept (q .besides) (omega arith) ∙ rows-kept (p .passes .besides) (omega arith)
 
-      tabled : Tabled u n
-      tabled =
+      rows-tasked : RowsTasked u n
+      rows-tasked =
           record {
             sound = tasked .sound;
             few = tasked .few;
@@ -151,7 +151,7 @@ module _ {s t : List ℕ} {n r : ℕ} {c : Count} (a : Answerable s n r) (p : To
       pub spreadable : Spreadable u out n r
       spreadable =
           record {
-            tabled = tabled;
+            rows-tasked = rows-tasked;
             below = in-rows tasked;
             fits = rw same-text (omega (arith, text-length (forest (rowsIn s n) r), enough));
           }

@@ -13,13 +13,13 @@ use Rattle.plan.specs.Check.{checked, rulesOf}
 use Rattle.plan.specs.Written.{outputAfter}
 use Rattle.forest.specs.Forest.{forest, text}
 use Rattle.forest.specs.Outcome.{workWords, enoughWork, cleared, measuredWork, textRoomed, spreadFrom, spread, textOf, spreadOutput}
-use Rattle.rows.proofs.Rows.{within-both}
-use Rattle.rows.proofs.Work.{work-cleared, beyond-work}
-use Rattle.loading.specs.Prepared.{Loads, Prepared}
-use Rattle.counts.proofs.Work.{Held, held}
-use Rattle.tasks.specs.Run.{rowsIn}
+use Rattle.work_rows.proofs.Rows.{within-both}
+use Rattle.work_rows.proofs.Work.{work-cleared, beyond-work}
+use Rattle.work_load.specs.Prepared.{Loads, Prepared}
+use Rattle.count_passes.proofs.Work.{Held, held}
+use Rattle.spread_stack.specs.Run.{rowsIn}
 use Rattle.spread.specs.Answer.{Answerable, Answered}
-use Rattle.tasks.proofs.Rows.{rows-are}
+use Rattle.spread_stack.proofs.Rows.{rows-are}
 
 -- the answer, the work and the output that spread gives
 abbrev pub Outcome : List ℕ → List ℕ → List ℕ → Written → List ℕ → List ℕ → Type 0

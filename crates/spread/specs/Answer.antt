@@ -8,8 +8,8 @@ use Rattle.rule.specs.Sound.{Sound, Closed}
 use Rattle.plan.specs.Written.{outputAfter}
 use Rattle.forest.specs.Forest.{forest, text}
 use Rattle.forest.specs.Outcome.{textRoomed}
-use Rattle.rows.specs.Rows.{Within}
-use Rattle.tasks.specs.Run.{rowsIn, workEnd}
+use Rattle.work_rows.specs.Rows.{Within}
+use Rattle.spread_stack.specs.Run.{rowsIn, workEnd}
 
 -- rule r of the rows can be measured and spread, whatever else the rows hold
 pub record Answerable (t : List ℕ) (n r : ℕ) : Type 0 where

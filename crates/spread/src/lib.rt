@@ -4,13 +4,13 @@ ghost use Prim.Native.Nat.{_*_};
 ghost use lib.Dec.{leb};
 ghost use Rattle.spread.specs.Answer.{Answerable, Answered};
 ghost use Rattle.forest.specs.Outcome.{nodeLength, spread, measuredWork, spreadOutput};
-ghost use Rattle.count.specs.Count.{numberOf};
-use count::Count;
-use counts::Tally;
+ghost use Rattle.count_capped.specs.Count.{numberOf};
+use count_capped::Count;
+use count_passes::Tally;
+use count_rule::Weight;
 use plan::Checked;
 use plan::Written;
 use refusal::Refusal;
-use tally::Weight;
 
 // Whether the text of a forest with so many nodes fits the output: three bytes a node.
 fn fits(nodes: Count, room: usize) -> bool
@@ -27,22 +27,22 @@ fn answer(work: &mut [u8], out: &mut [u8], n: u16, r: u16) -> Written
     requires { ⌜ Answerable (now work) n r ⌝ }
     ensures { λ x. ⌜ Answered n r x (now (work .entry)) (now (work .exit)) (now (out .entry)) (now (out .exit)) ⌝ }
 {
-    let nodes = counts::total(work, n, r, Tally::Own(Weight::Node), Tally::Sum);
+    let nodes = count_passes::total(work, n, r, Tally::Own(Weight::Node), Tally::Sum);
     if !fits(nodes, out.len()) {
         return Written::Refused(Refusal::Room);
     }
-    tasks::task_rows(work, n);
-    Written::Length(tasks::spread_rule(work, out, n, r))
+    spread_stack::task_rows(work, n);
+    Written::Length(spread_stack::spread_rule(work, out, n, r))
 }
 
 // Spread a plan: its text and the length of it, or why it is turned down.
 pub fn spread(plan: &[u8], work: &mut [u8], out: &mut [u8]) -> Written
     ensures { λ x. ⌜ (x ≡ spread (now (plan .entry)) (now (work .entry)) (now (out .entry))) × (now (work .exit) ≡ measuredWork (now (plan .entry)) (now (work .entry))) × (now (out .exit) ≡ spreadOutput (now (plan .entry)) (now (work .entry)) (now (out .entry))) ⌝ }
 {
-    match loading::load_plan(plan, work) {
+    match work_load::load_plan(plan, work) {
         Checked::Accepted { n, start } => {
             let answer = answer(work, out, n, start);
-            rows::clear_work(work, n);
+            work_rows::clear_work(work, n);
             answer
         }
         Checked::Refused(refusal) => Written::Refused(refusal),

@@ -1,10 +1,10 @@
 // Stroll (document 01, "One sample plan"): walks the plan in file plan.bin by the letters on standard input, from above the
-// forest, and prints a line for each. What it prints is the contract of lines::stroll; here it is read and written.
+// forest, and prints a line for each. What it prints is the contract of stroll_output::stroll; here it is read and written.
 use libc::STDIN_FILENO;
 use libc::STDOUT_FILENO;
-use lines::MOST_LETTERS;
-use lines::MOST_OUTPUT;
-use lines::MOST_PLAN;
+use stroll_output::MOST_LETTERS;
+use stroll_output::MOST_OUTPUT;
+use stroll_output::MOST_PLAN;
 ghost use Rattle.io.specs.Counts.{Counts};
 
 // Reads file plan.bin and gives how many bytes it put at the front of plan. An absent file counts as empty.
@@ -27,6 +27,6 @@ fn main() {
     let mut out = [0u8; MOST_OUTPUT];
     let plan_length = read_plan(&mut plan);
     let letters_length = io::read_full(STDIN_FILENO, &mut letters);
-    let length = lines::stroll(&plan[..plan_length], &letters[..letters_length], &mut out);
+    let length = stroll_output::stroll(&plan[..plan_length], &letters[..letters_length], &mut out);
     io::write_all(STDOUT_FILENO, &out[..length]);
 }

@@ -15,23 +15,23 @@ use Rattle.plan.proofs.Sound.{Plan, checked-plan, plan-long}
 use Rattle.forest.specs.Walk.{placeJudged}
 use Rattle.forest.specs.declared.Walked.{Walked}
 use Rattle.model.specs.Facts.{Facts, factsOf}
-use Rattle.rows.specs.Rows.{workLength, rowLength, Holds, Within, Loaded}
-use Rattle.tables.specs.Table.{rows, known, kept, Built}
-use Rattle.rows.proofs.Rows.{within-both}
-use Rattle.tables.proofs.Words.{known-rule}
-use Rattle.tables.proofs.Kept.{kept-holds}
-use Rattle.entries.proofs.Known.{built-walkable}
-use Rattle.rows.proofs.Work.{rules-first, beyond-work}
-use Rattle.ways.specs.Standing.{rulesKept}
+use Rattle.work_rows.specs.Rows.{workLength, rowLength, Holds, Within, Loaded}
+use Rattle.facts.specs.Facts.{rowCount, factsIn, kept, Built}
+use Rattle.work_rows.proofs.Rows.{within-both}
+use Rattle.facts.proofs.Words.{factsIn-rule}
+use Rattle.facts.proofs.Kept.{kept-holds}
+use Rattle.facts_build.proofs.Known.{built-walkable}
+use Rattle.work_rows.proofs.Work.{rules-first, beyond-work}
+use Rattle.letter_moves.specs.Standing.{rulesKept}
 use Rattle.walk.specs.Calls.{Planned, Filled, Lendable}
-use Rattle.travel.specs.Travel.{Travels, Walks}
+use Rattle.walk_place.specs.Travel.{Travels, Walks}
 
 -- rows that are known as the facts of rules keep these
-walkable-rules : (R : List Rule) (n : ℕ) (t : List ℕ) → length R ≡ n → length t ≡ rowLength * n → known t ≡ factsOf R → rulesKept t ≡ R
+walkable-rules : (R : List Rule) (n : ℕ) (t : List ℕ) → length R ≡ n → length t ≡ rowLength * n → factsIn t ≡ factsOf R → rulesKept t ≡ R
 unfolding Holds factsOf
 walkable-rules R n t count long e =
-    let all : rows t ≡ n = omega arith in
-    ap (kept t) all ∙ kept-holds R t n count (λ k below. sym (known-rule t k (omega arith)) ∙ ap (λ (F : Facts). F .rule k) e)
+    let all : rowCount t ≡ n = omega arith in
+    ap (kept t) all ∙ kept-holds R t n count (λ k below. sym (factsIn-rule t k (omega arith)) ∙ ap (λ (F : Facts). F .rule k) e)
 
 module _ {s : List ℕ} {n : ℕ} (P : Planned s n) where
   plan : Plan mostRules s n (P .start)
@@ -54,7 +54,7 @@ module _ {s : List ℕ} {n : ℕ} (P : Planned s n) where
         let again = B .beyond .same-length in
         let long : length (take (rowLength * n) t′) ≡ rowLength * n = length-take-le (rowLength * n) t′ (omega arith) in
         let w = built-walkable (plan .sound) (plan .rules) B (omega arith) in (
-          record { rules = walkable-rules (rulesOf s) n (take (rowLength * n) t′) (plan .rules) long (w .known-as); known-as = w .known-as; climbs = w .climbs },
+          record { rules = walkable-rules (rulesOf s) n (take (rowLength * n) t′) (plan .rules) long (w .facts-are); facts-are = w .facts-are; climbs = w .climbs },
           within-both (beyond-work n (l .beyond)) (beyond-work n (B .beyond)),
         )
 
@@ -73,11 +73,11 @@ module _ {s : List ℕ} {n start : ℕ} {work cursor letters given : List ℕ} (
     pub travels : Travels start n t cursor letters given
     travels =
         record {
-          table =
+          rows =
               record {
                 sound = rw (f .rules) (whole .sound);
                 closed = rw (f .rules) (whole .ends);
-                known-as = f .known-as ∙ ap factsOf (sym (f .rules));
+                facts-are = f .facts-are ∙ ap factsOf (sym (f .rules));
                 climbs = f .climbs;
               };
           count = omega arith;

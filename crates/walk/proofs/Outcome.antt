@@ -17,10 +17,10 @@ use Rattle.forest.specs.declared.Walked.{Walked}
 use Rattle.forest.specs.Outcome.{workWords, enoughWork, cleared, workAfter}
 use Rattle.forest.specs.Walk.{cursorWords, enoughLent, firstOther, Begun, placeJudged, lettersJudged, begunFrom, begun, walked, cursorAfter, answersAfter, walkedWork}
 use Rattle.demand.specs.Calls.{walkOf}
-use Rattle.rows.specs.Rows.{workLength, Within}
-use Rattle.rows.proofs.Work.{enough-room, work-cleared}
+use Rattle.work_rows.specs.Rows.{workLength, Within}
+use Rattle.work_rows.proofs.Work.{enough-room, work-cleared}
 use Rattle.walk.specs.Calls.{lends, leaves, Lendable}
-use Rattle.travel.specs.Travel.{Walks}
+use Rattle.walk_place.specs.Travel.{Walks}
 
 module _ (s work cursor letters given : List ℕ) where
   pub refused : (why : Refusal) → checked s ≡ Checked.Refused why → leaves (Walked.Refused why) work cursor given ≡ walkOf (lends s work cursor letters given)

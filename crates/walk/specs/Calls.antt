@@ -9,11 +9,11 @@ use Rattle.plan.specs.Check.{checked}
 use Rattle.forest.specs.declared.Walked.{Walked}
 use Rattle.demand.specs.Calls.{Lent, Left}
 use Rattle.model.specs.Facts.{factsOf}
-use Rattle.rows.specs.Rows.{workLength}
-use Rattle.tables.specs.Table.{known, Climbs}
-use Rattle.cells.specs.Cells.{cursorLength}
-use Rattle.ways.specs.Standing.{rulesKept}
-use Rattle.letters.specs.Ran.{Answerable}
+use Rattle.work_rows.specs.Rows.{workLength}
+use Rattle.facts.specs.Facts.{factsIn, Climbs}
+use Rattle.place_cells.specs.Cells.{cursorLength}
+use Rattle.letter_moves.specs.Standing.{rulesKept}
+use Rattle.letter_run.specs.Ran.{Answerable}
 
 -- what a call is lent, and what it answers and leaves
 abbrev pub lends : List ℕ → List ℕ → List ℕ → List ℕ → List ℕ → Lent
@@ -30,7 +30,7 @@ pub record Planned (plan : List ℕ) (n : ℕ) : Type 0 where
 -- the table is that of the rules R
 pub record Filled (R : List Rule) (t : List ℕ) : Type 0 where
   pub rules : rulesKept t ≡ R
-  pub known-as : known t ≡ factsOf R
+  pub facts-are : factsIn t ≡ factsOf R
   pub climbs : Climbs t
 
 -- enough of all that is lent on an accepted plan of n rules

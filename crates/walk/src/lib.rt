@@ -2,7 +2,7 @@
 use forest::Walked;
 use plan::Checked;
 use refusal::Refusal;
-use rows::Row;
+use work_rows::Row;
 ghost use mathlib.Core.Path.{_≡_};
 ghost use Prim.Native.Nat.{_*_, _≤_};
 ghost use lib.ListN.{length, take};
@@ -10,18 +10,18 @@ ghost use Rattle.plan.specs.declared.Checked.{Checked};
 ghost use Rattle.plan.specs.Check.{checked, rulesOf};
 ghost use Rattle.forest.specs.Walk.{firstOther, placeJudged, lettersJudged};
 ghost use Rattle.demand.specs.Calls.{walkOf};
-ghost use Rattle.rows.specs.Rows.{workLength, rowLength, Within};
+ghost use Rattle.work_rows.specs.Rows.{workLength, rowLength, Within};
 ghost use Rattle.walk.specs.Calls.{Filled, Planned, Lendable, lends, leaves};
-ghost use Rattle.travel.specs.Travel.{Walks};
-use lent::Found;
+ghost use Rattle.walk_place.specs.Travel.{Walks};
+use walk_lent::Found;
 
 // The table of an accepted plan's rules, in the first rows of the work.
 fn fill(plan: &[u8], work: &mut [u8], n: u16)
     requires { ⌜ Planned (now plan) n × (workLength * n ≤ length (now work)) ⌝ }
     ensures { λ x. ⌜ Filled (rulesOf (now (plan .entry))) (take (rowLength * n) (now (work .exit))) × Within 0 (workLength * n) (now (work .entry)) (now (work .exit)) ⌝ }
 {
-    rows::load_rules(plan, work, n);
-    entries::build(work, n);
+    work_rows::load_rules(plan, work, n);
+    facts_build::build(work, n);
 }
 
 // Letters on an accepted plan, past 8 and 9.
@@ -38,8 +38,8 @@ fn walk_letters(
     ensures { λ x. ⌜ Walks (rulesOf (now (plan .entry))) (placeJudged (rulesOf (now (plan .entry))) n start (now (cursor .entry))) (now (letters .entry)) (now (cursor .entry)) (now (cursor .exit)) (now (answers .entry)) (now (answers .exit)) x × Within 0 (workLength * n) (now (work .entry)) (now (work .exit)) ⌝ }
 {
     fill(plan, work, n);
-    let table = &work[..Row::LENGTH * (n as usize)];
-    travel::travel(table, cursor, letters, answers, n, start)
+    let rows = &work[..Row::LENGTH * (n as usize)];
+    walk_place::travel(rows, cursor, letters, answers, n, start)
 }
 
 // Bytes on an accepted plan, past 8: the first that is no letter is turned down.
@@ -55,7 +55,7 @@ fn walk_bytes(
     requires { ⌜ Lendable (now plan) n start (now work) (now cursor) (now letters) (now answers) ⌝ }
     ensures { λ x. ⌜ Walks (rulesOf (now (plan .entry))) (lettersJudged (firstOther (now (letters .entry)) 0) (placeJudged (rulesOf (now (plan .entry))) n start (now (cursor .entry)))) (now (letters .entry)) (now (cursor .entry)) (now (cursor .exit)) (now (answers .entry)) (now (answers .exit)) x × Within 0 (workLength * n) (now (work .entry)) (now (work .exit)) ⌝ }
 {
-    match lent::first_other(letters) {
+    match walk_lent::first_other(letters) {
         Found::At(i) => Walked::Refused(Refusal::Letter(i)),
         Found::Nothing => walk_letters(plan, work, cursor, letters, answers, n, start),
     }
@@ -74,11 +74,11 @@ fn walk_rules(
     requires { ⌜ checked (now plan) ≡ Checked.Accepted n start ⌝ }
     ensures { λ x. ⌜ leaves x (now (work .exit)) (now (cursor .exit)) (now (answers .exit)) ≡ walkOf (lends (now (plan .entry)) (now (work .entry)) (now (cursor .entry)) (now (letters .entry)) (now (answers .entry))) ⌝ }
 {
-    if !lent::enough_lent(work, cursor, letters, answers, n) {
+    if !walk_lent::enough_lent(work, cursor, letters, answers, n) {
         return Walked::Refused(Refusal::Lent);
     }
     let answer = walk_bytes(plan, work, cursor, letters, answers, n, start);
-    rows::clear_work(work, n);
+    work_rows::clear_work(work, n);
     answer
 }
 

@@ -3,9 +3,9 @@ use borrow.Author.Needs.{needs}
 use mathlib.Core.Path.{ap, _∙_}
 use mathlib.Core.List.{List}
 use Prim.Native.Nat.{ℕ}
-use Rattle.lines.specs.Stroll.{strollOutput}
-use Rattle.lines.proofs.Printed.{printed-text}
-use Rattle.lines.proofs.Sample.{letters, printed}
+use Rattle.stroll_output.specs.Stroll.{strollOutput}
+use Rattle.stroll_output.proofs.Printed.{printed-text}
+use Rattle.stroll_output.proofs.Sample.{letters, printed}
 use Rattle.cases.proofs.line_cases.Statement.{statement}
 use Rattle.cases.proofs.line_cases.Tie as tie
 

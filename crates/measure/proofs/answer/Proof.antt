@@ -1,7 +1,7 @@
 -- The nodes' flag tells whether every count is exact. Assumes nothing.
 use borrow.Author.Needs.{needs}
 use Rattle.measure.proofs.Answers.{answered-over, answered-exact}
-use Rattle.counts.proofs.Totals.{startable-after}
+use Rattle.count_passes.proofs.Totals.{startable-after}
 use native.Mathlib.Omega.{arith}
 use Rattle.measure.proofs.answer.Statement.{statement}
 use Rattle.measure.proofs.answer.Tie as tie

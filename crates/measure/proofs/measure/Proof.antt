@@ -1,6 +1,6 @@
 -- The plan's rules are loaded, measured and cleared away, on both answers; or it is refused. Assumes nothing.
 use borrow.Author.Needs.{needs}
-use Rattle.counts.proofs.Work.{held, startable}
+use Rattle.count_passes.proofs.Work.{held, startable}
 use Rattle.measure.proofs.Outcome.{refused, finished}
 use native.Mathlib.Omega.{arith}
 use Rattle.measure.proofs.measure.Statement.{statement}

@@ -81,14 +81,14 @@ returns-2 c =
     let done = c .before .before in
     let rules = done .before .before .before .before in
     let counted = rules .before .before in
-    let known = counted .before in
-    let a = known .before .before .before .before .before .before .args in
+    let factsIn = counted .before in
+    let a = factsIn .before .before .before .before .before .before .args in
     let n = counted .word-count .result / recordWords in
-    let e = length-is known in (
+    let e = length-is factsIn in (
       sym e,
       done .write .ensures
           ∙ ap (λ (l : List ℕ). take (recordLength * n) l ++ (trailerBytes n (a .start) ++ drop (recordLength * n + trailerLength) l)) (rules .write-rules .ensures)
-          ∙ seal-written _ _ _ _ _ (accepting known) n (count-is counted)
+          ∙ seal-written _ _ _ _ _ (accepting factsIn) n (count-is counted)
           ∙ sym (ap (λ (r : Written). outputAfter r (planBytes (given (now (a .words))) (a .start)) (now (a .out))) e),
     )
 

@@ -46,14 +46,14 @@ returns-2 : tie.Need-returns-2
 returns-2 c =
     let done = c .before .before in
     let whole = done .before .before .before in
-    let known = whole .before .before .before in
-    let a = known .before .before .before .before .args in
+    let factsIn = whole .before .before .before in
+    let a = factsIn .before .before .before .before .args in
     let rule = whole .before .rule .given .0 .0 in
     let out = now (a .out) in
     done .write .ensures
     ∙ ap (λ (w : Record). take (a .at) out ++ (recordBytes w ++ drop (a .at + recordLength) out))
     (done .before .before .encode .ensures
-    ∙ encode-decode (recordAt (now (a .words)) (a .at)) rule (told known (Decoded.Whole rule) (whole .before .rule .given .1)))
+    ∙ encode-decode (recordAt (now (a .words)) (a .at)) rule (told factsIn (Decoded.Whole rule) (whole .before .rule .given .1)))
 
 pub write-rule-spec : {M : Type 1} → statement M
 write-rule-spec =

@@ -1,6 +1,6 @@
 -- The plan's rules are loaded, spread and cleared away, on both answers; or it is refused. Assumes nothing.
 use borrow.Author.Needs.{needs}
-use Rattle.counts.proofs.Work.{held}
+use Rattle.count_passes.proofs.Work.{held}
 use Rattle.spread.proofs.Outcome.{refused, finished, answerable}
 use native.Mathlib.Omega.{arith}
 use Rattle.spread.proofs.spread.Statement.{statement}

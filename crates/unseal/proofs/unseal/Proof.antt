@@ -44,22 +44,22 @@ same-length c = search needs
 
 returns-2 : tie.Need-returns-2
 returns-2 c =
-    let known = c .before .before .before in
-    let a = known .before .before .before .before .before .before .args in
-    let r = unsealed-no-room (now (a .plan)) (now (a .out)) _ _ (accepted-is known) (sym (c .before .roomed .ensures) ∙ not-true (c .before .roomed .result) (c .if1 .taken)) in
+    let factsIn = c .before .before .before in
+    let a = factsIn .before .before .before .before .before .before .args in
+    let r = unsealed-no-room (now (a .plan)) (now (a .out)) _ _ (accepted-is factsIn) (sym (c .before .roomed .ensures) ∙ not-true (c .before .roomed .result) (c .if1 .taken)) in
     (sym (r .0), sym (r .1))
 
 -- and the output has room
 room-is : (c : tie.Else1)
-    → let known = c .before .before .before in
-    leb (recordWords * known .before .answer .given .0 .0) (wordCount (now (known .before .before .before .before .before .before .args .out))) ≡ true
+    → let factsIn = c .before .before .before in
+    leb (recordWords * factsIn .before .answer .given .0 .0) (wordCount (now (factsIn .before .before .before .before .before .before .args .out))) ≡ true
 room-is c = sym (c .before .roomed .ensures) ∙ not-false (c .before .roomed .result) (c .if1 .left)
 
 copy-records-requires : tie.Need-copy-records-requires
 copy-records-requires c κs =
-    let known = c .before .before .before .before in
-    let a = known .before .before .before .before .before .before .args in
-    (unsealed-long (now (a .plan)) (now (a .out)) _ _ (accepted-is known), omega (arith, leb-true (recordWords * known .before .answer .given .0 .0) (wordCount (now (a .out))) (room-is (c .before))))
+    let factsIn = c .before .before .before .before in
+    let a = factsIn .before .before .before .before .before .before .args in
+    (unsealed-long (now (a .plan)) (now (a .out)) _ _ (accepted-is factsIn), omega (arith, leb-true (recordWords * factsIn .before .answer .given .0 .0) (wordCount (now (a .out))) (room-is (c .before))))
 
 same-length-2 : tie.Need-same-length-2
 same-length-2 c = search needs
@@ -68,9 +68,9 @@ returns-3 : tie.Need-returns-3
 returns-3 c =
     let done = c .before .before in
     let roomed = done .before .before in
-    let known = roomed .before .before .before in
-    let a = known .before .before .before .before .before .before .args in
-    let r = unsealed-roomed (now (a .plan)) (now (a .out)) _ _ (accepted-is known) (room-is roomed) in
+    let factsIn = roomed .before .before .before in
+    let a = factsIn .before .before .before .before .before .before .args in
+    let r = unsealed-roomed (now (a .plan)) (now (a .out)) _ _ (accepted-is factsIn) (room-is roomed) in
     (sym (r .0), done .copy-records .ensures ∙ sym (r .1))
 
 pub unseal-spec : {M : Type 1} → statement M

@@ -1,9 +1,9 @@
 -- The first byte that is no letter is turned down; else the letters are walked. Assumes nothing.
 use mathlib.Core.Path.{sym, ap, _∙_}
 use Rattle.forest.specs.Walk.{lettersJudged}
-use Rattle.rows.proofs.Rows.{within-none}
-use Rattle.lent.specs.Found.{foundAt}
-use Rattle.travel.proofs.Places.{refused-walks}
+use Rattle.work_rows.proofs.Rows.{within-none}
+use Rattle.walk_lent.specs.Found.{foundAt}
+use Rattle.walk_place.proofs.Places.{refused-walks}
 use borrow.Author.Needs.{needs}
 use Rattle.walk.proofs.walk_bytes.Statement.{statement}
 use Rattle.walk.proofs.walk_bytes.Tie as tie

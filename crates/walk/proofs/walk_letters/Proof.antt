@@ -8,14 +8,14 @@ use Rattle.walk.proofs.walk_letters.Tie as tie
 fill-requires : tie.Need-fill-requires
 fill-requires c κs = (planned (c .before .before .before .before .before .before .pre), c .before .before .before .before .before .before .pre .worked)
 
-mul-table : tie.Need-mul-table
-mul-table c = search needs
+mul-rows : tie.Need-mul-rows
+mul-rows c = search needs
 
-slice-reshare-prefix-table : tie.Need-slice-reshare-prefix-table
-slice-reshare-prefix-table c = search needs
+slice-reshare-prefix-rows : tie.Need-slice-reshare-prefix-rows
+slice-reshare-prefix-rows c = search needs
 
-slice-aggregate-table : tie.Need-slice-aggregate-table
-slice-aggregate-table c = sym (prefix-long (c .before .before .before .before .before .before .before .before .before .before .pre) (c .before .before .before .fill .ensures .1))
+slice-aggregate-rows : tie.Need-slice-aggregate-rows
+slice-aggregate-rows c = sym (prefix-long (c .before .before .before .before .before .before .before .before .before .before .pre) (c .before .before .before .fill .ensures .1))
 
 travel-requires : tie.Need-travel-requires
 travel-requires c κs = travels (c .before .before .before .before .before .before .before .before .before .before .before .before .pre) (c .before .before .before .before .before .fill .ensures .0) (prefix-long (c .before .before .before .before .before .before .before .before .before .before .before .before .pre) (c .before .before .before .before .before .fill .ensures .1))
@@ -37,9 +37,9 @@ walk-letters-spec =
     tie.close
     (tie.spec
     fill-requires
-    mul-table
-    slice-reshare-prefix-table
-    slice-aggregate-table
+    mul-rows
+    slice-reshare-prefix-rows
+    slice-aggregate-rows
     travel-requires
     same-length
     same-length-2

@@ -1,0 +1,18 @@
+-- A count that stops at 2^64: exact up to 2^64 − 1, and known to be more above (document 01, "11: over 2^64 − 1 nodes").
+use Prim.Native.Nat.{ℕ, _+_, _*_, _^_, min}
+use Rattle.count_capped.specs.declared.Count.{Count}
+
+-- the least number that isn't counted exactly
+abbrev pub limit : ℕ
+limit = 2 ^ 64
+
+abbrev pub capped : ℕ → ℕ
+capped n = min n limit
+
+-- the number that a count stands for
+abbrev pub numberOf : Count → ℕ
+numberOf c = c .low + limit * c .over
+
+-- the bytes of a count: eight of the number, two of the flag
+abbrev pub countLength : ℕ
+countLength = 10

@@ -1,0 +1,71 @@
+-- Columns of rows: a write to one place of a row leaves every other place of every row alone, and what lies past the rows. So a
+-- column grows by one row a write, and the rules and the other columns stay. Assumes nothing.
+use Prim.Native.Nat.{ℕ, _+_, _*_, _^_, _≤_, _<_}
+use native.Mathlib.Omega.{arith}
+use native.Mathlib.Decide.{decLt}
+use mathlib.Core.Path.{_≡_, refl, _∙_}
+use mathlib.Core.List.{List}
+use lib.ListN.{length}
+use Rattle.words.specs.Number.{base}
+use Rattle.work_rows.specs.Rows.{rowLength, ownEnd, field, putField, atKind, atLabel, atOne, atTwo, rowIn, ruleIn}
+use Rattle.work_rows.proofs.Rows.{field-same, field-other, within-none, within-both, beyond-put}
+use Rattle.count_capped.specs.Count.{capped, countLength}
+use Rattle.count_passes.specs.Tally.{Besides, Column}
+
+-- two places of rows lie apart: the rows or the places differ
+apart : (o w v p r k : ℕ) → o + w ≤ rowLength → p + v ≤ rowLength → (o < p + v → o + w ≤ p)
+    → rowLength * r + o < rowLength * k + p + v → rowLength * r + o + w ≤ rowLength * k + p
+apart o w v p r k fits within sep h =
+    elim (decLt r k) as (λ (d : Dec (r < k)). rowLength * r + o + w ≤ rowLength * k + p) [
+      | yes l ↦ omega arith
+      | no l ↦ elim (decLt k r) as (λ (d : Dec (k < r)). rowLength * r + o + w ≤ rowLength * k + p) [
+        | yes m ↦ absurd (omega arith)
+        | no m ↦ let e : r ≡ k = omega arith in let s : o + w ≤ p = sep (omega arith) in omega arith
+      ]
+    ]
+
+pub besides-none : (o w n : ℕ) (s : List ℕ) → Besides o w n s s
+besides-none o w n s = record { fields = λ v p k f a. refl; beyond = within-none 0 (rowLength * n) s }
+
+pub besides-both : {o w n : ℕ} {s t u : List ℕ} → Besides o w n s t → Besides o w n t u → Besides o w n s u
+besides-both p q =
+    record { fields = λ v x k f a. q .fields v x k f a ∙ p .fields v x k f a; beyond = within-both (p .beyond) (q .beyond) }
+
+-- a wider place
+pub besides-wider : {o w n : ℕ} {s t : List ℕ} (o′ w′ : ℕ) → o′ ≤ o → o + w ≤ o′ + w′ → Besides o w n s t → Besides o′ w′ n s t
+besides-wider {o} {w} o′ w′ low high p =
+    record { fields = λ v x k f a. p .fields v x k f (λ h. let b : o′ + w′ ≤ x = a (omega arith) in omega arith); beyond = p .beyond }
+
+pub besides-put : (w : ℕ) (t : List ℕ) (r o v n : ℕ) → r < n → o + w ≤ rowLength → Besides o w n t (putField w t r o v)
+besides-put w t r o v n below fits =
+    record {
+      fields = λ v′ p k f a. field-other w v′ t r o v k p (apart o w v′ p r k fits f a);
+      beyond = beyond-put w t r o v n (omega arith);
+    }
+
+-- the rules stay
+pub besides-rule : {o w n : ℕ} {s t : List ℕ} → Besides o w n s t → ownEnd ≤ o → (k : ℕ) → ruleIn t k ≡ ruleIn s k
+unfolding ruleIn rowIn
+besides-rule {o} {w} {n} {s} {t} p past k =
+    let same : (v x : ℕ) → x + v ≤ ownEnd → field v t k x ≡ field v s k x = λ v x f. p .fields v x k (omega arith) (λ h. absurd (omega arith)) in
+    rw (same 2 atKind (omega arith), same 4 atLabel (omega arith), same 2 atOne (omega arith), same 2 atTwo (omega arith))
+
+-- a column in another place stays
+pub column-kept : {o w n : ℕ} {s t : List ℕ} (p i : ℕ) (f : ℕ → ℕ) → Besides o w n s t → p + countLength ≤ rowLength
+    → (o < p + countLength → o + w ≤ p) → Column s p i f → Column t p i f
+column-kept p i f b fits a h k below = b .fields countLength p k fits a ∙ h k below
+
+pub column-none : (t : List ℕ) (o : ℕ) (f : ℕ → ℕ) → Column t o 0 f
+column-none t o f k below = absurd (omega arith)
+
+-- a row's count, once written, makes the column longer by one
+pub column-more : (s : List ℕ) (o i v : ℕ) (f : ℕ → ℕ) → rowLength * (i + 1) ≤ length s → o + countLength ≤ rowLength → v ≡ capped (f i)
+    → Column s o i f → Column (putField countLength s i o v) o (i + 1) f
+column-more s o i v f room fits q h k below =
+    elim (decLt k i) as (λ (d : Dec (k < i)). field countLength (putField countLength s i o v) k o ≡ capped (f k)) [
+      | yes under ↦ field-other countLength countLength s i o v k o (λ l. absurd (omega arith)) ∙ h k under
+      | no over ↦ let e : k ≡ i = omega arith in rw e (field-same countLength s i o v (omega arith) (small q) ∙ q)
+    ]
+  where
+    small : v ≡ capped (f i) → v < base ^ countLength
+    small q = omega arith

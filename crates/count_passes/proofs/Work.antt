@@ -1,0 +1,56 @@
+-- An accepted plan's rules in the rows: what the passes ask of them. Assumes nothing.
+use Prim.Native.Nat.{ℕ, _*_, _≤_, _<_}
+use native.Mathlib.Omega.{arith}
+use mathlib.Core.Path.{_≡_}
+use mathlib.Core.List.{List}
+use lib.ListN.{length}
+use Rattle.plan.specs.declared.Checked.{Checked}
+use Rattle.plan.specs.Check.{rulesOf, mostRules}
+use Rattle.rule.specs.Sound.{rule}
+use Rattle.plan.proofs.Sound.{Plan, checked-plan}
+use Rattle.forest.specs.Expression.{expression}
+use Rattle.forest.proofs.Unfold.{unfolding-equation, closed-row}
+use Rattle.forest.proofs.Good.{Sort, Good}
+use Rattle.work_rows.specs.Rows.{workLength, ruleIn, Holds, Loaded}
+use Rattle.work_rows.proofs.Work.{enough-room}
+use Rattle.work_load.specs.Prepared.{Loads, Prepared}
+use Rattle.count_passes.specs.Tally.{Ready, Unfolds}
+use Rattle.count_passes.specs.Total.{Startable}
+
+-- an accepted plan's rules in the rows: they can be passed over, their expressions unfold, and the start rule is closed
+pub record Held (s : List ℕ) (n start : ℕ) (t : List ℕ) : Type 0 where
+  pub ready : Ready t n
+  pub unfolds : Unfolds t n (expression (rulesOf s))
+  pub below : start < n
+  pub closed : Good Sort.row (expression (rulesOf s) start)
+  pub accepted : Plan mostRules s n start
+  pub same : (k : ℕ) → k < n → ruleIn t k ≡ rule (rulesOf s) k
+  pub room : workLength * n ≤ length t
+
+pub held : {s u t : List ℕ} {x : Checked} {n start : ℕ} → Prepared s u t x → x ≡ Checked.Accepted n start → Held s n start t
+unfolding Holds
+held {s} {u} {t} {n = n} {start = start} b e =
+    let loads : Loads s u t n start = b .loaded n start e in
+    let l : Loaded (rulesOf s) n u t = loads .rows in
+    let p : Plan mostRules s n start = checked-plan s n start (loads .accepted) in
+    let enough : workLength * n ≤ length u = enough-room n u (loads .enough) in
+    let long : length (rulesOf s) ≡ n = p .rules in
+    let same : (k : ℕ) → k < n → ruleIn t k ≡ rule (rulesOf s) k = l .holds in
+    let small : start < length (rulesOf s) = p .ends .below in
+    record {
+      ready =
+          record {
+            room = let a : length t ≡ length u = l .beyond .same-length in omega arith;
+            lower = λ r below. rw (same r below) (p .sound .falls r (omega arith));
+          };
+      unfolds = record { unfolds = λ r below. rw (same r below) (unfolding-equation (p .sound) r (omega arith)) };
+      below = omega arith;
+      closed = closed-row (p .sound) (p .ends);
+      accepted = p;
+      same = same;
+      room = let a : length t ≡ length u = l .beyond .same-length in omega arith;
+    }
+
+-- what the loaded rows are good for
+pub startable : {s t : List ℕ} {n start : ℕ} → Held s n start t → Startable t n start
+startable h = record { ready = h .ready; below = h .below }

@@ -1,0 +1,5 @@
+pub mod Written
+pub mod Ways
+pub mod Held
+pub mod Filling
+pub mod Known

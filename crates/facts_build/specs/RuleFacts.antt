@@ -1,0 +1,54 @@
+-- All that is known of a rule: its entry, in its row behind the rule, and how it is made from the rows of the rules that its rule names.
+use Prim.Native.Nat.{ℕ}
+use mathlib.Core.Bool.{Bool, true, false, cond, _&&_}
+use mathlib.Core.List.{List}
+use lib.Dec.{eqb}
+use Rattle.rule.specs.declared.Rule.{Rule}
+use Rattle.forest.specs.Place.{Side}
+use Rattle.work_rows.specs.Rows.{field, putField}
+use Rattle.facts_build.specs.declared.RuleFacts.{RuleFacts}
+use Rattle.facts.specs.Facts.{atRepresentative, atEmptiness, linkIn, putLink, factsIn}
+use Rattle.facts.specs.Build.{linkOf}
+
+-- a test as a word
+unfoldable pub flag : Bool → ℕ
+flag true = 1
+flag false = 0
+
+-- all that row r keeps beside the rule, and a list with something else there
+unfoldable pub ruleFactsIn : List ℕ → ℕ → RuleFacts
+ruleFactsIn t r =
+    record {
+      representative = field 2 t r atRepresentative;
+      empty = eqb (field 2 t r atEmptiness) 1;
+      left = linkIn t Side.left r;
+      right = linkIn t Side.right r;
+    }
+
+unfoldable pub putRuleFacts : List ℕ → ℕ → RuleFacts → List ℕ
+putRuleFacts t r e =
+    putLink (putLink (putField 2 (putField 2 t r atRepresentative (e .representative)) r atEmptiness (flag (e .empty))) Side.left r (e .left)) Side.right r
+    (e .right)
+
+-- whether a rule is without trees, and its representative
+unfoldable pub emptyOf : List ℕ → Rule → Bool
+emptyOf t Rule.Empty = true
+emptyOf t (Rule.Pair b c) = (factsIn t) .isEmpty b && (factsIn t) .isEmpty c
+emptyOf t (Rule.Node a c) = false
+emptyOf t (Rule.Fill b c) = false
+emptyOf t (Rule.Part a b c) = false
+emptyOf t (Rule.Join b c) = false
+
+unfoldable pub representativeOf : List ℕ → ℕ → Rule → ℕ
+representativeOf t r Rule.Empty = r
+representativeOf t r (Rule.Pair b c) =
+    cond ((factsIn t) .isEmpty b) ((factsIn t) .representative c) (cond ((factsIn t) .isEmpty c) ((factsIn t) .representative b) r)
+representativeOf t r (Rule.Node a c) = r
+representativeOf t r (Rule.Fill b c) = r
+representativeOf t r (Rule.Part a b c) = r
+representativeOf t r (Rule.Join b c) = r
+
+-- all that is known of rule r with that right-hand side
+unfoldable pub ruleFactsOf : List ℕ → ℕ → Rule → RuleFacts
+ruleFactsOf t r x =
+    record { representative = representativeOf t r x; empty = emptyOf t x; left = linkOf t Side.left r x; right = linkOf t Side.right r x }

@@ -1,0 +1,114 @@
+// What is known of each rule, made from the rows of the rules that it names and written into its row.
+ghost use mathlib.Core.Path.{_≡_};
+ghost use Prim.Native.Nat.{_*_, _≤_};
+ghost use lib.ListN.{length};
+ghost use Rattle.work_rows.specs.Rows.{rowLength};
+ghost use Rattle.rule.specs.Sound.{Sound};
+ghost use Rattle.facts.specs.Facts.{kept, Built, In};
+ghost use Rattle.facts_build.specs.RuleFacts.{flag, putRuleFacts, emptyOf, representativeOf, ruleFactsOf};
+ghost use Rattle.facts.specs.Build.{Ready};
+use facts::Link;
+use rule::Rule;
+use side::Side;
+
+// What is known of a rule.
+struct RuleFacts {
+    representative: u16,
+    empty: bool,
+    left: Link,
+    right: Link,
+}
+
+// A test as a word.
+fn flag(test: bool) -> u16
+    ensures { λ x. ⌜ x ≡ flag test ⌝ }
+{
+    if test { 1 } else { 0 }
+}
+
+impl RuleFacts {
+    // Is a rule without trees?
+    fn empty_of(work: &[u8], r: u16, rule: Rule) -> bool
+        requires { ⌜ Ready r rule (now work) ⌝ }
+        ensures { λ x. ⌜ x ≡ emptyOf (now (work .entry)) rule ⌝ }
+    {
+        match rule {
+            Rule::Empty => true,
+            Rule::Pair { first, second } => facts::is_empty_at(work, first)
+                & facts::is_empty_at(work, second),
+            Rule::Node { label: _, under: _ } => false,
+            Rule::Fill { outer: _, inner: _ } => false,
+            Rule::Part {
+                label: _,
+                left: _,
+                right: _,
+            } => false,
+            Rule::Join { outer: _, inner: _ } => false,
+        }
+    }
+
+    // The representative of rule r.
+    fn representative_of(work: &[u8], r: u16, rule: Rule) -> u16
+        requires { ⌜ Ready r rule (now work) ⌝ }
+        ensures { λ x. ⌜ x ≡ representativeOf (now (work .entry)) r rule ⌝ }
+    {
+        match rule {
+            Rule::Pair { first, second } => {
+                if facts::is_empty_at(work, first) {
+                    return facts::representative_at(work, second);
+                }
+                if facts::is_empty_at(work, second) {
+                    return facts::representative_at(work, first);
+                }
+                r
+            }
+            Rule::Empty => r,
+            Rule::Node { label: _, under: _ } => r,
+            Rule::Fill { outer: _, inner: _ } => r,
+            Rule::Part {
+                label: _,
+                left: _,
+                right: _,
+            } => r,
+            Rule::Join { outer: _, inner: _ } => r,
+        }
+    }
+
+    // All that is known of rule r, from the rows of the rules that it names.
+    fn of(work: &[u8], r: u16, rule: Rule) -> RuleFacts
+        requires { ⌜ Ready r rule (now work) ⌝ }
+        ensures { λ e. ⌜ e ≡ ruleFactsOf (now (work .entry)) r rule ⌝ }
+    {
+        RuleFacts {
+            representative: RuleFacts::representative_of(work, r, rule),
+            empty: RuleFacts::empty_of(work, r, rule),
+            left: Link::of(work, Side::Left, r, rule),
+            right: Link::of(work, Side::Right, r, rule),
+        }
+    }
+
+    // The entry into row r.
+    fn write(self, work: &mut [u8], r: u16)
+        requires { ⌜ In (now work) r ⌝ }
+        ensures { λ x. ⌜ now (work .exit) ≡ putRuleFacts (now (work .entry)) r self ⌝ }
+    {
+        work_rows::put16(work, r, Link::REPRESENTATIVE, self.representative);
+        work_rows::put16(work, r, Link::EMPTINESS, flag(self.empty));
+        self.left.write(work, Side::Left, r);
+        self.right.write(work, Side::Right, r);
+    }
+}
+
+// What is known of each of n rules, into their rows, from rule 0 up: a rule names only lower ones.
+pub fn build(work: &mut [u8], n: u16)
+    requires { ⌜ (rowLength * n ≤ length (now work)) × Sound (kept (now work) n) (λ r. r) ⌝ }
+    ensures { λ x. ⌜ Built (kept (now (work .entry)) n) n n (now (work .entry)) (now (work .exit)) ⌝ }
+{
+    let mut i: u16 = 0;
+    while i < n {
+        let rule = work_rows::rule_at(work, i);
+        let facts = RuleFacts::of(work, i, rule);
+        facts.write(work, i);
+        i += 1;
+    }
+}

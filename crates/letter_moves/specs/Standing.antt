@@ -1,0 +1,49 @@
+-- What holds while letters run: the table is that of a sound plan's rules, and the place is that of a node of the walked rule's
+-- forest, or above it. What a letter does, as the model has it.
+use Prim.Native.Nat.{ℕ, _≤_}
+use mathlib.Core.Path.{_≡_}
+use mathlib.Core.List.{List}
+use mathlib.Core.Option.{Option}
+use lib.ListN.{length}
+use Rattle.rule.specs.declared.Rule.{Rule}
+use Rattle.rule.specs.Sound.{Sound, Closed}
+use Rattle.forest.specs.Expression.{expression}
+use Rattle.forest.specs.Letter.{Letter}
+use Rattle.forest.specs.Walk.{cellLength, cellsIn, answerWord}
+use Rattle.forest.proofs.Position.{Located}
+use Rattle.model.specs.Facts.{factsOf}
+use Rattle.model.specs.Model.{Node}
+use Rattle.model.specs.Walk.{answer, moved}
+use Rattle.model.proofs.Walk.{Same}
+use Rattle.work_rows.specs.Rows.{Within}
+use Rattle.facts.specs.Facts.{rowCount, factsIn, kept, Climbs}
+use Rattle.letter_arrival.specs.declared.Landing.{Landing}
+use Rattle.place_cells.specs.Cells.{cursorLength}
+
+-- a node on cells that is the place of a node of rule r's forest, or above it
+pub record Valid (R : List Rule) (r : ℕ) (n : Node) : Type 0 where
+  pub position : Option Located
+  pub same : Same (expression R r) position n
+
+-- the rules that a table keeps
+abbrev pub rulesKept : List ℕ → List Rule
+rulesKept t = kept t (rowCount t)
+
+-- the table of a sound plan's rules, of which the closed rule r is walked
+pub record WalkedRows (r : ℕ) (t : List ℕ) : Type 0 where
+  pub sound : Sound (rulesKept t) (λ k. k)
+  pub closed : Closed (rulesKept t) r
+  pub facts-are : factsIn t ≡ factsOf (rulesKept t)
+  pub climbs : Climbs t
+
+-- k cells of the cursor and the rule p are a place of rule r's forest
+pub record Stands (r : ℕ) (t s : List ℕ) (k p : ℕ) : Type 0 where
+  pub rows : WalkedRows r t
+  pub room : cursorLength (rowCount t) ≤ length s
+  pub valid : Valid (rulesKept t) r (p, cellsIn s k)
+
+-- a letter from k cells and rule p
+pub record Stepped (r : ℕ) (t : List ℕ) (l : Letter) (k p : ℕ) (s s′ : List ℕ) (x : Landing) : Type 0 where
+  pub node : (x .rule, cellsIn s′ (x .used)) ≡ moved (factsIn t) r l (p, cellsIn s k)
+  pub answered : x .answer ≡ answerWord (answer (factsIn t) r l (p, cellsIn s k))
+  pub within : Within cellLength (cursorLength (rowCount t)) s s′

@@ -1,0 +1,142 @@
+-- Letters taken one by one: what is answered so far and what the letters still to come will give make up what all of them give.
+-- One word more at the front of the answers. Assumes nothing.
+use Prim.Native.Nat.{ℕ, _+_, _*_, _≤_, _<_}
+use native.Mathlib.Omega.{arith}
+use native.Mathlib.Numerals.{add-one}
+use mathlib.Core.Path.{_≡_, refl, sym, ap, ap₂, _∙_}
+use mathlib.Core.List.{List, [], _∷_, _++_, map, append-assoc, append-nil}
+use mathlib.Core.Option.{none, some}
+use lib.ListN.{length, take, drop, getD, length-append, length-drop, drop-of-length-le}
+use lib.Seq.{take-at, drop-at, drop-drop, drop-cons}
+use Rattle.words.specs.Number.{bytes, put}
+use Rattle.words.proofs.Laws.{put-split, length-put, length-bytes}
+use Rattle.words.specs.Front.{inFront}
+use Rattle.forest.specs.Letter.{Letter, letterOf}
+use Rattle.forest.specs.Walk.{cellLength, cellsIn, andLetters, lettersOf, wordsBytes, answerWord}
+use Rattle.model.specs.Model.{Node}
+use Rattle.model.specs.Walk.{answer, answers, after}
+use Rattle.work_rows.specs.Rows.{Within}
+use Rattle.facts.specs.Facts.{rowCount, factsIn}
+use Rattle.work_rows.proofs.Rows.{within-none, within-both}
+use Rattle.letter_arrival.specs.declared.Landing.{Landing}
+use Rattle.place_cells.specs.Cells.{cursorLength}
+use Rattle.letter_moves.specs.Standing.{Stands, Stepped}
+use Rattle.letter_run.specs.Ran.{Ran, Answerable}
+use Rattle.letter_moves.proofs.Stands.{stands-few, stands-after}
+
+pub length-wordsBytes : (vs : List ℕ) → length (wordsBytes vs) ≡ 2 * length vs
+unfolding wordsBytes
+length-wordsBytes [] = refl
+length-wordsBytes (v ∷ vs) = length-append (bytes 2 v) (wordsBytes vs) ∙ omega (arith, length-bytes 2 v, length-wordsBytes vs)
+
+wordsBytes-more : (vs : List ℕ) (v : ℕ) → wordsBytes (vs ++ (v ∷ [])) ≡ wordsBytes vs ++ bytes 2 v
+unfolding wordsBytes bytes
+wordsBytes-more [] v = refl
+wordsBytes-more (x ∷ vs) v = ap (λ (l : List ℕ). bytes 2 x ++ l) (wordsBytes-more vs v)
+
+-- no word at the front, and one word more
+in-front-none : (given : List ℕ) → inFront (wordsBytes []) given ≡ given
+unfolding inFront wordsBytes
+in-front-none given = refl
+
+in-front-more : (vs : List ℕ) (v : ℕ) (given : List ℕ) (at : ℕ) → 2 * length vs ≡ at → at + 2 ≤ length given
+    → put 2 (inFront (wordsBytes vs) given) at v ≡ inFront (wordsBytes (vs ++ (v ∷ []))) given
+unfolding inFront
+in-front-more vs v given at e room =
+    put-split 2 (wordsBytes vs ++ drop (length (wordsBytes vs)) given) at v enough
+    ∙ ap₂ (λ (x y : List ℕ). x ++ (bytes 2 v ++ y)) front back
+    ∙ sym (append-assoc (wordsBytes vs) (bytes 2 v) (drop (at + 2) given))
+    ∙ sym (ap₂ (λ (x : List ℕ) (k : ℕ). x ++ drop k given) (wordsBytes-more vs v) longer)
+  where
+    whole : length (wordsBytes vs) ≡ at
+    whole = length-wordsBytes vs ∙ e
+
+    enough : at + 2 ≤ length (wordsBytes vs ++ drop (length (wordsBytes vs)) given)
+    enough = simp (length-append, length-drop) (omega (arith, whole))
+
+    front : take at (wordsBytes vs ++ drop (length (wordsBytes vs)) given) ≡ wordsBytes vs
+    front = take-at (wordsBytes vs) (drop (length (wordsBytes vs)) given) at whole
+
+    back : drop (at + 2) (wordsBytes vs ++ drop (length (wordsBytes vs)) given) ≡ drop (at + 2) given
+    back =
+        sym (drop-drop 2 at (wordsBytes vs ++ drop (length (wordsBytes vs)) given))
+        ∙ ap (drop 2) (drop-at (wordsBytes vs) (drop (length (wordsBytes vs)) given) at whole ∙ ap (λ (k : ℕ). drop k given) whole)
+        ∙ drop-drop 2 at given
+
+    longer : length (wordsBytes (vs ++ (v ∷ []))) ≡ at + 2
+    longer = length-wordsBytes (vs ++ (v ∷ [])) ∙ omega (arith, length-append vs (v ∷ []))
+
+-- the letters from an offset on
+letters-none : (letters : List ℕ) (i : ℕ) → length letters ≤ i → lettersOf (drop i letters) ≡ []
+unfolding lettersOf
+letters-none letters i h = rw (drop-of-length-le letters h)
+
+letters-other : (letters : List ℕ) (i : ℕ) → i < length letters → letterOf (getD letters i 0) ≡ none → lettersOf (drop i letters) ≡ []
+unfolding lettersOf andLetters
+letters-other letters i h e = rw (drop-cons letters i 0 h) (rw e)
+
+letters-more : (letters : List ℕ) (i : ℕ) (l : Letter) → i < length letters → letterOf (getD letters i 0) ≡ some l → lettersOf (drop i letters) ≡ l ∷ lettersOf (drop (i + 1) letters)
+unfolding lettersOf andLetters
+letters-more letters i l h e = rw (drop-cons letters i 0 h, add-one i) (rw e)
+
+-- letters up to offset i from k₀ cells and rule p₀, at k cells and rule p: done is the words written so far
+pub record Partway (r : ℕ) (t letters : List ℕ) (k₀ p₀ : ℕ) (s₀ given₀ : List ℕ) (i k p : ℕ) (s given : List ℕ) : Type 0 where
+  pub stands : Stands r t s k p
+  pub done : List ℕ
+  pub count : length done ≡ i
+  pub room : length given ≡ length given₀
+  pub written : given ≡ inFront (wordsBytes done) given₀
+  pub left : done ++ map answerWord (answers (factsIn t) r (lettersOf (drop i letters)) (p, cellsIn s k)) ≡ map answerWord (answers (factsIn t) r (lettersOf letters) (p₀, cellsIn s₀ k₀))
+  pub leads : after (factsIn t) r (lettersOf (drop i letters)) (p, cellsIn s k) ≡ after (factsIn t) r (lettersOf letters) (p₀, cellsIn s₀ k₀)
+  pub within : Within cellLength (cursorLength (rowCount t)) s₀ s
+
+module _ {r : ℕ} {t letters s₀ given₀ : List ℕ} {k₀ p₀ : ℕ} where
+  pub partway-none : Stands r t s₀ k₀ p₀ → Partway r t letters k₀ p₀ s₀ given₀ 0 k₀ p₀ s₀ given₀
+  partway-none S =
+      record {
+        stands = S;
+        done = [];
+        count = refl;
+        room = refl;
+        written = sym (in-front-none given₀);
+        left = refl;
+        leads = refl;
+        within = within-none cellLength (cursorLength (rowCount t)) s₀;
+      }
+
+  module _ {i k p : ℕ} {s given : List ℕ} (P : Partway r t letters k₀ p₀ s₀ given₀ i k p s given) where
+    -- no letters left
+    ran-end : lettersOf (drop i letters) ≡ [] → Ran r t letters k₀ p₀ s₀ s given₀ given k
+    unfolding after answers
+    ran-end e =
+        let words : P .done ≡ map answerWord (answers (factsIn t) r (lettersOf letters) (p₀, cellsIn s₀ k₀)) = sym (append-nil (P .done)) ∙ (rw e at (P .left)) in
+        record {
+          cells = ap (λ (n : Node). n .1) (rw e at (P .leads));
+          answered = P .written ∙ ap (λ (ws : List ℕ). inFront (wordsBytes ws) given₀) words;
+          within = P .within;
+          few = stands-few (P .stands);
+        }
+
+    pub ran-all : length letters ≤ i → Ran r t letters k₀ p₀ s₀ s given₀ given k
+    ran-all h = ran-end (letters-none letters i h)
+
+    pub ran-other : i < length letters → letterOf (getD letters i 0) ≡ none → Ran r t letters k₀ p₀ s₀ s given₀ given k
+    ran-other h e = ran-end (letters-other letters i h e)
+
+    -- one letter more
+    pub partway-more : (l : Letter) → i < length letters → letterOf (getD letters i 0) ≡ some l → Answerable letters given₀ → {s′ given′ : List ℕ} {x : Landing}
+        → Stepped r t l k p s s′ x → given′ ≡ put 2 given (2 * i) (x .answer) → Partway r t letters k₀ p₀ s₀ given₀ (i + 1) (x .used) (x .rule) s′ given′
+    unfolding after answers
+    partway-more l h e room {s′} {given′} {x} z w =
+        let more = letters-more letters i l h e in
+        let many = P .count in
+        record {
+          stands = stands-after (P .stands) l z;
+          done = P .done ++ (x .answer ∷ []);
+          count = length-append (P .done) (x .answer ∷ []) ∙ omega arith;
+          room = ap length w ∙ length-put 2 given (2 * i) (x .answer) ∙ P .room;
+          written = w ∙ ap (λ (g : List ℕ). put 2 g (2 * i) (x .answer)) (P .written) ∙ in-front-more (P .done) (x .answer) given₀ (2 * i) (omega arith) (omega arith);
+          left = append-assoc (P .done) (x .answer ∷ []) _ ∙ rw (z .node, z .answered) (rw more at (P .left));
+          leads = rw (z .node) (rw more at (P .leads));
+          within = within-both (P .within) (z .within);
+        }

@@ -1,0 +1,98 @@
+-- The loop's invariant: the words written and the letters still to come make up what all letters give. Assumes nothing.
+use Prim.Native.Nat.{_≤_, _-_}
+use native.Mathlib.Omega.{arith}
+use mathlib.Core.Path.{sym, ap, _∙_}
+use lib.ListN.{length}
+use Rattle.letter.specs.Letter.{readAs}
+use Rattle.letter_moves.proofs.Stands.{answer-small}
+use Rattle.letter_run.proofs.Letters.{Partway, partway-none, partway-more, ran-all, ran-other}
+use borrow.Author.Needs.{needs}
+use Rattle.letter_run.proofs.run.Statement.{statement}
+use Rattle.letter_run.proofs.run.Tie as tie
+
+abbrev Inv-loop : tie.InvT-loop
+Inv-loop rows cursor₀ letters answers₀ r k p used₀ rule₀ i₀ cursor answers used rule i = (i ≤ length letters) × Partway r rows letters k p cursor₀ answers₀ i used rule cursor answers
+
+abbrev μ-loop : tie.MeasureT-loop
+μ-loop rows cursor₀ letters answers₀ r k p used₀ rule₀ i₀ cursor answers used rule i = length letters - i
+
+loop-holds : tie.Need-loop-holds Inv-loop μ-loop
+loop-holds c = (omega arith, partway-none (c .before .before .before .before .pre .0))
+
+shared-slice-read-letter-of : tie.Need-shared-slice-read-letter-of Inv-loop μ-loop
+shared-slice-read-letter-of c = omega arith
+
+letter-of-requires : tie.Need-letter-of-requires Inv-loop μ-loop
+letter-of-requires c κs = search needs
+
+enum-known-letter : tie.Need-enum-known-letter Inv-loop μ-loop
+enum-known-letter c = search needs
+
+enum-told : tie.Need-enum-told Inv-loop μ-loop
+enum-told c = search needs
+
+same-length : tie.Need-same-length Inv-loop μ-loop
+same-length c = c .before .before .before .before .before .loop .inv .1 .within .same-length
+
+same-length-2 : tie.Need-same-length-2 Inv-loop μ-loop
+same-length-2 c = c .before .before .before .before .before .loop .inv .1 .room
+
+returns : tie.Need-returns Inv-loop μ-loop
+unfolding readAs
+returns c = ran-other (c .before .before .before .before .before .loop .inv .1) (c .before .before .before .before .loop-test .taken) (sym (c .before .before .letter-of .ensures) ∙ ap readAs (c .enum-told .given .1))
+
+step-requires : tie.Need-step-requires Inv-loop μ-loop
+step-requires c κs = c .before .before .before .before .before .before .before .loop .inv .1 .stands
+
+mul-write16 : tie.Need-mul-write16 Inv-loop μ-loop
+mul-write16 c = let room = c .before .before .before .before .before .before .before .before .before .before .before .before .before .before .before .before .pre .1 in omega arith
+
+cast-write16 : tie.Need-cast-write16 Inv-loop μ-loop
+cast-write16 c = let small = answer-small (c .before .before .before .before .before .before .before .before .before .before .before .before .loop .inv .1 .stands .rows) (c .before .before .before .before .step .ensures) in omega arith
+
+write16-requires : tie.Need-write16-requires Inv-loop μ-loop
+write16-requires c κs = let room = c .before .before .before .before .before .before .before .before .before .before .before .before .before .before .before .before .before .pre .1 in let long = c .before .before .before .before .before .before .before .before .before .before .before .before .loop .inv .1 .room in omega arith
+
+add-i : tie.Need-add-i Inv-loop μ-loop
+add-i c = omega arith
+
+loop-less : tie.Need-loop-less Inv-loop μ-loop
+loop-less c = omega arith
+
+loop-again : tie.Need-loop-again Inv-loop μ-loop
+unfolding readAs
+loop-again c = (omega arith, partway-more (c .before .before .before .before .before .before .before .before .before .before .before .before .before .before .before .loop .inv .1) _ (c .before .before .before .before .before .before .before .before .before .before .before .before .before .before .loop-test .taken) (sym (c .before .before .before .before .before .before .before .before .before .before .before .before .letter-of .ensures) ∙ ap readAs (c .before .before .before .before .before .before .before .before .before .before .letter .given .1)) (c .before .before .before .before .before .before .before .before .before .before .before .before .before .before .before .before .before .before .before .before .pre .1) (c .before .before .before .before .before .before .before .step .ensures) (c .before .before .write16 .ensures))
+
+same-length-3 : tie.Need-same-length-3 Inv-loop μ-loop
+same-length-3 c = c .before .loop .inv .1 .within .same-length
+
+same-length-4 : tie.Need-same-length-4 Inv-loop μ-loop
+same-length-4 c = c .before .loop .inv .1 .room
+
+returns-2 : tie.Need-returns-2 Inv-loop μ-loop
+returns-2 c = ran-all (c .before .loop .inv .1) (c .loop-test .left)
+
+pub run-spec : {M : Type 1} → statement M
+run-spec =
+    tie.close
+    (tie.spec
+    Inv-loop
+    μ-loop
+    loop-holds
+    shared-slice-read-letter-of
+    letter-of-requires
+    enum-known-letter
+    enum-told
+    same-length
+    same-length-2
+    returns
+    step-requires
+    mul-write16
+    cast-write16
+    write16-requires
+    add-i
+    loop-less
+    loop-again
+    same-length-3
+    same-length-4
+    returns-2)

@@ -1,0 +1,169 @@
+// One letter from a place: the state of a walk, and a function for each letter (document 01, "Letters").
+use letter_arrival::Landing;
+use move_parts::Outcome;
+ghost use Rattle.letter.specs.Letter.{moveOf};
+ghost use Rattle.letter_moves.specs.Standing.{Stands, Stepped};
+ghost use Rattle.letter_step.specs.Landed.{landed};
+use letter::Letter;
+
+// The state of a walk while letters run: the used cells and the standing rule, which change together.
+struct Standing {
+    used: usize,
+    rule: u16,
+}
+
+// a: the root of the first tree, or the place is kept.
+fn first_root(rows: &[u8], cursor: &mut [u8], at: &mut Standing, r: u16) -> u32
+    requires { ⌜ Stands r (now rows) (now cursor) (now at .used) (now at .rule) ⌝ }
+    ensures { λ x. ⌜ Stepped r (now (rows .entry)) (moveOf Letter.A) (now (at .entry) .used) (now (at .entry) .rule) (now (cursor .entry)) (now (cursor .exit)) (landed (now (at .exit)) x) ⌝ }
+{
+    let Outcome::Node(change) = letter_moves::to_first_root(rows, cursor, at.used, at.rule, r)
+    else {
+        return Letter::NOWHERE;
+    };
+    let landing = letter_arrival::arrive(rows, cursor, change);
+    *at = Standing {
+        used: landing.used,
+        rule: landing.rule,
+    };
+    landing.answer
+}
+
+// z: the root of the last tree, or the place is kept.
+fn last_root(rows: &[u8], cursor: &mut [u8], at: &mut Standing, r: u16) -> u32
+    requires { ⌜ Stands r (now rows) (now cursor) (now at .used) (now at .rule) ⌝ }
+    ensures { λ x. ⌜ Stepped r (now (rows .entry)) (moveOf Letter.Z) (now (at .entry) .used) (now (at .entry) .rule) (now (cursor .entry)) (now (cursor .exit)) (landed (now (at .exit)) x) ⌝ }
+{
+    let Outcome::Node(change) = letter_moves::to_last_root(rows, cursor, at.used, at.rule, r) else {
+        return Letter::NOWHERE;
+    };
+    let landing = letter_arrival::arrive(rows, cursor, change);
+    *at = Standing {
+        used: landing.used,
+        rule: landing.rule,
+    };
+    landing.answer
+}
+
+// f: the first child, or the place is kept.
+fn first_child(rows: &[u8], cursor: &mut [u8], at: &mut Standing, r: u16) -> u32
+    requires { ⌜ Stands r (now rows) (now cursor) (now at .used) (now at .rule) ⌝ }
+    ensures { λ x. ⌜ Stepped r (now (rows .entry)) (moveOf Letter.F) (now (at .entry) .used) (now (at .entry) .rule) (now (cursor .entry)) (now (cursor .exit)) (landed (now (at .exit)) x) ⌝ }
+{
+    let Outcome::Node(change) = letter_moves::to_first_child(rows, cursor, at.used, at.rule, r)
+    else {
+        return Letter::NOWHERE;
+    };
+    let landing = letter_arrival::arrive(rows, cursor, change);
+    *at = Standing {
+        used: landing.used,
+        rule: landing.rule,
+    };
+    landing.answer
+}
+
+// l: the last child, or the place is kept.
+fn last_child(rows: &[u8], cursor: &mut [u8], at: &mut Standing, r: u16) -> u32
+    requires { ⌜ Stands r (now rows) (now cursor) (now at .used) (now at .rule) ⌝ }
+    ensures { λ x. ⌜ Stepped r (now (rows .entry)) (moveOf Letter.L) (now (at .entry) .used) (now (at .entry) .rule) (now (cursor .entry)) (now (cursor .exit)) (landed (now (at .exit)) x) ⌝ }
+{
+    let Outcome::Node(change) = letter_moves::to_last_child(rows, cursor, at.used, at.rule, r)
+    else {
+        return Letter::NOWHERE;
+    };
+    let landing = letter_arrival::arrive(rows, cursor, change);
+    *at = Standing {
+        used: landing.used,
+        rule: landing.rule,
+    };
+    landing.answer
+}
+
+// n: the next sibling, or the place is kept.
+fn next_sibling(rows: &[u8], cursor: &mut [u8], at: &mut Standing, r: u16) -> u32
+    requires { ⌜ Stands r (now rows) (now cursor) (now at .used) (now at .rule) ⌝ }
+    ensures { λ x. ⌜ Stepped r (now (rows .entry)) (moveOf Letter.N) (now (at .entry) .used) (now (at .entry) .rule) (now (cursor .entry)) (now (cursor .exit)) (landed (now (at .exit)) x) ⌝ }
+{
+    let Outcome::Node(change) = letter_moves::to_next_sibling(rows, cursor, at.used, at.rule, r)
+    else {
+        return Letter::NOWHERE;
+    };
+    let landing = letter_arrival::arrive(rows, cursor, change);
+    *at = Standing {
+        used: landing.used,
+        rule: landing.rule,
+    };
+    landing.answer
+}
+
+// p: the previous sibling, or the place is kept.
+fn previous_sibling(rows: &[u8], cursor: &mut [u8], at: &mut Standing, r: u16) -> u32
+    requires { ⌜ Stands r (now rows) (now cursor) (now at .used) (now at .rule) ⌝ }
+    ensures { λ x. ⌜ Stepped r (now (rows .entry)) (moveOf Letter.P) (now (at .entry) .used) (now (at .entry) .rule) (now (cursor .entry)) (now (cursor .exit)) (landed (now (at .exit)) x) ⌝ }
+{
+    let Outcome::Node(change) = letter_moves::to_previous_sibling(rows, cursor, at.used, at.rule, r)
+    else {
+        return Letter::NOWHERE;
+    };
+    let landing = letter_arrival::arrive(rows, cursor, change);
+    *at = Standing {
+        used: landing.used,
+        rule: landing.rule,
+    };
+    landing.answer
+}
+
+// u: the parent, or the place is kept.
+fn parent(rows: &[u8], cursor: &mut [u8], at: &mut Standing, r: u16) -> u32
+    requires { ⌜ Stands r (now rows) (now cursor) (now at .used) (now at .rule) ⌝ }
+    ensures { λ x. ⌜ Stepped r (now (rows .entry)) (moveOf Letter.U) (now (at .entry) .used) (now (at .entry) .rule) (now (cursor .entry)) (now (cursor .exit)) (landed (now (at .exit)) x) ⌝ }
+{
+    let Outcome::Node(change) = letter_moves::to_parent(rows, cursor, at.used, at.rule, r) else {
+        return Letter::NOWHERE;
+    };
+    let landing = letter_arrival::arrive(rows, cursor, change);
+    *at = Standing {
+        used: landing.used,
+        rule: landing.rule,
+    };
+    landing.answer
+}
+
+// s: the node itself, or the place is kept.
+fn same(rows: &[u8], cursor: &mut [u8], at: &mut Standing, r: u16) -> u32
+    requires { ⌜ Stands r (now rows) (now cursor) (now at .used) (now at .rule) ⌝ }
+    ensures { λ x. ⌜ Stepped r (now (rows .entry)) (moveOf Letter.S) (now (at .entry) .used) (now (at .entry) .rule) (now (cursor .entry)) (now (cursor .exit)) (landed (now (at .exit)) x) ⌝ }
+{
+    let Outcome::Node(change) = letter_moves::to_same(rows, cursor, at.used, at.rule, r) else {
+        return Letter::NOWHERE;
+    };
+    let landing = letter_arrival::arrive(rows, cursor, change);
+    *at = Standing {
+        used: landing.used,
+        rule: landing.rule,
+    };
+    landing.answer
+}
+
+// A letter from k cells and rule p: decided on the cells as they are, and then written.
+pub fn step(rows: &[u8], cursor: &mut [u8], k: usize, p: u16, r: u16, letter: Letter) -> Landing
+    requires { ⌜ Stands r (now rows) (now cursor) k p ⌝ }
+    ensures { λ x. ⌜ Stepped r (now (rows .entry)) (moveOf letter) k p (now (cursor .entry)) (now (cursor .exit)) x ⌝ }
+{
+    let mut at = Standing { used: k, rule: p };
+    let answer = match letter {
+        Letter::A => first_root(rows, cursor, &mut at, r),
+        Letter::Z => last_root(rows, cursor, &mut at, r),
+        Letter::F => first_child(rows, cursor, &mut at, r),
+        Letter::L => last_child(rows, cursor, &mut at, r),
+        Letter::N => next_sibling(rows, cursor, &mut at, r),
+        Letter::P => previous_sibling(rows, cursor, &mut at, r),
+        Letter::U => parent(rows, cursor, &mut at, r),
+        Letter::S => same(rows, cursor, &mut at, r),
+    };
+    Landing {
+        used: at.used,
+        rule: at.rule,
+        answer,
+    }
+}

@@ -1,0 +1,59 @@
+-- The part beside in the spine, else the part under the spine's opening. Assumes nothing.
+use mathlib.Core.Path.{sym, ap, _∙_}
+use native.Mathlib.Omega.{arith}
+use denote.Ref.{now}
+use Rattle.forest.specs.Place.{Side}
+use Rattle.forest.specs.Walk.{cellsIn}
+use Rattle.model.specs.Model.{besideTop, partAt, tail}
+use Rattle.side.specs.Side.{sideOf}
+use Rattle.facts.specs.Facts.{factsIn}
+use Rattle.move_parts.specs.Moves.{reached}
+use Rattle.move_parts.proofs.Held.{held-less}
+use Rattle.move_parts.proofs.Outcomes.{found, found-none, outward-part, outward-off}
+use borrow.Author.Needs.{needs}
+use Rattle.move_parts.proofs.outward.Statement.{statement}
+use Rattle.move_parts.proofs.outward.Tie as tie
+
+pop-run-requires : tie.Need-pop-run-requires
+pop-run-requires c κs = search needs
+
+beside-top-requires : tie.Need-beside-top-requires
+beside-top-requires c κs = held-less (c .before .before .before .pre) _ (c .pop-run .ensures .0)
+
+enum-known-stem : tie.Need-enum-known-stem
+enum-known-stem c = search needs
+
+returns : tie.Need-returns
+unfolding sideOf reached
+returns c =
+    let a = c .before .before .before .before .before .before .before .args in let F = factsIn (now (a .work)) in let s = now (a .cursor) in let cs = cellsIn s (a .k) in
+    sym (outward-part F cs (ap (besideTop F Side.left) (sym (c .before .before .before .before .pop-run .ensures .1)) ∙ found s (c .before .before .before .beside-top .ensures) (c .before .stem .given .1)))
+
+enum-told : tie.Need-enum-told
+enum-told c = search needs
+
+tail-requires : tie.Need-tail-requires
+tail-requires c κs = search needs
+
+part-at-requires : tie.Need-part-at-requires
+part-at-requires c κs = held-less (c .before .before .before .before .before .before .before .pre) _ (omega (arith, c .tail .ensures .0, c .before .before .before .before .pop-run .ensures .0))
+
+returns-2 : tie.Need-returns-2
+unfolding sideOf
+returns-2 c =
+    let a = c .before .before .before .before .before .before .before .before .args in let F = factsIn (now (a .work)) in let s = now (a .cursor) in let cs = cellsIn s (a .k) in
+    c .part-at .ensures ∙ ap (partAt F) (c .before .tail .ensures .1 s ∙ ap tail (c .before .before .before .before .before .pop-run .ensures .1))
+    ∙ sym (outward-off F cs (ap (besideTop F Side.left) (sym (c .before .before .before .before .before .pop-run .ensures .1)) ∙ found-none s (c .before .before .before .before .beside-top .ensures) (c .before .before .enum-told .given .1)))
+
+pub outward-spec : {M : Type 1} → statement M
+outward-spec =
+    tie.close
+    (tie.spec
+    pop-run-requires
+    beside-top-requires
+    enum-known-stem
+    returns
+    enum-told
+    tail-requires
+    part-at-requires
+    returns-2)

@@ -1,0 +1,325 @@
+// The cells of the stored place, in the lent cursor: what each holds, and how they change.
+ghost use mathlib.Core.Path.{_≡_};
+ghost use Prim.Native.Nat.{ℕ, _+_, _*_, _≤_};
+ghost use mathlib.Core.List.{List};
+ghost use lib.ListN.{length};
+ghost use Rattle.forest.specs.Place.{cellRow, cellSpine, cellRun, rowOfPart, step};
+ghost use Rattle.forest.specs.Walk.{cellLength, cellAt, cellsIn};
+ghost use Rattle.model.specs.Model.{tail, popRun, under, belowRow};
+ghost use Rattle.side.specs.Side.{sideOf};
+ghost use Rattle.place_cells.specs.Cells.{cell, putCell, noCell, Lies};
+ghost use Rattle.place_cells.specs.Changes.{add, stepCells, stemCells, changed, stemNode, changeNode, high, stemHigh, changeHigh, Wrote};
+use side::Side;
+
+// The four 16-bit words of a cell.
+pub struct Cell {
+    pub kind: u16,
+    pub one: u16,
+    pub two: u16,
+    pub three: u16,
+}
+
+// Cells kept, then a turn: a run one step shorter, a step, and a run back; a cell of kind 0 is none. The rule is the one reached.
+pub struct Stem {
+    pub keep: usize,
+    pub short: Cell,
+    pub step: Cell,
+    pub back: Cell,
+    pub rule: u16,
+}
+
+// A stem, then a row with the run across it, and a spine with the run down it.
+pub struct Change {
+    pub stem: Stem,
+    pub row: Cell,
+    pub across: Cell,
+    pub spine: Cell,
+    pub down: Cell,
+    pub rule: u16,
+}
+
+impl Cell {
+    // The kinds: a row's opening, a spine's opening, a run of left steps, a run of right steps.
+    pub const ROW: u16 = 1;
+
+    pub const SPINE: u16 = 2;
+
+    pub const LEFT: u16 = 3;
+
+    pub const RIGHT: u16 = 4;
+
+    // Words of a cell, bytes of a cell.
+    pub const WORDS: usize = 4;
+
+    pub const LENGTH: usize = 8;
+
+    // Cells of the cursor a rule, with as many more.
+    pub const A_RULE: usize = 4;
+
+    // The numbers of rows: under a node or the walked rule, the left and the right row of a part.
+    pub const NODE_ROW: u16 = 0;
+
+    pub const LEFT_ROW: u16 = 1;
+
+    pub const RIGHT_ROW: u16 = 2;
+
+    // The kind of a run to a side.
+    pub fn run_kind(side: Side) -> u16
+        ensures { λ r. ⌜ r ≡ cellRun (sideOf side) ⌝ }
+    {
+        match side {
+            Side::Left => Cell::LEFT,
+            Side::Right => Cell::RIGHT,
+        }
+    }
+
+    // The number of the row of a part's rule on a side.
+    pub fn part_row(side: Side) -> u16
+        ensures { λ r. ⌜ r ≡ rowOfPart (sideOf side) ⌝ }
+    {
+        match side {
+            Side::Left => Cell::LEFT_ROW,
+            Side::Right => Cell::RIGHT_ROW,
+        }
+    }
+
+    // The cell with a number.
+    pub fn read(s: &[u8], i: usize) -> Cell
+        requires { ⌜ cellLength * (i + 1) ≤ length (now s) ⌝ }
+        ensures { λ r. ⌜ r ≡ cell (cellAt (now (s .entry)) i) ⌝ }
+    {
+        let at = Cell::LENGTH * i;
+        Cell {
+            kind: words::read16(s, at),
+            one: words::read16(s, at + 2),
+            two: words::read16(s, at + 4),
+            three: words::read16(s, at + 6),
+        }
+    }
+
+    // The four words into the cell with a number.
+    pub fn write(self, s: &mut [u8], i: usize)
+        requires { ⌜ cellLength * (i + 1) ≤ length (now s) ⌝ }
+        ensures { λ x. ⌜ now (s .exit) ≡ putCell (now (s .entry)) i self ⌝ }
+    {
+        let at = Cell::LENGTH * i;
+        words::write16(s, at, self.kind);
+        words::write16(s, at + 2, self.one);
+        words::write16(s, at + 4, self.two);
+        words::write16(s, at + 6, self.three);
+    }
+
+    // No cell: a kind that no cell has.
+    pub fn none() -> Cell
+        ensures { λ r. ⌜ r ≡ noCell ⌝ }
+    {
+        Cell {
+            kind: 0,
+            one: 0,
+            two: 0,
+            three: 0,
+        }
+    }
+
+    // The opening of a row with a number over a representative.
+    pub fn row(number: u16, over: u16) -> Cell
+        ensures { λ r. ⌜ r ≡ cell (cellRow, number, over, 0) ⌝ }
+    {
+        Cell {
+            kind: Cell::ROW,
+            one: number,
+            two: over,
+            three: 0,
+        }
+    }
+
+    // The opening of the spine of a tree.
+    pub fn spine(tree: u16) -> Cell
+        ensures { λ r. ⌜ r ≡ cell (cellSpine, tree, 0, 0) ⌝ }
+    {
+        Cell {
+            kind: Cell::SPINE,
+            one: tree,
+            two: 0,
+            three: 0,
+        }
+    }
+
+    // A run to a side, from a rule to a rule.
+    pub fn run(side: Side, from: u16, to: u16) -> Cell
+        ensures { λ r. ⌜ r ≡ cell (cellRun (sideOf side), from, to, 0) ⌝ }
+    {
+        Cell {
+            kind: Cell::run_kind(side),
+            one: from,
+            two: to,
+            three: 0,
+        }
+    }
+
+    // The run one step longer: it ends at the next rule.
+    fn grown(mut self, next: u16) -> Cell
+        ensures { λ r. ⌜ r ≡ cell (self .kind, self .one, next, self .three) ⌝ }
+    {
+        self.two = next;
+        self
+    }
+
+    // The run one step shorter: it ends at the rule above its last.
+    pub fn shrunk(mut self, above: u16) -> Cell
+        ensures { λ r. ⌜ r ≡ cell (self .kind, self .one, above, self .three) ⌝ }
+    {
+        self.two = above;
+        self
+    }
+
+    // The run of one step turned to the other side: it begins where it began, and ends at the rule there.
+    pub fn turned(mut self, side: Side, next: u16) -> Cell
+        ensures { λ r. ⌜ r ≡ cell (cellRun (sideOf side), self .one, next, 0) ⌝ }
+    {
+        self.kind = Cell::run_kind(side);
+        self.two = next;
+        self.three = 0;
+        self
+    }
+}
+
+impl Stem {
+    // Cells kept, with nothing on them.
+    pub fn kept(keep: usize, rule: u16) -> Stem
+        ensures { λ r. ⌜ (r .rule ≡ rule) × ((s : List ℕ) → stemCells r s ≡ cellsIn s keep) ⌝ }
+    {
+        Stem {
+            keep,
+            short: Cell::none(),
+            step: Cell::none(),
+            back: Cell::none(),
+            rule,
+        }
+    }
+
+    // Cells kept, with a run on them.
+    fn on(keep: usize, run: Cell) -> Stem
+        ensures { λ r. ⌜ ((s : List ℕ) → stepCells r s ≡ add run (cellsIn s keep)) ⌝ }
+    {
+        Stem {
+            keep,
+            short: Cell::none(),
+            step: run,
+            back: Cell::none(),
+            rule: run.two,
+        }
+    }
+
+    // A stem with nothing more on it.
+    pub fn alone(self) -> Change
+        ensures { λ r. ⌜ ((s : List ℕ) → changeNode r s ≡ stemNode self s) ⌝ }
+    {
+        let rule = self.rule;
+        Change {
+            stem: self,
+            row: Cell::none(),
+            across: Cell::none(),
+            spine: Cell::none(),
+            down: Cell::none(),
+            rule,
+        }
+    }
+}
+
+// The number of cells without the last.
+pub fn tail(k: usize) -> usize
+    ensures { λ r. ⌜ (r ≤ k) × ((s : List ℕ) → cellsIn s r ≡ tail (cellsIn s k)) ⌝ }
+{
+    if k == 0 {
+        return k;
+    }
+    k - 1
+}
+
+// The number of cells without a run to a side on top.
+pub fn pop_run(cursor: &[u8], k: usize, side: Side) -> usize
+    requires { ⌜ Lies (now cursor) k ⌝ }
+    ensures { λ r. ⌜ (r ≤ k) × (cellsIn (now (cursor .entry)) r ≡ popRun (sideOf side) (cellsIn (now (cursor .entry)) k)) ⌝ }
+{
+    if k == 0 {
+        return k;
+    }
+    if Cell::read(cursor, k).kind == Cell::run_kind(side) {
+        return k - 1;
+    }
+    k
+}
+
+// The number of cells of the tree whose first part, or node, k cells lead to.
+pub fn under(cursor: &[u8], k: usize) -> usize
+    requires { ⌜ Lies (now cursor) k ⌝ }
+    ensures { λ r. ⌜ (r ≤ k) × (cellsIn (now (cursor .entry)) r ≡ under (cellsIn (now (cursor .entry)) k)) ⌝ }
+{
+    tail(pop_run(cursor, k, Side::Left))
+}
+
+// The number of cells below the opening of the row on top.
+pub fn below_row(cursor: &[u8], k: usize) -> usize
+    requires { ⌜ Lies (now cursor) k ⌝ }
+    ensures { λ r. ⌜ (r ≤ k) × (cellsIn (now (cursor .entry)) r ≡ belowRow (cellsIn (now (cursor .entry)) k)) ⌝ }
+{
+    let mut i = k;
+    while 0 < i {
+        if Cell::read(cursor, i).kind == Cell::ROW {
+            return i - 1;
+        }
+        i -= 1;
+    }
+    0
+}
+
+// A run of one step on the cells: a run to that side on top grows, else the run begins.
+pub fn joined(cursor: &[u8], k: usize, side: Side, run: Cell) -> Stem
+    requires { ⌜ Lies (now cursor) k × (run ≡ cell (cellRun (sideOf side), run .one, run .two, 0)) ⌝ }
+    ensures { λ r. ⌜ stepCells r (now (cursor .entry)) ≡ step (sideOf side) (run .one) (run .two) (cellsIn (now (cursor .entry)) k) ⌝ }
+{
+    if k == 0 {
+        return Stem::on(k, run);
+    }
+    let top = Cell::read(cursor, k);
+    if top.kind == Cell::run_kind(side) {
+        return Stem::on(k - 1, top.grown(run.two));
+    }
+    Stem::on(k, run)
+}
+
+// A cell on top of k cells, if it is one; gives their number.
+fn push(cursor: &mut [u8], k: usize, cell: Cell) -> usize
+    requires { ⌜ Lies (now cursor) (high cell k) ⌝ }
+    ensures { λ r. ⌜ (r ≡ high cell k) × Wrote (add cell (cellsIn (now (cursor .entry)) k)) (now (cursor .entry)) (now (cursor .exit)) ⌝ }
+{
+    if cell.kind == 0 {
+        return k;
+    }
+    let top = k + 1;
+    cell.write(cursor, top);
+    top
+}
+
+// The cells of a stem; gives their number.
+fn put_stem(cursor: &mut [u8], stem: Stem) -> usize
+    requires { ⌜ Lies (now cursor) (stemHigh stem) ⌝ }
+    ensures { λ r. ⌜ (r ≡ stemHigh stem) × Wrote (stemCells stem (now (cursor .entry))) (now (cursor .entry)) (now (cursor .exit)) ⌝ }
+{
+    let k = push(cursor, stem.keep, stem.short);
+    let k = push(cursor, k, stem.step);
+    push(cursor, k, stem.back)
+}
+
+// The cells of a change; gives their number.
+pub fn write(cursor: &mut [u8], change: Change) -> usize
+    requires { ⌜ Lies (now cursor) (changeHigh change) ⌝ }
+    ensures { λ r. ⌜ (r ≡ changeHigh change) × Wrote (changed change (now (cursor .entry))) (now (cursor .entry)) (now (cursor .exit)) ⌝ }
+{
+    let k = put_stem(cursor, change.stem);
+    let k = push(cursor, k, change.row);
+    let k = push(cursor, k, change.across);
+    let k = push(cursor, k, change.spine);
+    push(cursor, k, change.down)
+}

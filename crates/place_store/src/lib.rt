@@ -1,0 +1,46 @@
+// The stored place: its number of used cells in cell 0, and zeros past them.
+ghost use mathlib.Core.Path.{_≡_};
+ghost use Prim.Native.Nat.{_+_, _*_, _≤_};
+ghost use lib.ListN.{length};
+ghost use Rattle.forest.specs.Walk.{cellLength, cellsIn, headed, storedCursor};
+ghost use Rattle.place_cells.specs.Cells.{cursorLength};
+ghost use Rattle.place_store.specs.Past.{clearedPast};
+use place_cells::Cell;
+
+// Zeros past k cells, in what n rules need of the cursor.
+fn clear_past(cursor: &mut [u8], k: usize, n: u16)
+    requires { ⌜ (cellLength * (k + 1) ≤ cursorLength n) × (cursorLength n ≤ length (now cursor)) ⌝ }
+    ensures { λ x. ⌜ now (cursor .exit) ≡ clearedPast k n (now (cursor .entry)) ⌝ }
+{
+    let from = Cell::LENGTH * (k + 1);
+    let to = Cell::LENGTH * Cell::A_RULE * (n as usize + 1);
+    work_rows::clear(&mut cursor[from..], to - from);
+}
+
+// The place of cells 1 to k: their number into cell 0, with no later word, and zeros past them.
+pub fn store(cursor: &mut [u8], k: usize, n: u16)
+    requires { ⌜ (cellLength * (k + 1) ≤ cursorLength n) × (cursorLength n ≤ length (now cursor)) ⌝ }
+    ensures { λ x. ⌜ now (cursor .exit) ≡ storedCursor n (cellsIn (now (cursor .entry)) k) (now (cursor .entry)) ⌝ }
+{
+    let head = Cell {
+        kind: (k % 65536) as u16,
+        one: 0,
+        two: 0,
+        three: 0,
+    };
+    head.write(cursor, 0);
+    clear_past(cursor, k, n);
+}
+
+// Cell 0 is in order: it has no later word, and its cells lie in what n rules need of the cursor.
+pub fn headed(cursor: &[u8], n: u16) -> bool
+    requires { ⌜ cellLength ≤ length (now cursor) ⌝ }
+    ensures { λ b. ⌜ b ≡ headed n (now (cursor .entry)) ⌝ }
+{
+    let head = Cell::read(cursor, 0);
+    let used = head.kind as usize;
+    (head.one == 0)
+        & ((head.two == 0)
+            & ((head.three == 0)
+                & (Cell::WORDS * (used + 1) <= Cell::WORDS * Cell::A_RULE * (n as usize + 1))))
+}

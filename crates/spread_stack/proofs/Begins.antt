@@ -1,0 +1,70 @@
+-- The stack begins with the task of one whole rule, whose text is the rule's and which is no higher than there are rules.
+-- Assumes nothing.
+use Prim.Native.Nat.{ℕ, _*_, _≤_}
+use native.Mathlib.Omega.{arith}
+use mathlib.Core.Path.{_≡_, sym, ap, _∙_}
+use mathlib.Core.List.{List, [], append-nil}
+use lib.ListN.{length}
+use Rattle.forest.specs.Expression.{Expression, expression}
+use Rattle.forest.proofs.Unfold.{height, height-expression}
+use Rattle.work_rows.specs.Rows.{Within}
+use Rattle.work_rows.proofs.Rows.{within-both, within-wider}
+use Rattle.count_passes.specs.Says.{whole, says}
+use Rattle.spread_step.specs.Task.{taskText, taskIn}
+use Rattle.spread_step.specs.Step.{tasksAt}
+use Rattle.spread_stack.specs.Stack.{tasksText, addTask, tasksIn, Pushed}
+use Rattle.spread_stack.specs.Run.{rowsIn, meant, stackAt, workEnd, stackText, Fit, none, RowsTasked, Runnable, Ran, Spreadable}
+use Rattle.spread_step.proofs.Tasks.{Stands}
+use Rattle.spread_stack.proofs.Fits.{add-text, add-stacked, fit-whole}
+use Rattle.spread_stack.proofs.Rows.{view, rows-length, rows-same, rule-kept, task-kept}
+
+-- the rows keep what they hold
+meant-kept : (s t : List ℕ) (n : ℕ) → Within (stackAt n) (workEnd n) s t → meant t n ≡ meant s n
+meant-kept s t n w = ap expression (rows-same s t n (rule-kept n (workEnd n) w))
+
+rows-tasked-kept : (s t : List ℕ) (n : ℕ) → Within (stackAt n) (workEnd n) s t → RowsTasked s n → RowsTasked t n
+rows-tasked-kept s t n w a =
+    let long : length t ≡ length s = w .same-length in
+    record {
+      sound = rw (rows-same s t n (rule-kept n (workEnd n) w)) (a .sound);
+      few = a .few;
+      least = a .least;
+      room = omega (arith, a .room);
+      tasks = λ k below. task-kept n (workEnd n) w k below ∙ a .tasks k below ∙ ap (λ (E : ℕ → Expression). taskIn (E k)) (sym (meant-kept s t n w));
+    }
+
+module _ {n r v k : ℕ} {s t out : List ℕ} (a : Spreadable s out n r) (q : v ≡ tasksAt s r) (p : Pushed (stackAt n) 0 v k s t) where
+  changed : Within (stackAt n) (workEnd n) s t
+  changed = within-wider (stackAt n) (workEnd n) (omega arith) (omega (arith, a .rows-tasked .least)) (p .within)
+
+  same : meant t n ≡ meant s n
+  same = meant-kept s t n changed
+
+  stood : Stands (meant s n) n v (meant s n r)
+  stood = rw q (view s n (a .rows-tasked) .stood r (a .below))
+
+  only : tasksIn t (stackAt n) k ≡ addTask v []
+  unfolding tasksIn
+  only = p .tasks
+
+  fits-first : Fit (meant s n) n (2 * n) 0 v
+  fits-first =
+      let h : height (meant s n r) ≤ length (rowsIn s n) = height-expression (rowsIn s n) r in
+      fit-whole (meant s n) n (2 * n) 0 v (meant s n r) stood (omega (arith, rows-length s n))
+
+  begun : stackText t n k ≡ says (meant s n r) whole
+  unfolding tasksText
+  begun =
+      rw (same, only)
+      (add-text (meant s n) v [] ∙ append-nil (taskText (meant s n) v) ∙ stood .text)
+
+  pub runnable : Runnable t out n k
+  runnable =
+      record {
+        rows-tasked = rows-tasked-kept s t n changed (a .rows-tasked);
+        stacked = rw (same, only) (add-stacked (meant s n) n (2 * n) v [] fits-first none);
+        fits = rw begun (a .fits);
+      }
+
+  pub spread-all : {x : ℕ} {u out′ : List ℕ} → Ran n (stackText t n k) x t u out out′ → Ran n (says (meant s n r) whole) x s u out out′
+  spread-all g = let h = rw begun at g in record { long = h .long; writes = h .writes; within = within-both changed (h .within) }

@@ -1,0 +1,99 @@
+-- The stack in bytes is the list of tasks, the top first: a word written over k tasks leaves those below it, and bytes written to the
+-- output after others leave what stands before and after them. Assumes nothing.
+use Prim.Native.Nat.{ℕ, zero, suc, _+_, _*_, _/_, _^_, _≤_, _<_}
+use native.Mathlib.Nat.{add-zero}
+use native.Mathlib.Numerals.{add-one}
+use native.Mathlib.Omega.{arith}
+use mathlib.Core.Path.{_≡_, refl, sym, ap, ap₂, _∙_}
+use mathlib.Core.List.{List, [], _∷_, append-assoc}
+use lib.ListN.{length, take, drop, set, take-append-drop}
+use lib.Seq.{sets-eq}
+use borrow.Author.Tests.{eq-eqb, ne-eqb}
+use Rattle.words.specs.Number.{base, put}
+use Rattle.words.proofs.Laws.{length-put, put-same, put-other, put-take, put-drop}
+use Rattle.record.specs.Record.{wordLength}
+use Rattle.work_rows.specs.Rows.{Within, ruleIn}
+use Rattle.work_rows.proofs.Rows.{within-none, within-both, within-wider}
+use Rattle.spread_step.specs.declared.Step.{Step}
+use Rattle.spread_step.specs.Task.{parts, noTask}
+use Rattle.spread_step.specs.Step.{saidBytes, stepIn, Steppable}
+use Rattle.spread_stack.specs.Stack.{addTask, addTasks, tasksIn, Pushed, AllPushed, written, taskOver, Turnable, TurnMade}
+
+-- tasks below a word that is written
+tasks-put : (s : List ℕ) (from v k j : ℕ) → j ≤ k → tasksIn (put wordLength s (from + wordLength * k) v) from j ≡ tasksIn s from j
+unfolding tasksIn
+tasks-put s from v k zero h = refl
+tasks-put s from v k (suc j) h =
+    ap₂ _∷_ (put-other wordLength wordLength s (from + wordLength * k) v (from + wordLength * j) (λ l. absurd (omega arith))) (tasks-put s from v k j (omega arith))
+
+within-word : (s : List ℕ) (at v : ℕ) → Within at (at + wordLength) s (put wordLength s at v)
+within-word s at v =
+    record {
+      same-length = length-put wordLength s at v;
+      same-before = put-take wordLength s at v at (omega arith);
+      same-after = put-drop wordLength s at v (at + wordLength) (omega arith);
+    }
+
+pub pushed-none : (s : List ℕ) (from k v : ℕ) → v ≡ noTask → Pushed from k v k s s
+unfolding addTask
+pushed-none s from k v q =
+    record { tasks = rw (eq-eqb v noTask q); grown = omega arith; within = within-none (from + wordLength * k) (from + wordLength * k + wordLength) s }
+
+pub pushed-some : (s : List ℕ) {t : List ℕ} (from k v : ℕ) → from + wordLength * k + wordLength ≤ length s → v < base ^ 2 → (v ≡ noTask → ⊥)
+    → t ≡ put wordLength s (from + wordLength * k) v → Pushed from k v (k + 1) s t
+unfolding addTask tasksIn
+pushed-some s from k v fits small some q =
+    rw q
+    (record {
+      tasks =
+          rw (ne-eqb v noTask some, add-one k)
+          (ap₂ _∷_ (put-same wordLength s (from + wordLength * k) v fits small) (tasks-put s from v k k (omega arith)));
+      grown = omega arith;
+      within = within-word s (from + wordLength * k) v;
+    })
+
+-- three of them
+pub pushed-all : {from k a b j : ℕ} {s t u w : List ℕ} (x : Step) → Pushed from k (x .low) a s t → Pushed from a (x .mid) b t u
+    → Pushed from b (x .high) j u w → AllPushed from k x j s w
+unfolding addTasks
+pushed-all {from} {k} {a} {b} x p q r =
+    let l : a ≤ k + 1 = p .grown in
+    let m : b ≤ a + 1 = q .grown in
+    record {
+      tasks = r .tasks ∙ ap (addTask (x .high)) (q .tasks ∙ ap (addTask (x .mid)) (p .tasks));
+      within =
+          within-both (within-wider from (from + wordLength * (k + 3)) (omega arith) (omega arith) (p .within))
+          (within-both (within-wider from (from + wordLength * (k + 3)) (omega arith) (omega arith) (q .within))
+          (within-wider from (from + wordLength * (k + 3)) (omega arith) (omega arith) (r .within)));
+    }
+
+-- bytes written to the output
+pub says-nothing : (out : List ℕ) (at : ℕ) → out ≡ written out at []
+says-nothing out at = rw (add-zero at) (sym (take-append-drop at out))
+
+pub says-two : (out : List ℕ) (at x y : ℕ) → at + 2 ≤ length out → set (set out at x) (at + 1) y ≡ written out at (x ∷ y ∷ [])
+says-two out at x y fits = rw (add-one at) (sets-eq (x ∷ y ∷ []) out at fits ∙ append-assoc (take at out) (x ∷ y ∷ []) (drop (at + 2) out))
+
+pub says-one : (out : List ℕ) (at x : ℕ) → at + 1 ≤ length out → set out at x ≡ written out at (x ∷ [])
+says-one out at x fits = sets-eq (x ∷ []) out at fits ∙ append-assoc (take at out) (x ∷ []) (drop (at + 1) out)
+
+-- a turn's parts put together
+pub turn-made : {from k at v next j : ℕ} {s t out out′ : List ℕ} {x : Step} → v ≡ taskOver s from k → x ≡ stepIn s v
+    → (next ≡ at + length (saidBytes (x .said))) × (out′ ≡ written out at (saidBytes (x .said))) → AllPushed from k x j s t
+    → TurnMade from k at (record { tasks = j; at = next }) s t out out′
+turn-made {from} {k} {at} {s = s} {out = out} {x = x} q r w p =
+    let e : x ≡ stepIn s (taskOver s from k) = r ∙ ap (stepIn s) q in
+    record {
+      tasks = p .tasks ∙ ap (λ (y : Step). addTasks y (tasksIn s from k)) e;
+      within = p .within;
+      writes = w .1 ∙ ap (λ (y : Step). written out at (saidBytes (y .said))) e;
+      moves = w .0 ∙ ap (λ (y : Step). at + length (saidBytes (y .said))) e;
+    }
+
+-- what a turn may do, seen at the task that was read and the step that was decided
+pub turn-steps : {from k at v : ℕ} {s out : List ℕ} → Turnable s out from k at → v ≡ taskOver s from k → Steppable s (v / parts) (ruleIn s (v / parts))
+turn-steps a q = rw q (a .steps)
+
+pub turn-fits : {from k at v : ℕ} {s out : List ℕ} {x : Step} → Turnable s out from k at → v ≡ taskOver s from k → x ≡ stepIn s v
+    → at + length (saidBytes (x .said)) ≤ length out
+turn-fits a q r = rw (r, q) (a .fits)

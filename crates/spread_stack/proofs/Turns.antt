@@ -1,0 +1,100 @@
+-- One turn of spread's loop on the model: the task on top is replaced by what it comes to, and the text that is written or still to come
+-- stays the same. Assumes nothing.
+use Prim.Native.Nat.{ℕ, suc, _+_, _*_, _/_, _%_, _≤_, _<_}
+use native.Mathlib.Omega.{arith}
+use mathlib.Core.Path.{_≡_, sym, ap, _∙_}
+use mathlib.Core.Bool.{true, false}
+use mathlib.Core.List.{List, [], _∷_, _++_, append-assoc}
+use lib.Dec.{eqb}
+use lib.ListN.{length}
+use borrow.Author.Tests.{ne-eqb}
+use Rattle.rule.specs.declared.Rule.{Rule}
+use Rattle.forest.specs.Expression.{Expression, rhs}
+use Rattle.forest.proofs.Unfold.{Names, height}
+use Rattle.count_passes.specs.Says.{closing, says}
+use Rattle.spread_step.specs.declared.Said.{Said}
+use Rattle.spread_step.specs.declared.Step.{Step}
+use Rattle.spread_step.specs.Task.{parts, close, noTask, taskBy, taskText, turnsIn, taskTurns, taskHeight}
+use Rattle.spread_step.specs.Step.{saidBytes, leaving, ruleStep, stepOf}
+use Rattle.spread_stack.specs.Stack.{tasksText, tasksTurns, addTasks}
+use Rattle.spread_stack.specs.Run.{Fit, Stacked, on}
+use Rattle.spread_step.proofs.Tasks.{taskLimit, by-test, Stands}
+use Rattle.spread_step.proofs.Steps.{stepText, stepTurns, rule-text, rule-turns}
+use Rattle.spread_stack.proofs.Fits.{adds-text, adds-turns, adds-stacked, rule-fits, Fits, fit-none}
+
+-- a word that is a task: a closing byte, or a part of a rule
+module _ {A : Type 0} (none closes : A) (part : ℕ → ℕ → A) (v : ℕ) (some : v ≡ noTask → ⊥) where
+  is-close : eqb (v % parts) close ≡ true → taskBy none closes part v ≡ closes
+  unfolding taskBy
+  is-close u = rw (ne-eqb v noTask some, u)
+
+  is-part : eqb (v % parts) close ≡ false → taskBy none closes part v ≡ part (v / parts) (v % parts)
+  unfolding taskBy
+  is-part u = rw (ne-eqb v noTask some, u)
+
+module _ (E : ℕ → Expression) (v : ℕ) (some : v ≡ noTask → ⊥) (u : eqb (v % parts) close ≡ false) where
+  part-text : taskText E v ≡ says (E (v / parts)) (v % parts)
+  unfolding taskText
+  part-text = is-part [] (closing ∷ []) (λ r p. says (E r) p) v some u
+
+  part-turns : taskTurns E v ≡ turnsIn (E (v / parts))
+  unfolding taskTurns
+  part-turns = is-part 0 1 (λ r p. turnsIn (E r)) v some u
+
+  part-height : taskHeight E v ≡ height (E (v / parts))
+  unfolding taskHeight
+  part-height = is-part 0 0 (λ r p. height (E r)) v some u
+
+-- what a turn leaves
+pub record Turned (E : ℕ → Expression) (n H v : ℕ) (vs : List ℕ) (x : Step) : Type 0 where
+  pub text : tasksText E (v ∷ vs) ≡ saidBytes (x .said) ++ tasksText E (addTasks x vs)
+  pub turns : tasksTurns E (addTasks x vs) < tasksTurns E (v ∷ vs)
+  pub stacked : Stacked E n H (addTasks x vs)
+
+-- from the step's own text, turns and places
+turned : (E : ℕ → Expression) (n H v : ℕ) (vs : List ℕ) (x : Step) → taskText E v ≡ saidBytes (x .said) ++ stepText E x → stepTurns E x < taskTurns E v
+    → Fits E n H (length vs) x → Stacked E n H vs → Turned E n H v vs x
+unfolding tasksText tasksTurns
+turned E n H v vs x q l f s =
+    record {
+      text =
+          ap (λ (t : List ℕ). t ++ tasksText E vs) q
+          ∙ append-assoc (saidBytes (x .said)) (stepText E x) (tasksText E vs)
+          ∙ ap (λ (t : List ℕ). saidBytes (x .said) ++ t) (sym (adds-text E x vs));
+      turns = omega (arith, adds-turns E x vs);
+      stacked = adds-stacked E n H x vs (f .at-low) (f .at-mid) (f .at-high) s;
+    }
+
+module _ (E : ℕ → Expression) (n H : ℕ) (f : ℕ → ℕ) (X : ℕ → Rule) (S : (k : ℕ) → k < n → Stands E n (f k) (E k)) (few : n ≤ taskLimit)
+    (unfolds : (k : ℕ) → k < n → E k ≡ rhs k (X k) E) (names : (k : ℕ) → k < n → (j : ℕ) → Names (X k) j → j < n) where
+  turned-close : (v : ℕ) (vs : List ℕ) → (v ≡ noTask → ⊥) → eqb (v % parts) close ≡ true → Stacked E n H vs
+      → Turned E n H v vs (leaving Said.Closing noTask noTask noTask)
+  unfolding saidBytes stepText stepTurns taskText taskTurns
+  turned-close v vs some u s =
+      turned E n H v vs (leaving Said.Closing noTask noTask noTask)
+      (is-close [] (closing ∷ []) (λ r p. says (E r) p) v some u)
+      (let t : taskTurns E v ≡ 1 = is-close 0 1 (λ r p. turnsIn (E r)) v some u in omega arith)
+      (record { at-low = fit-none E n H (length vs); at-mid = fit-none E n H (suc (length vs)); at-high = fit-none E n H (suc (suc (length vs))) })
+      s
+
+  turned-part : (v : ℕ) (vs : List ℕ) → (v ≡ noTask → ⊥) → eqb (v % parts) close ≡ false → Fit E n H (length vs) v → Stacked E n H vs
+      → Turned E n H v vs (ruleStep f (v / parts) (v % parts) (X (v / parts)))
+  turned-part v vs some u a s =
+      let r : ℕ = v / parts in
+      let p : ℕ = v % parts in
+      let below : r < n = a .reads some in
+      let low : length vs + 2 * taskHeight E v ≤ H = a .low some in
+      let e : E r ≡ rhs r (X r) E = unfolds r below in
+      let high : taskHeight E v ≡ height (rhs r (X r) E) = part-height E v some u ∙ ap height e in
+      let long : taskTurns E v ≡ turnsIn (rhs r (X r) E) = part-turns E v some u ∙ ap turnsIn e in
+      turned E n H v vs (ruleStep f r p (X r))
+      (part-text E v some u
+      ∙ ap (λ (d : Expression). says d p) e
+      ∙ rule-text E n f S few r p below (X r) (names r below))
+      (omega (arith, rule-turns E n f S few r p below (X r) (names r below)))
+      (rule-fits E n f S few r p below H (length vs) (X r) (names r below) (omega arith))
+      s
+
+  pub turn : (v : ℕ) (vs : List ℕ) → Stacked E n H (v ∷ vs) → Turned E n H v vs (stepOf f X v)
+  unfolding stepOf
+  turn v vs (on some a s) = by-test (eqb (v % parts) close) (λ u. rw u (turned-close v vs some u s)) (λ u. rw u (turned-part v vs some u a s))

@@ -1,0 +1,59 @@
+-- The invariant: what is written and the text of the tasks make the whole text (`Running`). The measure: the tasks to come. Assumes nothing.
+use Rattle.spread_stack.specs.Stack.{tasksTurns, tasksIn}
+use Rattle.spread_stack.specs.Run.{meant, stackAt}
+use Rattle.spread_stack.proofs.Runs.{Running, running-start, turnable, running-more, running-less, running-end}
+use native.Mathlib.Omega.{arith}
+use Rattle.spread_stack.proofs.run.Statement.{statement}
+use Rattle.spread_stack.proofs.run.Tie as tie
+
+abbrev Inv-loop : tie.InvT-loop
+Inv-loop work₀ out₀ n first from k₀ at₀ work out k at = Running n first work₀ out₀ work out k at
+
+abbrev μ-loop : tie.MeasureT-loop
+μ-loop work₀ out₀ n first from k₀ at₀ work out k at = tasksTurns (meant work₀ n) (tasksIn work (stackAt n) k)
+
+mul-from : tie.Need-mul-from Inv-loop μ-loop
+mul-from c = omega arith
+
+loop-holds : tie.Need-loop-holds Inv-loop μ-loop
+loop-holds c = running-start _ _ _ _ (c .before .before .pre)
+
+sub-turn : tie.Need-sub-turn Inv-loop μ-loop
+sub-turn c = omega arith
+
+turn-requires : tie.Need-turn-requires Inv-loop μ-loop
+turn-requires c κs =
+    turnable (c .before .before .before .before .before .before .pre) (c .before .before .before .loop .inv) (c .before .before .loop-test .taken)
+
+loop-less : tie.Need-loop-less Inv-loop μ-loop
+loop-less c =
+    running-less (c .before .before .before .before .before .before .before .before .before .before .before .pre) (c .before .before .before .before .before .before .before .before .loop .inv) (c .before .before .before .before .before .before .before .loop-test .taken) (c .before .before .before .before .turn .ensures)
+
+loop-again : tie.Need-loop-again Inv-loop μ-loop
+loop-again c =
+    running-more (c .before .before .before .before .before .before .before .before .before .before .before .pre) (c .before .before .before .before .before .before .before .before .loop .inv) (c .before .before .before .before .before .before .before .loop-test .taken) (c .before .before .before .before .turn .ensures)
+
+same-length : tie.Need-same-length Inv-loop μ-loop
+same-length c = c .before .loop .inv .within .same-length
+
+same-length-2 : tie.Need-same-length-2 Inv-loop μ-loop
+same-length-2 c = c .before .loop .inv .long
+
+returns : tie.Need-returns Inv-loop μ-loop
+returns c = running-end (c .before .loop .inv) (c .loop-test .left)
+
+pub run-spec : {M : Type 1} → statement M
+run-spec =
+    tie.close
+    (tie.spec
+    Inv-loop
+    μ-loop
+    mul-from
+    loop-holds
+    sub-turn
+    turn-requires
+    loop-less
+    loop-again
+    same-length
+    same-length-2
+    returns)

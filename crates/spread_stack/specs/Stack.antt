@@ -1,0 +1,71 @@
+-- The stack of tasks: a list, the top first, and in the lent work words from an offset on, the top last, so that two stacks can lie in
+-- one work.
+use Prim.Native.Nat.{ℕ, zero, suc, _+_, _*_, _/_, _≤_}
+use mathlib.Core.Path.{_≡_}
+use mathlib.Core.Bool.{cond}
+use mathlib.Core.List.{List, [], _∷_, _++_}
+use lib.ListN.{length, take, drop}
+use lib.Dec.{eqb}
+use Rattle.words.specs.Number.{number}
+use Rattle.record.specs.Record.{wordLength}
+use Rattle.forest.specs.Expression.{Expression}
+use Rattle.work_rows.specs.Rows.{ruleIn, Within}
+use Rattle.spread_step.specs.declared.Step.{Step}
+use Rattle.spread_stack.specs.declared.State.{State}
+use Rattle.spread_step.specs.Task.{parts, noTask, taskText, taskTurns}
+use Rattle.spread_step.specs.Step.{saidBytes, Steppable, stepIn}
+
+-- the text of a stack, and how many tasks it comes to
+unfoldable pub tasksText : (ℕ → Expression) → List ℕ → List ℕ
+tasksText E [] = []
+tasksText E (v ∷ vs) = taskText E v ++ tasksText E vs
+
+unfoldable pub tasksTurns : (ℕ → Expression) → List ℕ → ℕ
+tasksTurns E [] = 0
+tasksTurns E (v ∷ vs) = taskTurns E v + tasksTurns E vs
+
+-- a task on top of others, and those of a step
+unfoldable pub addTask : ℕ → List ℕ → List ℕ
+addTask v vs = cond (eqb v noTask) vs (v ∷ vs)
+
+unfoldable pub addTasks : Step → List ℕ → List ℕ
+unfolding addTask
+addTasks x vs = addTask (x .high) (addTask (x .mid) (addTask (x .low) vs))
+
+-- k tasks from an offset on, the top first
+unfoldable pub tasksIn : List ℕ → ℕ → ℕ → List ℕ
+unfolding number
+tasksIn t from zero = []
+tasksIn t from (suc k) = number wordLength t (from + wordLength * k) ∷ tasksIn t from k
+
+-- v put on k tasks, of which there are then j
+pub record Pushed (from k v j : ℕ) (s t : List ℕ) : Type 0 where
+  pub tasks : tasksIn t from j ≡ addTask v (tasksIn s from k)
+  pub grown : j ≤ k + 1
+  pub within : Within (from + wordLength * k) (from + wordLength * k + wordLength) s t
+
+-- the tasks of a step put on k others
+pub record AllPushed (from k : ℕ) (x : Step) (j : ℕ) (s t : List ℕ) : Type 0 where
+  pub tasks : tasksIn t from j ≡ addTasks x (tasksIn s from k)
+  pub within : Within from (from + wordLength * (k + 3)) s t
+
+-- the task over k others
+abbrev pub taskOver : List ℕ → ℕ → ℕ → ℕ
+taskOver t from k = number wordLength t (from + wordLength * k)
+
+-- a turn may be made: the task over k others can be read, its bytes fit the output after at others, its tasks fit the stack
+pub record Turnable (t out : List ℕ) (from k at : ℕ) : Type 0 where
+  pub steps : Steppable t (taskOver t from k / parts) (ruleIn t (taskOver t from k / parts))
+  pub stack : from + wordLength * (k + 3) ≤ length t
+  pub fits : at + length (saidBytes ((stepIn t (taskOver t from k)) .said)) ≤ length out
+
+-- bytes written after at others
+abbrev pub written : List ℕ → ℕ → List ℕ → List ℕ
+written out at bs = take at out ++ (bs ++ drop (at + length bs) out)
+
+-- after a turn
+pub record TurnMade (from k at : ℕ) (x : State) (s t out out′ : List ℕ) : Type 0 where
+  pub tasks : tasksIn t from (x .tasks) ≡ addTasks (stepIn s (taskOver s from k)) (tasksIn s from k)
+  pub within : Within from (from + wordLength * (k + 3)) s t
+  pub writes : out′ ≡ written out at (saidBytes ((stepIn s (taskOver s from k)) .said))
+  pub moves : x .at ≡ at + length (saidBytes ((stepIn s (taskOver s from k)) .said))

@@ -1,0 +1,119 @@
+// The tasks of spread (document 01): one for each whole rule, and the stack of those still to be done.
+ghost use mathlib.Core.Path.{_≡_};
+ghost use Prim.Native.Nat.{_+_, _*_, _≤_};
+ghost use lib.ListN.{length};
+ghost use Rattle.work_rows.specs.Rows.{ruleIn};
+ghost use Rattle.spread_step.specs.Step.{saidBytes, Steppable};
+ghost use Rattle.spread_stack.specs.Stack.{written, Pushed, AllPushed, Turnable, TurnMade};
+ghost use Rattle.spread_stack.specs.Run.{meant, stackText, Taskable, TaskPut, Tasked, Runnable, Ran, Spreadable};
+ghost use Rattle.count_passes.specs.Says.{whole, says};
+use spread_step::Said;
+use spread_step::Step;
+use work_rows::Row;
+
+// How far spread has come: tasks on the stack, and bytes written.
+struct State {
+    tasks: usize,
+    at: usize,
+}
+
+// A task put on k others of the stack that begins at an offset; how many there are then.
+fn push(work: &mut [u8], from: usize, k: usize, task: u16) -> usize
+    requires { ⌜ from + 2 * k + 2 ≤ length (now work) ⌝ }
+    ensures { λ j. ⌜ Pushed from k task j (now (work .entry)) (now (work .exit)) ⌝ }
+{
+    if task == Step::NONE {
+        return k;
+    }
+    words::write16(work, from + 2 * k, task);
+    k + 1
+}
+
+// The tasks of a step put on k others.
+fn push_all(work: &mut [u8], from: usize, k: usize, step: Step) -> usize
+    requires { ⌜ from + 2 * (k + 3) ≤ length (now work) ⌝ }
+    ensures { λ j. ⌜ AllPushed from k step j (now (work .entry)) (now (work .exit)) ⌝ }
+{
+    let one = push(work, from, k, step.low);
+    let two = push(work, from, one, step.mid);
+    push(work, from, two, step.high)
+}
+
+// A step's bytes written after at others; how many there are then.
+fn say(out: &mut [u8], at: usize, said: Said) -> usize
+    requires { ⌜ at + length (saidBytes said) ≤ length (now out) ⌝ }
+    ensures { λ r. ⌜ (r ≡ at + length (saidBytes said)) × (now (out .exit) ≡ written (now (out .entry)) at (saidBytes said)) ⌝ }
+{
+    match said {
+        Said::Nothing => at,
+        Said::Opening(label) => {
+            out[at] = Step::OPENING;
+            out[at + 1] = label;
+            at + 2
+        }
+        Said::Closing => {
+            out[at] = Step::CLOSING;
+            at + 1
+        }
+    }
+}
+
+// One turn: the task over k others is replaced by what it comes to.
+fn turn(work: &mut [u8], out: &mut [u8], from: usize, k: usize, at: usize) -> State
+    requires { ⌜ Turnable (now work) (now out) from k at ⌝ }
+    ensures { λ x. ⌜ TurnMade from k at x (now (work .entry)) (now (work .exit)) (now (out .entry)) (now (out .exit)) ⌝ }
+{
+    let task = words::read16(work, from + 2 * k);
+    let step = spread_step::decide(work, task);
+    let said = step.said;
+    let next = say(out, at, said);
+    let tasks = push_all(work, from, k, step);
+    State { tasks, at: next }
+}
+
+// The task of row r's whole rule, written to the row.
+fn task_row(work: &mut [u8], r: u16)
+    requires { ⌜ Steppable (now work) r (ruleIn (now work) r) ⌝ }
+    ensures { λ x. ⌜ TaskPut r (now (work .entry)) (now (work .exit)) ⌝ }
+{
+    let task = spread_step::task_of(work, r, work_rows::rule_at(work, r));
+    work_rows::put16(work, r, Step::TASK, task);
+}
+
+// The tasks of all whole rules.
+pub fn task_rows(work: &mut [u8], n: u16)
+    requires { ⌜ Taskable (now work) n ⌝ }
+    ensures { λ x. ⌜ Tasked n (now (work .entry)) (now (work .exit)) ⌝ }
+{
+    let mut r: u16 = 0;
+    while r < n {
+        task_row(work, r);
+        r += 1;
+    }
+}
+
+// The tasks on the stack, done one after the other; how many bytes they wrote.
+fn run(work: &mut [u8], out: &mut [u8], n: u16, first: usize) -> usize
+    requires { ⌜ Runnable (now work) (now out) n first ⌝ }
+    ensures { λ x. ⌜ Ran n (stackText (now (work .entry)) n first) x (now (work .entry)) (now (work .exit)) (now (out .entry)) (now (out .exit)) ⌝ }
+{
+    let from = Row::LENGTH * (n as usize);
+    let mut k = first;
+    let mut at: usize = 0;
+    while 0 < k {
+        let state = turn(work, out, from, k - 1, at);
+        k = state.tasks;
+        at = state.at;
+    }
+    at
+}
+
+// The text of rule r, written to the front of the output; its length.
+pub fn spread_rule(work: &mut [u8], out: &mut [u8], n: u16, r: u16) -> usize
+    requires { ⌜ Spreadable (now work) (now out) n r ⌝ }
+    ensures { λ x. ⌜ Ran n (says (meant (now (work .entry)) n r) whole) x (now (work .entry)) (now (work .exit)) (now (out .entry)) (now (out .exit)) ⌝ }
+{
+    let task = spread_step::whole(work, r);
+    let k = push(work, Row::LENGTH * (n as usize), 0, task);
+    run(work, out, n, k)
+}

@@ -1,0 +1,32 @@
+-- What a step may read: the rows that a rule names are lower, so they lie in work where its own does. Assumes nothing.
+use Prim.Native.Nat.{ℕ, _+_, _*_, _≤_, _<_}
+use native.Mathlib.Omega.{arith}
+use mathlib.Core.Path.{_≡_}
+use mathlib.Core.List.{List}
+use lib.ListN.{length}
+use lib.Dec.{leb→le}
+use Rattle.rule.specs.declared.Rule.{Rule}
+use Rattle.rule.specs.Rule.{labelled}
+use Rattle.forest.proofs.Unfold.{Names}
+use Rattle.work_rows.specs.Rows.{rowLength}
+use Rattle.count_passes.proofs.Reach.{named-lower}
+use Rattle.spread_step.specs.Step.{Steppable}
+
+-- the rule that a match found
+pub at-rule : {t : List ℕ} {r : ℕ} {x y : Rule} → x ≡ y → Steppable t r x → Steppable t r y
+at-rule q h = rw q at h
+
+pub named-room : {t : List ℕ} {r : ℕ} {x : Rule} → Steppable t r x → (k : ℕ) → Names x k → rowLength * k + 32 ≤ length t
+named-room {r = r} h k m = let l : k < r = named-lower r (h .lower) m in omega (arith, h .room)
+
+pub named-few : {t : List ℕ} {r : ℕ} {x : Rule} → Steppable t r x → (k : ℕ) → Names x k → k < 16383
+named-few {r = r} h k m = let l : k < r = named-lower r (h .lower) m in omega (arith, h .few)
+
+-- the labels of a node and of a part
+pub node-label : {t : List ℕ} {r a c : ℕ} → Steppable t r (Rule.Node a c) → a < 256
+unfolding labelled
+node-label {a = a} h = let l : a ≤ 255 = leb→le a 255 (h .labels) in omega arith
+
+pub part-label : {t : List ℕ} {r a b c : ℕ} → Steppable t r (Rule.Part a b c) → a < 256
+unfolding labelled
+part-label {a = a} h = let l : a ≤ 255 = leb→le a 255 (h .labels) in omega arith

@@ -1,0 +1,61 @@
+-- What a task comes to: bytes to write, and the tasks to do after them; and what the rows must have for it.
+use Prim.Native.Nat.{ℕ, _+_, _*_, _/_, _%_, _≤_, _<_}
+use mathlib.Core.Bool.{cond}
+use mathlib.Core.List.{List, [], _∷_}
+use lib.ListN.{length}
+use lib.Dec.{T, ltb, eqb}
+use Rattle.rule.specs.declared.Rule.{Rule}
+use Rattle.rule.specs.Rule.{every, labelled}
+use Rattle.record.specs.Record.{wordLength}
+use Rattle.work_rows.specs.Rows.{rowLength, field, ruleIn}
+use Rattle.count_passes.specs.Says.{before, after, opening, closing}
+use Rattle.spread_step.specs.declared.Said.{Said}
+use Rattle.spread_step.specs.declared.Step.{Step}
+use Rattle.spread_step.specs.Task.{parts, close, noTask, taskWord}
+
+-- the bytes that a step writes
+unfoldable pub saidBytes : Said → List ℕ
+saidBytes Said.Nothing = []
+saidBytes (Said.Opening a) = opening ∷ a ∷ []
+saidBytes Said.Closing = closing ∷ []
+
+-- a step that writes x and leaves three tasks, of which the last comes first
+abbrev pub leaving : Said → ℕ → ℕ → ℕ → Step
+leaving x low mid high = record { said = x; low = low; mid = mid; high = high }
+
+-- what a part p of rule r's text comes to; f gives the task of each whole rule
+unfoldable pub ruleStep : (ℕ → ℕ) → ℕ → ℕ → Rule → Step
+ruleStep f r p Rule.Empty = leaving Said.Nothing noTask noTask noTask
+ruleStep f r p (Rule.Pair b c) = leaving Said.Nothing (f c) (f b) noTask
+ruleStep f r p (Rule.Node a c) = leaving (Said.Opening a) (taskWord r close) (f c) noTask
+ruleStep f r p (Rule.Fill b c) = leaving Said.Nothing (taskWord b after) (f c) (taskWord b before)
+ruleStep f r p (Rule.Part a b c) =
+    cond (eqb p before) (leaving (Said.Opening a) (f b) noTask noTask) (leaving Said.Nothing (taskWord r close) (f c) noTask)
+ruleStep f r p (Rule.Join b c) =
+    cond (eqb p before)
+    (leaving Said.Nothing (taskWord c before) (taskWord b before) noTask)
+    (leaving Said.Nothing (taskWord b after) (taskWord c after) noTask)
+
+-- what a task comes to; x gives each rule
+unfoldable pub stepOf : (ℕ → ℕ) → (ℕ → Rule) → ℕ → Step
+unfolding ruleStep
+stepOf f x v =
+    cond (eqb (v % parts) close) (leaving Said.Closing noTask noTask noTask) (ruleStep f (v / parts) (v % parts) (x (v / parts)))
+
+-- where a row keeps the task of its whole rule
+abbrev pub atTask : ℕ
+atTask = 30
+
+abbrev pub tasksAt : List ℕ → ℕ → ℕ
+tasksAt t k = field wordLength t k atTask
+
+-- row r can be read, keeps the rule x, which names lower rules, and its numbers are small enough
+pub record Steppable (t : List ℕ) (r : ℕ) (x : Rule) : Type 0 where
+  pub room : rowLength * (r + 1) ≤ length t
+  pub lower : T (every (λ y. ltb y r) x)
+  pub labels : T (labelled x)
+  pub few : r < 16383
+
+-- what task v comes to, from the rows
+abbrev pub stepIn : List ℕ → ℕ → Step
+stepIn t v = stepOf (tasksAt t) (ruleIn t) v

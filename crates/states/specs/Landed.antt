@@ -1,8 +1,0 @@
--- What a letter came to, by the state of the walk.
-use Prim.Native.Nat.{ℕ}
-use Rattle.landing.specs.declared.Landing.{Landing}
-use Rattle.states.specs.declared.Standing.{Standing}
-
--- what a letter came to, by the state that it left and its answer
-abbrev pub landed : Standing → ℕ → Landing
-landed at answer = record { used = at .used; rule = at .rule; answer = answer }

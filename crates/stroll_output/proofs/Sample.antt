@@ -1,0 +1,42 @@
+-- ★ The whole output of stroll for the sample plan and afnnfnnnnununnn, as document 01 prints it, and the lines of refusals.
+-- All hold by computation. Assumes nothing.
+use Prim.Native.Nat.{ℕ}
+use mathlib.Core.Path.{_≡_, refl}
+use mathlib.Core.List.{List, [], _∷_, map}
+use Rattle.words.specs.Number.{number}
+use Rattle.refusal.specs.declared.Refusal.{Refusal}
+use Rattle.plan.specs.Check.{checked, rulesOf}
+use Rattle.forest.specs.Forest.{forest}
+use Rattle.forest.specs.Letter.{letterOf}
+use Rattle.forest.specs.Reference.{answers}
+use Rattle.forest.specs.Walk.{andLetters, lettersOf, otherAt, firstOther}
+use Rattle.forest.proofs.Starred.{sample}
+use Rattle.decimal.specs.Decimal.{digits, decimal}
+use Rattle.stroll_line.specs.Lines.{shown, line, lines, refusedLine}
+use Rattle.stroll_output.specs.Stroll.{walkPrinted, checkPrinted, strollOutput}
+
+-- afnnfnnnnununnn
+abbrev pub letters : List ℕ
+letters = 97 ∷ 102 ∷ 110 ∷ 110 ∷ 102 ∷ 110 ∷ 110 ∷ 110 ∷ 110 ∷ 117 ∷ 110 ∷ 117 ∷ 110 ∷ 110 ∷ 110 ∷ []
+
+pub record Sample : Type 0 where
+  -- ★ a 99, f 97, n 98, n 99, f 97, n 98, n 97, n 98, n -, u 99, n 98, u 99, n 97, n 98, n -
+  pub whole : strollOutput sample letters ≡
+      97 ∷ 32 ∷ 57 ∷ 57 ∷ 10 ∷ 102 ∷ 32 ∷ 57 ∷ 55 ∷ 10 ∷ 110 ∷ 32 ∷ 57 ∷ 56 ∷ 10 ∷ 110 ∷ 32 ∷ 57 ∷ 57 ∷ 10
+      ∷ 102 ∷ 32 ∷ 57 ∷ 55 ∷ 10 ∷ 110 ∷ 32 ∷ 57 ∷ 56 ∷ 10 ∷ 110 ∷ 32 ∷ 57 ∷ 55 ∷ 10 ∷ 110 ∷ 32 ∷ 57 ∷ 56 ∷ 10
+      ∷ 110 ∷ 32 ∷ 45 ∷ 10 ∷ 117 ∷ 32 ∷ 57 ∷ 57 ∷ 10 ∷ 110 ∷ 32 ∷ 57 ∷ 56 ∷ 10 ∷ 117 ∷ 32 ∷ 57 ∷ 57 ∷ 10
+      ∷ 110 ∷ 32 ∷ 57 ∷ 55 ∷ 10 ∷ 110 ∷ 32 ∷ 57 ∷ 56 ∷ 10 ∷ 110 ∷ 32 ∷ 45 ∷ 10 ∷ []
+  -- no letters, no line
+  pub none : strollOutput sample [] ≡ []
+  -- an absent file counts as empty: refused 1 at 0
+  pub absent : strollOutput [] letters ≡ 114 ∷ 101 ∷ 102 ∷ 117 ∷ 115 ∷ 101 ∷ 100 ∷ 32 ∷ 49 ∷ 32 ∷ 97 ∷ 116 ∷ 32 ∷ 48 ∷ 10 ∷ []
+  -- a line end among the letters: refused 9 at 1
+  pub other : strollOutput sample (97 ∷ 10 ∷ []) ≡ 114 ∷ 101 ∷ 102 ∷ 117 ∷ 115 ∷ 101 ∷ 100 ∷ 32 ∷ 57 ∷ 32 ∷ 97 ∷ 116 ∷ 32 ∷ 49 ∷ 10 ∷ []
+  -- refused 8 at 0
+  pub long : refusedLine Refusal.Lent ≡ 114 ∷ 101 ∷ 102 ∷ 117 ∷ 115 ∷ 101 ∷ 100 ∷ 32 ∷ 56 ∷ 32 ∷ 97 ∷ 116 ∷ 32 ∷ 48 ∷ 10 ∷ []
+  -- 0, 9, 10, 255, 4095
+  pub numbers : map decimal (0 ∷ 9 ∷ 10 ∷ 255 ∷ 4095 ∷ []) ≡ (48 ∷ []) ∷ (57 ∷ []) ∷ (49 ∷ 48 ∷ []) ∷ (50 ∷ 53 ∷ 53 ∷ []) ∷ (52 ∷ 48 ∷ 57 ∷ 53 ∷ []) ∷ []
+
+pub printed : Sample
+unfolding strollOutput checkPrinted walkPrinted refusedLine lines line shown decimal digits checked rulesOf number forest answers letterOf andLetters lettersOf otherAt firstOther
+printed = record { whole = refl; none = refl; absent = refl; other = refl; long = refl; numbers = refl }

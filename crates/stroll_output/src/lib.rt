@@ -1,0 +1,79 @@
+// The lines that stroll prints (document 01, "One sample plan").
+use forest::Walked;
+use place_cells::Cell;
+use plan::Checked;
+use plan::Trailer;
+use refusal::Refusal;
+ghost use Prim.Native.Nat.{_*_, _≤_};
+ghost use lib.ListN.{length};
+ghost use Rattle.plan.specs.Check.{checked};
+ghost use Rattle.stroll_line.specs.Lines.{lineLength};
+ghost use Rattle.stroll_output.specs.Stroll.{mostLetters, checkPrinted, strollOutput};
+ghost use Rattle.decimal.specs.Put.{Put};
+ghost use Rattle.stroll_output.specs.Printed.{Accepted, Strollable, Strolled, Printed};
+
+// Bytes of a plan, and letters, at most.
+pub const MOST_PLAN: usize = 16384;
+
+pub const MOST_LETTERS: usize = 4096;
+
+// Bytes of a line: a letter, a space, three digits, a line end.
+const LINE: usize = 6;
+
+// Bytes of output.
+pub const MOST_OUTPUT: usize = LINE * MOST_LETTERS;
+
+// Bytes of work, cursor and answers for the most rules and letters.
+const MOST_RULES: usize = Trailer::MOST_RULES as usize;
+
+const MOST_WORK: usize = work_rows::WORK_LENGTH * MOST_RULES;
+
+const MOST_CURSOR: usize = Cell::LENGTH * Cell::A_RULE * (MOST_RULES + 1);
+
+const MOST_ANSWERS: usize = 2 * MOST_LETTERS;
+
+// The walk from above the forest, in a work and a cursor large enough for any plan.
+fn walk_above(plan: &[u8], letters: &[u8], answers: &mut [u8]) -> Walked
+    requires { ⌜ Strollable (now plan) (now letters) × (2 * length (now letters) ≤ length (now answers)) ⌝ }
+    ensures { λ x. ⌜ Strolled (now (plan .entry)) (now (letters .entry)) x (now (answers .exit)) ⌝ }
+{
+    let mut work = [0u8; MOST_WORK];
+    let mut cursor = [0u8; MOST_CURSOR];
+    walk::walk(plan, &mut work, &mut cursor, letters, answers)
+}
+
+// What is printed of the walk.
+fn print_walk(plan: &[u8], letters: &[u8], out: &mut [u8]) -> usize
+    requires { ⌜ Strollable (now plan) (now letters) × (lineLength * mostLetters ≤ length (now out)) ⌝ }
+    ensures { λ r. ⌜ Put (checkPrinted (now (plan .entry)) (now (letters .entry)) (checked (now (plan .entry)))) 0 (now (out .entry)) (now (out .exit)) r ⌝ }
+{
+    let mut answers = [0u8; MOST_ANSWERS];
+    match walk_above(plan, letters, &mut answers) {
+        Walked::Accepted => stroll_line::put_lines(out, letters, &answers),
+        Walked::Refused(why) => stroll_line::put_refusal(out, why),
+    }
+}
+
+// What is printed on an accepted plan.
+fn stroll_letters(plan: &[u8], letters: &[u8], out: &mut [u8]) -> usize
+    requires { ⌜ Accepted (now plan) × (lineLength * mostLetters ≤ length (now out)) ⌝ }
+    ensures { λ r. ⌜ Put (checkPrinted (now (plan .entry)) (now (letters .entry)) (checked (now (plan .entry)))) 0 (now (out .entry)) (now (out .exit)) r ⌝ }
+{
+    if MOST_LETTERS < letters.len() {
+        return stroll_line::put_refusal(out, Refusal::Lent);
+    }
+    print_walk(plan, letters, out)
+}
+
+// All that stroll prints for what it read of the plan's file and of standard input, at the front of the output; gives its length.
+pub fn stroll(plan: &[u8], letters: &[u8], out: &mut [u8; MOST_OUTPUT]) -> usize
+    ensures { λ r. ⌜ Printed (strollOutput (now (plan .entry)) (now (letters .entry))) (now (out .entry)) (now (out .exit)) r ⌝ }
+{
+    if MOST_PLAN < plan.len() {
+        return stroll_line::put_refusal(out, Refusal::Lent);
+    }
+    match plan::check(plan) {
+        Checked::Accepted { n: _, start: _ } => stroll_letters(plan, letters, out),
+        Checked::Refused(why) => stroll_line::put_refusal(out, why),
+    }
+}

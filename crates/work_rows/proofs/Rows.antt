@@ -1,0 +1,216 @@
+-- Laws of rows. A field is a number in a list of bytes, so what a write leaves alone is known from one frame, `Within`: equal bytes
+-- before it and after it. A rule's four fields lie apart in their row, so they are read back as written. Assumes nothing.
+use Prim.Native.Nat.{ℕ, zero, suc, _+_, _-_, _*_, _^_, _≤_, _<_}
+use mathlib.Core.Path.{_≡_, refl, sym, ap, _∙_}
+use mathlib.Core.List.{List}
+use native.Mathlib.Omega.{arith}
+use native.Mathlib.Decide.{decLt}
+use lib.ListN.{length, getD, take, drop}
+use lib.Seq.{getD-take, getD-drop, take-take, drop-drop}
+use Rattle.words.specs.Number.{base}
+use Rattle.words.proofs.Laws.{number-agrees, length-put, put-same, put-other, put-take, put-drop}
+use Rattle.rule.specs.declared.Rule.{Rule}
+use Rattle.record.specs.Record.{recordLength, recordAt}
+use Rattle.rule.specs.Rule.{decode, ruleOf, rulesIn}
+use Rattle.record.specs.Records.{recordsFrom}
+use Rattle.rule.specs.Sound.{rule}
+use Rattle.work_rows.specs.declared.Row.{Row}
+use Rattle.work_rows.specs.Rows.{rowLength, field, putField, ownEnd, atKind, atLabel, atOne, atTwo, rowOf, ruleFrom, rowIn, putRow, ruleIn, Holds, Within, Beyond, Stored, Loaded}
+
+pub length-putField : (w : ℕ) (t : List ℕ) (r o v : ℕ) → length (putField w t r o v) ≡ length t
+unfolding putField
+length-putField w t r o v = length-put w t (rowLength * r + o) v
+
+-- a field after a write to it, and a field that lies apart from what is written
+pub field-same : (w : ℕ) (t : List ℕ) (r o v : ℕ) → rowLength * r + o + w ≤ length t → v < base ^ w → field w (putField w t r o v) r o ≡ v
+unfolding field putField
+field-same w t r o v fits small = put-same w t (rowLength * r + o) v fits small
+
+pub field-other : (w w′ : ℕ) (t : List ℕ) (r o v r′ o′ : ℕ)
+    → (rowLength * r + o < rowLength * r′ + o′ + w′ → rowLength * r + o + w ≤ rowLength * r′ + o′)
+    → field w′ (putField w t r o v) r′ o′ ≡ field w′ t r′ o′
+unfolding field putField
+field-other w w′ t r o v r′ o′ apart = put-other w w′ t (rowLength * r + o) v (rowLength * r′ + o′) apart
+
+-- the frame: nothing changed, two changes one after the other, a wider frame, one write
+pub within-none : (a e : ℕ) (s : List ℕ) → Within a e s s
+within-none a e s = record { same-length = refl; same-before = refl; same-after = refl }
+
+pub within-both : {a e : ℕ} {s t u : List ℕ} → Within a e s t → Within a e t u → Within a e s u
+within-both p q =
+    record {
+      same-length = q .same-length ∙ p .same-length;
+      same-before = q .same-before ∙ p .same-before;
+      same-after = q .same-after ∙ p .same-after;
+    }
+
+pub within-wider : {a e : ℕ} {s t : List ℕ} (a′ e′ : ℕ) → a′ ≤ a → e ≤ e′ → Within a e s t → Within a′ e′ s t
+within-wider {a} {e} {s} {t} a′ e′ low high p =
+    record {
+      same-length = p .same-length;
+      same-before = sym (take-take a′ a t low) ∙ ap (take a′) (p .same-before) ∙ take-take a′ a s low;
+      same-after = further t ∙ ap (drop (e′ - e)) (p .same-after) ∙ sym (further s);
+    }
+  where
+    further : (x : List ℕ) → drop e′ x ≡ drop (e′ - e) (drop e x)
+    further x = let k : e + (e′ - e) ≡ e′ = omega arith in rw (drop-drop (e′ - e) e x, k)
+
+pub within-put : (w : ℕ) (t : List ℕ) (r o v a e : ℕ) → a ≤ rowLength * r + o → rowLength * r + o + w ≤ e → Within a e t (putField w t r o v)
+unfolding putField
+within-put w t r o v a e low high =
+    record {
+      same-length = length-putField w t r o v;
+      same-before = put-take w t (rowLength * r + o) v a low;
+      same-after = put-drop w t (rowLength * r + o) v e high;
+    }
+
+-- a byte outside a frame stays, and so does a field
+within-byte : {a e : ℕ} {s t : List ℕ} → Within a e s t → (i : ℕ) → (a ≤ i → e ≤ i) → getD t i 0 ≡ getD s i 0
+within-byte {a} {e} {s} {t} p i apart =
+    elim (decLt i a) as (λ (d : Dec (i < a)). getD t i 0 ≡ getD s i 0) [
+      | yes below ↦ sym (getD-take a t i 0 below) ∙ ap (λ (l : List ℕ). getD l i 0) (p .same-before) ∙ getD-take a s i 0 below
+      | no above ↦ let past : e ≤ i = apart (omega arith) in let k : e + (i - e) ≡ i = omega arith in
+          ap (λ (j : ℕ). getD t j 0) (sym k)
+          ∙ sym (getD-drop e t (i - e) 0)
+          ∙ ap (λ (l : List ℕ). getD l (i - e) 0) (p .same-after)
+          ∙ getD-drop e s (i - e) 0
+          ∙ ap (λ (j : ℕ). getD s j 0) k
+    ]
+
+pub within-field : {a e : ℕ} {s t : List ℕ} → Within a e s t → (w r o : ℕ) → (a < rowLength * r + o + w → e ≤ rowLength * r + o)
+    → field w t r o ≡ field w s r o
+unfolding field
+within-field {a} {e} {s} {t} p w r o apart =
+    number-agrees w t s (rowLength * r + o) (rowLength * r + o)
+    (λ i below. within-byte p (rowLength * r + o + i) (λ h. let f : e ≤ rowLength * r + o = apart (omega arith) in omega arith))
+
+-- a rule outside a frame stays
+pub within-rule : {a e : ℕ} {s t : List ℕ} → Within a e s t → (r : ℕ) → (a < rowLength * r + ownEnd → e ≤ rowLength * r) → ruleIn t r ≡ ruleIn s r
+unfolding ruleIn rowIn
+within-rule {a} {e} {s} {t} p r apart =
+    let same : (w o : ℕ) → o + w ≤ ownEnd → field w t r o ≡ field w s r o
+    = λ w o fits. within-field p w r o (λ h. let f : e ≤ rowLength * r = apart (omega arith) in omega arith) in
+    rw (same 2 atKind (omega arith), same 4 atLabel (omega arith), same 2 atOne (omega arith), same 2 atTwo (omega arith))
+
+-- a write to a row below i
+pub beyond-put : (w : ℕ) (t : List ℕ) (r o v i : ℕ) → rowLength * r + o + w ≤ rowLength * i → Beyond i t (putField w t r o v)
+beyond-put w t r o v i fits = within-put w t r o v 0 (rowLength * i) (omega arith) fits
+
+-- what a row keeps of a rule gives the rule back, and what is written to a row is read from it
+pub ruleFrom-rowOf : (x : Rule) → ruleFrom (rowOf x) ≡ x
+unfolding ruleFrom rowOf
+ruleFrom-rowOf Rule.Empty = refl
+ruleFrom-rowOf (Rule.Pair b c) = refl
+ruleFrom-rowOf (Rule.Node a c) = refl
+ruleFrom-rowOf (Rule.Fill b c) = refl
+ruleFrom-rowOf (Rule.Part a b c) = refl
+ruleFrom-rowOf (Rule.Join b c) = refl
+
+-- the fields' numbers fit their bytes
+pub record Small (w : Row) : Type 0 where
+  pub kind : w .kind < base ^ 2
+  pub label : w .label < base ^ 4
+  pub one : w .one < base ^ 2
+  pub two : w .two < base ^ 2
+
+-- the four fields after a row is written: each is written once, and lies apart from those written after it
+module _ (t : List ℕ) (r : ℕ) (w : Row) (fits : rowLength * r + ownEnd ≤ length t) (small : Small w) where
+  first : List ℕ
+  first = putField 2 t r atKind (w .kind)
+
+  second : List ℕ
+  second = putField 4 first r atLabel (w .label)
+
+  third : List ℕ
+  third = putField 2 second r atOne (w .one)
+
+  long-first : length first ≡ length t
+  unfolding first
+  long-first = length-putField 2 t r atKind (w .kind)
+
+  long-second : length second ≡ length t
+  unfolding second
+  long-second = length-putField 4 first r atLabel (w .label) ∙ long-first
+
+  long-third : length third ≡ length t
+  unfolding third
+  long-third = length-putField 2 second r atOne (w .one) ∙ long-second
+
+  kind-kept : field 2 (putRow t r w) r atKind ≡ w .kind
+  unfolding putRow first second third
+  kind-kept =
+      field-other 2 2 third r atTwo (w .two) r atKind (λ h. omega arith)
+      ∙ field-other 2 2 second r atOne (w .one) r atKind (λ h. omega arith)
+      ∙ field-other 4 2 first r atLabel (w .label) r atKind (λ h. omega arith)
+      ∙ field-same 2 t r atKind (w .kind) (omega arith) (small .kind)
+
+  label-kept : field 4 (putRow t r w) r atLabel ≡ w .label
+  unfolding putRow first second third
+  label-kept =
+      field-other 2 4 third r atTwo (w .two) r atLabel (λ h. omega arith)
+      ∙ field-other 2 4 second r atOne (w .one) r atLabel (λ h. omega arith)
+      ∙ field-same 4 first r atLabel (w .label) (omega (arith, long-first)) (small .label)
+
+  one-kept : field 2 (putRow t r w) r atOne ≡ w .one
+  unfolding putRow first second third
+  one-kept =
+      field-other 2 2 third r atTwo (w .two) r atOne (λ h. omega arith)
+      ∙ field-same 2 second r atOne (w .one) (omega (arith, long-second)) (small .one)
+
+  two-kept : field 2 (putRow t r w) r atTwo ≡ w .two
+  unfolding putRow first second third
+  two-kept = field-same 2 third r atTwo (w .two) (omega (arith, long-third)) (small .two)
+
+  pub rowIn-putRow : rowIn (putRow t r w) r ≡ w
+  unfolding rowIn
+  rowIn-putRow = λ i. record { kind = kind-kept i; label = label-kept i; one = one-kept i; two = two-kept i }
+
+  pub within-putRow : Within (rowLength * r) (rowLength * r + ownEnd) t (putRow t r w)
+  unfolding putRow
+  within-putRow =
+      let a : ℕ = rowLength * r in
+      let e : ℕ = rowLength * r + ownEnd in
+      within-both (within-put 2 t r atKind (w .kind) a e (omega arith) (omega arith))
+      (within-both (within-put 4 _ r atLabel (w .label) a e (omega arith) (omega arith))
+      (within-both (within-put 2 _ r atOne (w .one) a e (omega arith) (omega arith))
+      (within-put 2 _ r atTwo (w .two) a e (omega arith) (omega arith))))
+
+-- a rule written to its row is kept there
+pub stored : (s t : List ℕ) (r : ℕ) (x : Rule) (w : Row) → w ≡ rowOf x → rowLength * r + ownEnd ≤ length s → Small w → t ≡ putRow s r w → Stored r x s t
+unfolding ruleIn
+stored s t r x w e fits small p =
+    rw p
+    (record {
+      keeps = ap ruleFrom (rowIn-putRow s r w fits small ∙ e) ∙ ruleFrom-rowOf x;
+      within = within-putRow s r w fits small;
+    })
+
+-- the rows hold rules: none at first, and one more after each write
+pub loaded-none : (R : List Rule) (s : List ℕ) → Loaded R 0 s s
+unfolding Holds
+loaded-none R s = record { holds = λ k below. absurd (omega arith); beyond = within-none 0 (rowLength * 0) s }
+
+holds-more : (R : List Rule) (s t : List ℕ) (i : ℕ) → Holds R s i → Stored i (rule R i) s t → Holds R t (i + 1)
+unfolding Holds
+holds-more R s t i h new k below =
+    elim (decLt k i) as (λ (d : Dec (k < i)). ruleIn t k ≡ rule R k) [
+      | yes under ↦ within-rule (new .within) k (λ v. absurd (omega arith)) ∙ h k under
+      | no over ↦ let e : k ≡ i = omega arith in rw e (new .keeps)
+    ]
+
+pub loaded-more : (R : List Rule) (s t u : List ℕ) (i : ℕ) → Loaded R i s t → Stored i (rule R i) t u → Loaded R (i + 1) s u
+loaded-more R s t u i h new =
+    record {
+      holds = holds-more R t u i (h .holds) new;
+      beyond =
+          within-both (within-wider 0 (rowLength * (i + 1)) (omega arith) (omega arith) (h .beyond))
+          (within-wider 0 (rowLength * (i + 1)) (omega arith) (omega arith) (new .within));
+    }
+
+-- the rule with a number is what its record means
+pub rule-recorded : (s : List ℕ) (at n i : ℕ) → i < n → rule (rulesIn (recordsFrom s at n)) i ≡ ruleOf (decode (recordAt s (at + recordLength * i)))
+unfolding rule rulesIn recordsFrom
+rule-recorded s at zero i below = absurd (omega arith)
+rule-recorded s at (suc n) zero below = ap (λ (k : ℕ). ruleOf (decode (recordAt s k))) (omega arith)
+rule-recorded s at (suc n) (suc i) below =
+    rule-recorded s (at + recordLength) n i (omega arith) ∙ ap (λ (k : ℕ). ruleOf (decode (recordAt s k))) (omega arith)

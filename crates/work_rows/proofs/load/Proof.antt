@@ -1,0 +1,85 @@
+-- The loop's invariant: rows below i hold their rules and nothing else has changed. Assumes nothing.
+use mathlib.Core.Path.{_≡_, sym, ap, _∙_}
+use denote.Ref.{now}
+use Rattle.rule.specs.Rule.{decode, ruleOf, rulesIn}
+use Rattle.rule.specs.Sound.{rule}
+use Prim.Native.Nat.{_-_, _≤_}
+use native.Mathlib.Omega.{arith}
+use Rattle.record.specs.Records.{recordsFrom}
+use Rattle.work_rows.specs.Rows.{Loaded}
+use Rattle.work_rows.proofs.Rows.{loaded-none, loaded-more, rule-recorded}
+use Rattle.work_rows.proofs.load.Statement.{statement}
+use Rattle.work_rows.proofs.load.Tie as tie
+
+abbrev Inv-loop : tie.InvT-loop
+Inv-loop plan first n work₀ i₀ work i = (i ≤ n) × Loaded (rulesIn (recordsFrom plan first n)) i work₀ work
+
+abbrev μ-loop : tie.MeasureT-loop
+μ-loop plan first n work₀ i₀ work i = n - i
+
+loop-holds : tie.Need-loop-holds Inv-loop μ-loop
+loop-holds c = (omega arith, loaded-none _ _)
+
+cast-read : tie.Need-cast-read Inv-loop μ-loop
+cast-read c = omega arith
+
+mul-read : tie.Need-mul-read Inv-loop μ-loop
+mul-read c = omega arith
+
+add-read : tie.Need-add-read Inv-loop μ-loop
+add-read c = omega arith
+
+read-requires : tie.Need-read-requires Inv-loop μ-loop
+read-requires c κs = omega arith
+
+decode-requires : tie.Need-decode-requires Inv-loop μ-loop
+decode-requires c κs = tt
+
+rule-of-requires : tie.Need-rule-of-requires Inv-loop μ-loop
+rule-of-requires c κs = tt
+
+put-rule-requires : tie.Need-put-rule-requires Inv-loop μ-loop
+put-rule-requires c κs = omega arith
+
+add-i : tie.Need-add-i Inv-loop μ-loop
+add-i c = omega arith
+
+loop-less : tie.Need-loop-less Inv-loop μ-loop
+loop-less c = omega arith
+
+loop-again : tie.Need-loop-again Inv-loop μ-loop
+loop-again c =
+    let a = c .before .before .before .before .before .before .before .before .before .before .before .args in
+    let i = c .before .before .before .before .before .before .before .before .loop .i in
+    let R = rulesIn (recordsFrom (now (a .plan)) (a .first) (a .n)) in
+    let means : c .before .before .before .rule-of .result ≡ rule R i
+    = c .before .before .before .rule-of .ensures
+    ∙ ap ruleOf (c .before .before .before .before .decode .ensures ∙ ap decode (c .before .before .before .before .before .before .read .ensures))
+    ∙ sym (rule-recorded (now (a .plan)) (a .first) (a .n) i (omega arith)) in
+    (omega arith, loaded-more R _ _ _ i (c .before .before .before .before .before .before .before .before .loop .inv .1) (rw means at (c .before .before .put-rule .ensures)))
+
+same-length : tie.Need-same-length Inv-loop μ-loop
+same-length c = c .before .loop .inv .1 .beyond .same-length
+
+returns : tie.Need-returns Inv-loop μ-loop
+returns c = let e : c .before .loop .i ≡ c .before .before .before .before .args .n = omega arith in rw e at (c .before .loop .inv .1)
+
+pub load-spec : {M : Type 1} → statement M
+load-spec =
+    tie.close
+    (tie.spec
+    Inv-loop
+    μ-loop
+    loop-holds
+    cast-read
+    mul-read
+    add-read
+    read-requires
+    decode-requires
+    rule-of-requires
+    put-rule-requires
+    add-i
+    loop-less
+    loop-again
+    same-length
+    returns)

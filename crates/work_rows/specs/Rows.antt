@@ -1,0 +1,105 @@
+-- The rows of work: a row for each rule, which begins with the rule itself. Above this crate nobody reads a plan's bytes.
+use Prim.Native.Nat.{ℕ, _+_, _*_, _<_}
+use mathlib.Core.Path.{_≡_}
+use mathlib.Core.Bool.{cond}
+use mathlib.Core.List.{List}
+use lib.ListN.{length, take, drop}
+use lib.Dec.{eqb}
+use Rattle.words.specs.Number.{number, put}
+use Rattle.rule.specs.declared.Rule.{Rule}
+use Rattle.record.specs.Record.{wordLength}
+use Rattle.rule.specs.Rule.{kindEmpty, kindPair, kindNode, kindFill, kindPart, kindJoin}
+use Rattle.rule.specs.Sound.{rule}
+use Rattle.forest.specs.Outcome.{ruleWork}
+use Rattle.work_rows.specs.declared.Row.{Row}
+
+-- the bytes of work a rule, and those of a row; what is left behind the rows holds stacks
+abbrev pub workLength : ℕ
+workLength = wordLength * ruleWork
+
+abbrev pub rowLength : ℕ
+rowLength = 48
+
+-- the field of w bytes at offset o of row r, and a list with another number there
+unfoldable pub field : ℕ → List ℕ → ℕ → ℕ → ℕ
+unfolding number
+field w t r o = number w t (rowLength * r + o)
+
+unfoldable pub putField : ℕ → List ℕ → ℕ → ℕ → ℕ → List ℕ
+unfolding put
+putField w t r o v = put w t (rowLength * r + o) v
+
+-- where a row keeps its rule: kind (2 bytes), label (4), the two rules named (2 each); the fields from ownEnd on are free
+abbrev pub atKind : ℕ
+atKind = 0
+
+abbrev pub atLabel : ℕ
+atLabel = 2
+
+abbrev pub atOne : ℕ
+atOne = 6
+
+abbrev pub atTwo : ℕ
+atTwo = 8
+
+abbrev pub ownEnd : ℕ
+ownEnd = 10
+
+-- a rule's kind, its label and the rules that it names; what it lacks is 0
+unfoldable pub rowOf : Rule → Row
+rowOf Rule.Empty = record { kind = kindEmpty; label = 0; one = 0; two = 0 }
+rowOf (Rule.Pair b c) = record { kind = kindPair; label = 0; one = b; two = c }
+rowOf (Rule.Node a c) = record { kind = kindNode; label = a; one = c; two = 0 }
+rowOf (Rule.Fill b c) = record { kind = kindFill; label = 0; one = b; two = c }
+rowOf (Rule.Part a b c) = record { kind = kindPart; label = a; one = b; two = c }
+rowOf (Rule.Join b c) = record { kind = kindJoin; label = 0; one = b; two = c }
+
+-- the rule with a kind, a label and the rules that it names
+unfoldable pub ruleFrom : Row → Rule
+ruleFrom w =
+    cond (eqb (w .kind) kindPair) (Rule.Pair (w .one) (w .two))
+    (cond (eqb (w .kind) kindNode) (Rule.Node (w .label) (w .one))
+    (cond (eqb (w .kind) kindFill) (Rule.Fill (w .one) (w .two))
+    (cond (eqb (w .kind) kindPart) (Rule.Part (w .label) (w .one) (w .two))
+    (cond (eqb (w .kind) kindJoin) (Rule.Join (w .one) (w .two))
+    Rule.Empty))))
+
+-- what row r keeps of its rule, and a list in which it keeps w
+unfoldable pub rowIn : List ℕ → ℕ → Row
+unfolding field
+rowIn t r = record { kind = field 2 t r atKind; label = field 4 t r atLabel; one = field 2 t r atOne; two = field 2 t r atTwo }
+
+unfoldable pub putRow : List ℕ → ℕ → Row → List ℕ
+unfolding putField
+putRow t r w =
+    putField 2 (putField 2 (putField 4 (putField 2 t r atKind (w .kind)) r atLabel (w .label)) r atOne (w .one)) r atTwo (w .two)
+
+-- the rule kept in row r
+unfoldable pub ruleIn : List ℕ → ℕ → Rule
+unfolding ruleFrom rowIn
+ruleIn t r = ruleFrom (rowIn t r)
+
+-- every row below i holds its rule
+unfoldable pub Holds : List Rule → List ℕ → ℕ → Type 0
+unfolding ruleIn rule
+Holds R t i = (k : ℕ) → k < i → ruleIn t k ≡ rule R k
+
+-- nothing but the bytes from a to e has changed
+pub record Within (a e : ℕ) (s t : List ℕ) : Type 0 where
+  pub same-length : length t ≡ length s
+  pub same-before : take a t ≡ take a s
+  pub same-after : drop e t ≡ drop e s
+
+-- nothing but rows below i has changed
+abbrev pub Beyond : ℕ → List ℕ → List ℕ → Type 0
+Beyond i s t = Within 0 (rowLength * i) s t
+
+-- row r keeps the rule x, and nothing else has changed
+pub record Stored (r : ℕ) (x : Rule) (s t : List ℕ) : Type 0 where
+  pub keeps : ruleIn t r ≡ x
+  pub within : Within (rowLength * r) (rowLength * r + ownEnd) s t
+
+-- the rows of n rules hold the rules R, and nothing beyond them has changed
+pub record Loaded (R : List Rule) (n : ℕ) (s t : List ℕ) : Type 0 where
+  pub holds : Holds R t n
+  pub beyond : Beyond n s t

@@ -1,0 +1,237 @@
+// The rows of the lent work: a row for each rule, which begins with the rule itself.
+ghost use mathlib.Core.Path.{_≡_};
+ghost use Prim.Native.Nat.{_+_, _-_, _*_, _≤_};
+ghost use lib.ListN.{length};
+ghost use Rattle.record.specs.Record.{recordLength, wordLength};
+ghost use Rattle.rule.specs.Rule.{ruleOf, rulesIn};
+ghost use Rattle.record.specs.Records.{recordsFrom};
+ghost use Rattle.plan.specs.Check.{trailerLength};
+ghost use Rattle.forest.specs.Outcome.{workWords, enoughWork, cleared};
+ghost use Rattle.work_rows.specs.Rows.{workLength, rowLength, ownEnd, field, putField, rowOf, ruleFrom, rowIn, putRow, ruleIn, Stored, Loaded};
+use plan::Trailer;
+use record::Record;
+use rule::Decoded;
+use rule::Rule;
+
+// What a row keeps of its rule: the kind, the label and the rules named.
+pub struct Row {
+    kind: u16,
+    label: u32,
+    one: u16,
+    two: u16,
+}
+
+// A field of 16 bits at an offset of a row.
+pub fn field16(work: &[u8], r: u16, offset: usize) -> u16
+    requires { ⌜ rowLength * r + offset + 2 ≤ length (now work) ⌝ }
+    ensures { λ v. ⌜ v ≡ field 2 (now (work .entry)) r offset ⌝ }
+{
+    words::read16(work, Row::LENGTH * (r as usize) + offset)
+}
+
+// A field of 32 bits at an offset of a row.
+fn field32(work: &[u8], r: u16, offset: usize) -> u32
+    requires { ⌜ rowLength * r + offset + 4 ≤ length (now work) ⌝ }
+    ensures { λ v. ⌜ v ≡ field 4 (now (work .entry)) r offset ⌝ }
+{
+    words::read32(work, Row::LENGTH * (r as usize) + offset)
+}
+
+// A number into a field of 16 bits.
+pub fn put16(work: &mut [u8], r: u16, offset: usize, v: u16)
+    requires { ⌜ rowLength * r + offset + 2 ≤ length (now work) ⌝ }
+    ensures { λ x. ⌜ now (work .exit) ≡ putField 2 (now (work .entry)) r offset v ⌝ }
+{
+    words::write16(work, Row::LENGTH * (r as usize) + offset, v);
+}
+
+// A number into a field of 32 bits.
+fn put32(work: &mut [u8], r: u16, offset: usize, v: u32)
+    requires { ⌜ rowLength * r + offset + 4 ≤ length (now work) ⌝ }
+    ensures { λ x. ⌜ now (work .exit) ≡ putField 4 (now (work .entry)) r offset v ⌝ }
+{
+    words::write32(work, Row::LENGTH * (r as usize) + offset, v);
+}
+
+impl Row {
+    // Bytes of a row.
+    pub const LENGTH: usize = 48;
+
+    // Where a row keeps its rule.
+    const KIND: usize = 0;
+
+    const LABEL: usize = 2;
+
+    const ONE: usize = 6;
+
+    const TWO: usize = 8;
+
+    // A row with these words.
+    fn with(kind: u16, label: u32, one: u16, two: u16) -> Row
+        ensures { λ w. ⌜ w ≡ record { kind = kind; label = label; one = one; two = two } ⌝ }
+    {
+        Row {
+            kind,
+            label,
+            one,
+            two,
+        }
+    }
+
+    // What a row keeps of a rule.
+    fn of(rule: Rule) -> Row
+        ensures { λ w. ⌜ w ≡ rowOf rule ⌝ }
+    {
+        match rule {
+            Rule::Empty => Row::with(Rule::EMPTY, 0, 0, 0),
+            Rule::Pair { first, second } => Row::with(Rule::PAIR, 0, first, second),
+            Rule::Node { label, under } => Row::with(Rule::NODE, label, under, 0),
+            Rule::Fill { outer, inner } => Row::with(Rule::FILL, 0, outer, inner),
+            Rule::Part { label, left, right } => Row::with(Rule::PART, label, left, right),
+            Rule::Join { outer, inner } => Row::with(Rule::JOIN, 0, outer, inner),
+        }
+    }
+
+    // The rule that a row keeps.
+    fn rule(self) -> Rule
+        ensures { λ x. ⌜ x ≡ ruleFrom self ⌝ }
+    {
+        let kind = self.kind;
+        if kind == Rule::PAIR {
+            return Rule::Pair {
+                first: self.one,
+                second: self.two,
+            };
+        }
+        if kind == Rule::NODE {
+            return Rule::Node {
+                label: self.label,
+                under: self.one,
+            };
+        }
+        if kind == Rule::FILL {
+            return Rule::Fill {
+                outer: self.one,
+                inner: self.two,
+            };
+        }
+        if kind == Rule::PART {
+            return Rule::Part {
+                label: self.label,
+                left: self.one,
+                right: self.two,
+            };
+        }
+        if kind == Rule::JOIN {
+            return Rule::Join {
+                outer: self.one,
+                inner: self.two,
+            };
+        }
+        Rule::Empty
+    }
+
+    // What row r keeps of its rule.
+    fn read(work: &[u8], r: u16) -> Row
+        requires { ⌜ rowLength * r + ownEnd ≤ length (now work) ⌝ }
+        ensures { λ w. ⌜ w ≡ rowIn (now (work .entry)) r ⌝ }
+    {
+        Row {
+            kind: field16(work, r, Row::KIND),
+            label: field32(work, r, Row::LABEL),
+            one: field16(work, r, Row::ONE),
+            two: field16(work, r, Row::TWO),
+        }
+    }
+
+    // The four fields into row r.
+    fn write(self, work: &mut [u8], r: u16)
+        requires { ⌜ rowLength * r + ownEnd ≤ length (now work) ⌝ }
+        ensures { λ x. ⌜ now (work .exit) ≡ putRow (now (work .entry)) r self ⌝ }
+    {
+        put16(work, r, Row::KIND, self.kind);
+        put32(work, r, Row::LABEL, self.label);
+        put16(work, r, Row::ONE, self.one);
+        put16(work, r, Row::TWO, self.two);
+    }
+}
+
+// The rule kept in row r.
+pub fn rule_at(work: &[u8], r: u16) -> Rule
+    requires { ⌜ rowLength * (r + 1) ≤ length (now work) ⌝ }
+    ensures { λ x. ⌜ x ≡ ruleIn (now (work .entry)) r ⌝ }
+{
+    Row::read(work, r).rule()
+}
+
+// A rule into row r.
+fn put_rule(work: &mut [u8], r: u16, rule: Rule)
+    requires { ⌜ rowLength * (r + 1) ≤ length (now work) ⌝ }
+    ensures { λ x. ⌜ Stored r rule (now (work .entry)) (now (work .exit)) ⌝ }
+{
+    Row::of(rule).write(work, r);
+}
+
+// The rule that a record means, and the empty rule where it means none.
+fn rule_of(d: Decoded) -> Rule
+    ensures { λ x. ⌜ x ≡ ruleOf d ⌝ }
+{
+    match d {
+        Decoded::Whole(rule) => rule,
+        Decoded::Malformed => Rule::Empty,
+    }
+}
+
+// The plan's n rules, whose records begin at first, into the rows of work.
+fn load(plan: &[u8], first: usize, n: u16, work: &mut [u8])
+    requires { ⌜ (first + recordLength * n ≤ length (now plan)) × (rowLength * n ≤ length (now work)) ⌝ }
+    ensures { λ x. ⌜ Loaded (rulesIn (recordsFrom (now (plan .entry)) first n)) n (now (work .entry)) (now (work .exit)) ⌝ }
+{
+    let mut i: u16 = 0;
+    while i < n {
+        let record = Record::read(plan, first + Record::LENGTH * (i as usize));
+        put_rule(work, i, rule_of(Rule::decode(record)));
+        i += 1;
+    }
+}
+
+// Zeros into the first m bytes.
+pub fn clear(s: &mut [u8], m: usize)
+    requires { ⌜ m ≤ length (now s) ⌝ }
+    ensures { λ x. ⌜ now (s .exit) ≡ cleared m (now (s .entry)) ⌝ }
+{
+    let mut i: usize = 0;
+    while i < m {
+        s[i] = 0;
+        i += 1;
+    }
+}
+
+// The 16-bit words of work that a rule needs, and their bytes.
+const WORK_WORDS: usize = 32;
+
+pub const WORK_LENGTH: usize = 2 * WORK_WORDS;
+
+// Whether work has the words that n rules need.
+pub fn enough_work(work: &[u8], n: u16) -> bool
+    ensures { λ r. ⌜ r ≡ enoughWork n (now (work .entry)) ⌝ }
+{
+    WORK_WORDS * (n as usize) <= words::word_count(work)
+}
+
+// An accepted plan's n rules, which stand right before its trailer, into the rows of work.
+pub fn load_rules(plan: &[u8], work: &mut [u8], n: u16)
+    requires { ⌜ (recordLength * n + trailerLength ≤ length (now plan)) × (rowLength * n ≤ length (now work)) ⌝ }
+    ensures { λ x. ⌜ Loaded (rulesIn (recordsFrom (now (plan .entry)) (length (now (plan .entry)) - trailerLength - recordLength * n) n)) n (now (work .entry)) (now (work .exit)) ⌝ }
+{
+    let first = plan.len() - Trailer::LENGTH - Record::LENGTH * (n as usize);
+    load(plan, first, n, work);
+}
+
+// Zeros into the words of work that n rules need.
+pub fn clear_work(work: &mut [u8], n: u16)
+    requires { ⌜ workLength * n ≤ length (now work) ⌝ }
+    ensures { λ x. ⌜ now (work .exit) ≡ cleared (wordLength * workWords n) (now (work .entry)) ⌝ }
+{
+    clear(work, WORK_LENGTH * (n as usize));
+}
