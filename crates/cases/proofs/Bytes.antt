@@ -4,7 +4,7 @@ use Prim.Native.Nat.{ℕ}
 use mathlib.Core.Path.{_≡_, refl}
 use mathlib.Core.List.{List, [], _∷_}
 use lib.ListN.{take}
-use Rattle.forest.proofs.Starred.{sample}
+use Rattle.forest.specs.Sample.{sample}
 use Rattle.words.specs.Front.{inFront}
 use Rattle.cases.specs.Walks.{answered, stood}
 use Rattle.plan.specs.Check.{rulesOf, checked}

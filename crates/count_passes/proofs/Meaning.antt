@@ -8,7 +8,7 @@ use Rattle.forest.specs.Expression.{Expression}
 use Rattle.forest.specs.Algebra.{value}
 use Rattle.forest.specs.Forest.{Forest, trees, count, weigh, one, levels, text}
 use Rattle.forest.specs.Outcome.{entry}
-use Rattle.forest.proofs.Good.{Sort, Good}
+use Rattle.forest.specs.Good.{Sort, Good}
 use Rattle.forest.proofs.Counts.{count-pair, weigh-pair, levels-pair, text-pair, weigh-node, levels-node, text-node, weigh-part, levels-part, holeDepth, holeDepth-part, holeDepth-join, weigh-fill, levels-fill, count-tree, count-spine, text-fill, before as textBefore, after as textAfter}
 use Rattle.count_passes.specs.Recurrence.{nodesIn, treesIn, depthIn, levelsIn}
 use Rattle.count_passes.specs.Says.{whole, before, after, opening, closing, says}

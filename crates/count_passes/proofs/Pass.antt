@@ -8,8 +8,7 @@ use mathlib.Core.List.{List}
 use lib.ListN.{length}
 use lib.Dec.{T, ltb}
 use Rattle.rule.specs.declared.Rule.{Rule}
-use Rattle.rule.specs.Rule.{every}
-use Rattle.forest.proofs.Unfold.{Names}
+use Rattle.rule.specs.Rule.{every, Names}
 use Rattle.work_rows.specs.Rows.{rowLength, ownEnd, field, putField, ruleIn}
 use Rattle.count_passes.specs.declared.Tally.{Tally}
 use Rattle.count_capped.specs.Count.{capped, countLength}

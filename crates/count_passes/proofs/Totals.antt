@@ -7,7 +7,7 @@ use mathlib.Core.List.{List}
 use Rattle.forest.specs.Expression.{Expression}
 use Rattle.forest.specs.Algebra.{value}
 use Rattle.forest.specs.Forest.{trees, count, weigh, levels}
-use Rattle.forest.proofs.Good.{Sort, Good}
+use Rattle.forest.specs.Good.{Sort, Good}
 use Rattle.work_rows.specs.Rows.{field}
 use Rattle.count_capped.specs.declared.Count.{Count}
 use Rattle.count_passes.specs.declared.Tally.{Tally}

@@ -10,7 +10,7 @@ use Rattle.rule.specs.Sound.{rule}
 use Rattle.plan.proofs.Sound.{Plan, checked-plan}
 use Rattle.forest.specs.Expression.{expression}
 use Rattle.forest.proofs.Unfold.{unfolding-equation, closed-row}
-use Rattle.forest.proofs.Good.{Sort, Good}
+use Rattle.forest.specs.Good.{Sort, Good}
 use Rattle.work_rows.specs.Rows.{workLength, ruleIn, Holds, Loaded}
 use Rattle.work_rows.proofs.Work.{enough-room}
 use Rattle.work_load.specs.Prepared.{Loads, Prepared}

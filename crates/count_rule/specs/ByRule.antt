@@ -6,7 +6,7 @@ use lib.ListN.{length}
 use Rattle.rule.specs.declared.Rule.{Rule}
 use Rattle.forest.specs.Forest.{one}
 use Rattle.forest.specs.Outcome.{entry}
-use Rattle.forest.proofs.Unfold.{Names}
+use Rattle.rule.specs.Rule.{Names}
 use Rattle.work_rows.specs.Rows.{rowLength}
 use Rattle.count_rule.specs.declared.Weight.{Weight}
 use Rattle.count_capped.specs.Count.{countLength}

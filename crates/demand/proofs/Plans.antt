@@ -11,7 +11,7 @@ use Rattle.plan.proofs.Sound.{Plan, accepted-plan}
 use Rattle.forest.specs.Expression.{expression}
 use Rattle.forest.specs.Forest.{forest}
 use Rattle.forest.specs.Place.{Placed, placedOf, placedForest}
-use Rattle.forest.proofs.Good.{Sort, Good}
+use Rattle.forest.specs.Good.{Sort, Good}
 use Rattle.forest.proofs.Unfold.{unfolding-equation, ruleNumber-expression, expression-known, closed-row}
 use Rattle.forest.proofs.Each.{each-labelAt}
 use Rattle.forest.proofs.Forget.{placedForest-forgets}

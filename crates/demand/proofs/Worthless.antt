@@ -17,7 +17,7 @@ use Rattle.forest.specs.Letter.{letterOf}
 use Rattle.forest.specs.Reference.{labelAt, answers, pathAfter}
 use Rattle.forest.specs.Outcome.{enoughWork}
 use Rattle.forest.specs.Walk.{nowhere, cursorWords, enoughLent, andLetters, lettersOf, otherAt, firstOther, cellAt, cellsIn, usedCells, headed, sameCell, sameCells, firstOf, nodeWith, pathOf, stored, placeJudged, lettersJudged, begunFrom, begun, walked, cellsOf, placeAt, cellBytes, cellsBytes, padded, storedCursor, cursorAfter, answerWord, wordsBytes, answersAfter, walkedWork}
-use Rattle.forest.proofs.Starred.{sample}
+use Rattle.forest.specs.Sample.{sample}
 use Rattle.demand.specs.Calls.{Lent, Left, Walk, Call, walkOf, lent, lefts, cursorAfterCalls}
 use Rattle.demand.specs.Demand.{turnedDown, isNone, isRefused, refusals, fingerPath, fingerAnswers, wordsFrom, walkAnswers, Above, Meets, Demand3}
 

@@ -20,6 +20,13 @@ pub record Left : Type 0 where
   pub cursor : List ℕ
   pub answers : List ℕ
 
+-- a call of the code: what it is lent, and what it answers and leaves
+abbrev pub lends : List ℕ → List ℕ → List ℕ → List ℕ → List ℕ → Lent
+lends plan work cursor letters given = record { plan = plan; work = work; cursor = cursor; letters = letters; answers = given }
+
+abbrev pub leaves : Walked → List ℕ → List ℕ → List ℕ → Left
+leaves x work cursor given = record { answer = x; work = work; cursor = cursor; answers = given }
+
 abbrev pub Walk : Type 0
 Walk = Lent → Left
 

@@ -3,9 +3,10 @@ use Prim.Native.Nat.{ℕ, _<_}
 use mathlib.Core.List.{List}
 use lib.Dec.{ltb, ltb→lt}
 use Rattle.rule.specs.declared.Rule.{Rule}
-use Rattle.forest.specs.Place.{Side}
-use Rattle.forest.proofs.Position.{pick, picked}
-use Rattle.forest.proofs.Unfold.{Names, every-named}
+use Rattle.forest.specs.Place.{Side, pick}
+use Rattle.forest.proofs.Sides.{picked}
+use Rattle.rule.specs.Rule.{Names}
+use Rattle.rule.proofs.Names.{every-named}
 use Rattle.facts.specs.Facts.{In}
 use Rattle.facts.specs.Build.{Steps, Made, Pairs, Ready}
 

@@ -5,8 +5,7 @@ use mathlib.Core.List.{List}
 use lib.Dec.{T, eqb, ltb}
 use Rattle.rule.specs.declared.Rule.{Rule}
 use Rattle.rule.specs.Rule.{every}
-use Rattle.forest.specs.Place.{Side}
-use Rattle.forest.proofs.Position.{pick}
+use Rattle.forest.specs.Place.{Side, pick}
 use Rattle.facts.specs.declared.Link.{Link}
 use Rattle.facts.specs.Facts.{linkIn, factsIn, In, Below}
 

@@ -7,7 +7,8 @@ use mathlib.Core.List.{List}
 use lib.ListN.{length}
 use Rattle.rule.specs.declared.Rule.{Rule}
 use Rattle.rule.specs.Sound.{rule, Sound}
-use Rattle.forest.proofs.Unfold.{Names, named-falls}
+use Rattle.forest.proofs.Unfold.{named-falls}
+use Rattle.rule.specs.Rule.{Names}
 use Rattle.facts_build.specs.declared.RuleFacts.{RuleFacts}
 use Rattle.work_rows.specs.Rows.{rowLength, ownEnd, ruleIn, Holds, Within}
 use Rattle.facts.specs.Facts.{factsEnd, Below, Built, kept}

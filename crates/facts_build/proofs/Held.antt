@@ -13,9 +13,10 @@ use borrow.Author.Tests.{ltb-true, eqb-true}
 use Rattle.rule.specs.declared.Rule.{Rule}
 use Rattle.rule.specs.Sound.{rule, Sound}
 use Rattle.forest.specs.Expression.{rhs, expression}
-use Rattle.forest.specs.Place.{Side, isEmpty, representative}
-use Rattle.forest.proofs.Position.{pick, picked}
-use Rattle.forest.proofs.Unfold.{Names, unfolding-equation}
+use Rattle.forest.specs.Place.{Side, isEmpty, representative, pick}
+use Rattle.forest.proofs.Sides.{picked}
+use Rattle.forest.proofs.Unfold.{unfolding-equation}
+use Rattle.rule.specs.Rule.{Names}
 use Rattle.model.specs.Facts.{Facts, factsOf}
 use Rattle.facts.specs.declared.Link.{Link}
 use Rattle.facts_build.specs.declared.RuleFacts.{RuleFacts}

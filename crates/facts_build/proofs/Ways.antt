@@ -10,9 +10,10 @@ use lib.ListN.{length}
 use Rattle.rule.specs.declared.Rule.{Rule}
 use Rattle.rule.specs.Sound.{rule, Sound}
 use Rattle.forest.specs.Expression.{Expression, rhs, expression, ruleNumber}
-use Rattle.forest.specs.Place.{Side, isEmpty, representative}
-use Rattle.forest.proofs.Position.{pick, picked}
-use Rattle.forest.proofs.Unfold.{Names, named-below, named-falls, by-rank, unfolding-equation, ruleNumber-expression}
+use Rattle.forest.specs.Place.{Side, isEmpty, representative, pick}
+use Rattle.forest.proofs.Sides.{picked}
+use Rattle.forest.proofs.Unfold.{named-below, named-falls, by-rank, unfolding-equation, ruleNumber-expression}
+use Rattle.rule.specs.Rule.{Names}
 use Rattle.model.specs.Facts.{Facts, toward, last, depth, factsOf}
 use Rattle.forest.proofs.Cases.{by-bool}
 use Rattle.model.proofs.Fit.{pick-map}

@@ -13,12 +13,12 @@ use lib.Dec.{eqb}
 use borrow.Author.Tests.{eq-eqb}
 use Rattle.rule.specs.declared.Rule.{Rule}
 use Rattle.rule.specs.Sound.{Sound, Closed}
-use Rattle.forest.specs.Expression.{Expression, expression, ruleNumber}
+use Rattle.forest.specs.Expression.{Expression, expression, ruleNumber, height}
 use Rattle.forest.specs.Forest.{Forest, append}
 use Rattle.forest.specs.Place.{Cells, Side, Placed, cellRow, cellSpine, cellRun, rowOfNode, rowOfPart, isEmpty, representative, step, placed, placedOf, placedForest}
 use Rattle.forest.specs.Reference.{Path, labelAt}
-use Rattle.forest.proofs.Good.{Sort, Good}
-use Rattle.forest.proofs.Unfold.{height, height-rank, closed-row}
+use Rattle.forest.specs.Good.{Sort, Good}
+use Rattle.forest.proofs.Unfold.{height-rank, closed-row}
 use Rattle.forest.proofs.Each.{Each, each-append, each-weaken, each-labelAt}
 
 -- a step adds one cell or none

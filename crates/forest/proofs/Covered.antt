@@ -6,10 +6,10 @@ use mathlib.Core.Bool.{true, false}
 use mathlib.Core.Option.{some, Option·none-ne-some, Option·some-injective}
 use Rattle.forest.specs.Expression.{Expression}
 use Rattle.forest.specs.Forest.{Forest, append}
-use Rattle.forest.specs.Place.{Side, isEmpty}
+use Rattle.forest.specs.Place.{Side, isEmpty, pick}
 use Rattle.forest.specs.Reference.{Path, labelAt}
-use Rattle.forest.proofs.Good.{Sort, Good}
-use Rattle.forest.proofs.Position.{Position, Located, pick, located, locatedOf, lastPart, continues, Where, At}
+use Rattle.forest.specs.Good.{Sort, Good}
+use Rattle.forest.specs.Position.{Position, Located, located, locatedOf, lastPart, continues, Where, At}
 use Rattle.forest.proofs.Inside.{Inside, inside-all, inside-side, inside-below, inside-node}
 use Rattle.forest.proofs.Rows.{located-right-only, located-left-only, located-pair}
 

@@ -7,8 +7,8 @@ use Rattle.forest.specs.Expression.{Expression}
 use Rattle.forest.specs.Place.{Side, placedOf}
 use Rattle.forest.specs.Letter.{Letter}
 use Rattle.forest.specs.Reference.{Path, labelAt, answer, moved, pathAfter}
-use Rattle.forest.proofs.Good.{Sort, Good}
-use Rattle.forest.proofs.Position.{Position, locatedOf, enter, child, sibling, parent}
+use Rattle.forest.specs.Good.{Sort, Good}
+use Rattle.forest.specs.Position.{Position, locatedOf, enter, child, sibling, parent}
 use Rattle.forest.proofs.Relabel.{labelAt-relabel, answer-relabel, moved-relabel, pathAfter-relabel}
 use Rattle.forest.proofs.Neighbours.{neighbour, answer-neighbour, answer-edge}
 use Rattle.forest.proofs.Knows.{located-knows, located-root}

@@ -5,10 +5,9 @@ use mathlib.Core.Path.{_≡_, sym, _∙_, ap}
 use mathlib.Core.List.{[], _∷_}
 use mathlib.Core.Option.{some}
 use Rattle.forest.specs.Forest.{Forest, append}
-use Rattle.forest.specs.Place.{Side}
+use Rattle.forest.specs.Place.{Side, pick}
 use Rattle.forest.specs.Reference.{Path, later, from, below, top, childrenAt, labelAt}
 use Rattle.forest.proofs.Append.{append-none, append-append}
-use Rattle.forest.proofs.Position.{pick}
 use Rattle.forest.proofs.Neighbours.{later-one}
 
 module _ {A : Type 0} where

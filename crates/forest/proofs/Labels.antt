@@ -5,13 +5,13 @@ use mathlib.Core.List.{List}
 use lib.ListN.{length}
 use lib.Dec.{T, leb→le}
 use Rattle.rule.specs.declared.Rule.{Rule}
-use Rattle.rule.specs.Rule.{labelled, largestLabel}
+use Rattle.rule.specs.Rule.{labelled, largestLabel, Names}
 use Rattle.rule.specs.Sound.{rule, Sound}
 use Rattle.forest.specs.Expression.{Expression, rhs, expression}
 use Rattle.forest.specs.Algebra.{Hedge, x, _·_, _⟨_⟩, single, value}
 use Rattle.forest.specs.Forest.{trees, forest}
 use Rattle.forest.specs.Place.{Placed, placedForest}
-use Rattle.forest.proofs.Unfold.{Names, by-rank, unfolding-equation}
+use Rattle.forest.proofs.Unfold.{by-rank, unfolding-equation}
 use Rattle.forest.proofs.Each.{Each, each-append, relabel-each}
 use Rattle.forest.proofs.Forget.{trees-concat, label, placedForest-forgets}
 

@@ -1,4 +1,3 @@
-pub mod Good
 pub mod Unfold
 pub mod Values
 pub mod Append
@@ -8,7 +7,7 @@ pub mod Bound
 pub mod Counts
 pub mod Labels
 pub mod Sample
-pub mod Position
+pub mod Sides
 pub mod Cases
 pub mod Steps
 pub mod Relabel

@@ -6,10 +6,9 @@ use mathlib.Core.Path.{_≡_, refl, sym, _∙_, ap}
 use mathlib.Core.List.{[], _∷_}
 use mathlib.Core.Option.{Option, some, Option·none-ne-some, Option·some-injective}
 use Rattle.forest.specs.Forest.{Forest, append}
-use Rattle.forest.specs.Place.{Side}
+use Rattle.forest.specs.Place.{Side, orElse, pick}
 use Rattle.forest.specs.Letter.{Letter}
 use Rattle.forest.specs.Reference.{Path, later, from, below, top, childrenAt, labelAt, endOf, tried, answer}
-use Rattle.forest.proofs.Position.{orElse, pick}
 
 pub or-none : {A : Type 0} (x : Option A) → orElse x Option.none ≡ x
 unfolding orElse

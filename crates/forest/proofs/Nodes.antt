@@ -5,10 +5,10 @@ use mathlib.Core.Path.{_≡_, refl}
 use mathlib.Core.Option.{some}
 use Rattle.forest.specs.Expression.{Expression}
 use Rattle.forest.specs.Forest.{Forest, append}
-use Rattle.forest.specs.Place.{Side, isEmpty}
+use Rattle.forest.specs.Place.{Side, isEmpty, pick}
 use Rattle.forest.specs.Reference.{Path, labelAt}
-use Rattle.forest.proofs.Good.{Sort, Good}
-use Rattle.forest.proofs.Position.{Position, Located, pick, located, locatedOf, lastPart, continues, Where, At}
+use Rattle.forest.specs.Good.{Sort, Good}
+use Rattle.forest.specs.Position.{Position, Located, located, locatedOf, lastPart, continues, Where, At}
 use Rattle.forest.proofs.Cases.{by-bool}
 use Rattle.forest.proofs.Each.{Each, each-append, each-labelAt}
 use Rattle.forest.proofs.Rows.{located-right-only, located-left-only, located-pair}

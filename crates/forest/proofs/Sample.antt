@@ -9,7 +9,7 @@ use lib.Dec.{T, ltb}
 use Rattle.rule.specs.declared.Rule.{Rule}
 use Rattle.rule.specs.Rule.{every, sorts, closed, labelled}
 use Rattle.rule.specs.Sound.{rule, kindIn, Sound, Closed}
-use Rattle.forest.proofs.Unfold.{T-left, T-right}
+use Rattle.rule.proofs.Names.{T-left, T-right}
 
 -- "0 empty; 1 node 97 over 0; 2 node 98 over 0; 3 pair 1 2; 4 node 99 over 3, hole, 2; 5 = 4 filled by 4; 6 = 5 filled by 1;
 -- 7 pair 6 3"

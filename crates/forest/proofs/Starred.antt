@@ -18,17 +18,11 @@ use Rattle.words.specs.Front.{inFront}
 use Rattle.forest.specs.declared.Measured.{Measured}
 use Rattle.forest.specs.Place.{Cells, placedForest}
 use Rattle.forest.specs.Forest.{forest}
+use Rattle.forest.specs.Sample.{sample}
 use Rattle.forest.specs.Reference.{labelAt, answers, pathAfter}
 use Rattle.forest.specs.Outcome.{measured, spread, spreadOutput, enoughWork}
 use Rattle.forest.specs.Letter.{letterOf}
 use Rattle.forest.specs.Walk.{nowhere, cursorWords, enoughLent, andLetters, lettersOf, otherAt, firstOther, cellAt, cellsIn, usedCells, headed, sameCell, sameCells, firstOf, nodeWith, pathOf, stored, placeJudged, lettersJudged, begunFrom, begun, walked, cellsOf, placeAt, cellBytes, cellsBytes, padded, storedCursor, cursorAfter, answerWord, wordsBytes, answersAfter, walkedWork}
-
--- the sample plan, 74 bytes
-abbrev pub sample : List ℕ
-sample =
-    0 ∷ 0 ∷ 0 ∷ 0 ∷ 0 ∷ 0 ∷ 0 ∷ 0 ∷ 2 ∷ 0 ∷ 97 ∷ 0 ∷ 0 ∷ 0 ∷ 0 ∷ 0 ∷ 2 ∷ 0 ∷ 98 ∷ 0 ∷ 0 ∷ 0 ∷ 0 ∷ 0
-    ∷ 1 ∷ 0 ∷ 1 ∷ 0 ∷ 2 ∷ 0 ∷ 0 ∷ 0 ∷ 4 ∷ 0 ∷ 99 ∷ 0 ∷ 3 ∷ 0 ∷ 2 ∷ 0 ∷ 5 ∷ 0 ∷ 4 ∷ 0 ∷ 4 ∷ 0 ∷ 0 ∷ 0
-    ∷ 3 ∷ 0 ∷ 5 ∷ 0 ∷ 1 ∷ 0 ∷ 0 ∷ 0 ∷ 1 ∷ 0 ∷ 6 ∷ 0 ∷ 3 ∷ 0 ∷ 0 ∷ 0 ∷ 8 ∷ 0 ∷ 7 ∷ 0 ∷ 64 ∷ 0 ∷ 0 ∷ 0 ∷ 109 ∷ 112 ∷ []
 
 -- a plan's bytes from its rules and start
 abbrev plan : List Rule → ℕ → List ℕ

@@ -9,44 +9,11 @@ use mathlib.Core.List.{List}
 use lib.ListN.{length}
 use lib.Dec.{T, ltb, ltb→lt}
 use Rattle.rule.specs.declared.Rule.{Rule}
-use Rattle.rule.specs.Rule.{encode, every, sorts, closed, holed, tree}
+use Rattle.rule.specs.Rule.{encode, every, sorts, closed, holed, tree, Names, node-one, pair-one, part-one, fill-one, pair-two, fill-two, part-two, join-one, join-two}
 use Rattle.rule.specs.Sound.{rule, kindIn, Sound, Closed}
-use Rattle.forest.specs.Expression.{Expression, rhs, unfolded, expression, Unfolding, ruleNumber}
-use Rattle.forest.proofs.Good.{Sort, Good, Known}
-
--- the parts of a test that both pass
-pub T-left : (p q : Bool) → T (p && q) → T p
-T-left true q t = tt
-T-left false q t = t
-
-pub T-right : (p q : Bool) → T (p && q) → T q
-T-right true q t = t
-T-right false q t = absurd t
-
--- the rule names rule k
-pub data Names : Rule → ℕ → Type 0 where
-  pair-one : {b c : ℕ} → Names (Rule.Pair b c) b
-  pair-two : {b c : ℕ} → Names (Rule.Pair b c) c
-  node-one : {a c : ℕ} → Names (Rule.Node a c) c
-  fill-one : {b c : ℕ} → Names (Rule.Fill b c) b
-  fill-two : {b c : ℕ} → Names (Rule.Fill b c) c
-  part-one : {a b c : ℕ} → Names (Rule.Part a b c) b
-  part-two : {a b c : ℕ} → Names (Rule.Part a b c) c
-  join-one : {b c : ℕ} → Names (Rule.Join b c) b
-  join-two : {b c : ℕ} → Names (Rule.Join b c) c
-
--- what every named rule passes, each of them passes
-pub every-named : (p : ℕ → Bool) {x : Rule} {k : ℕ} → Names x k → T (every p x) → T (p k)
-unfolding every
-every-named p (pair-one {b} {c}) t = T-left (p b) (p c) t
-every-named p (pair-two {b} {c}) t = T-right (p b) (p c) t
-every-named p node-one t = t
-every-named p (fill-one {b} {c}) t = T-left (p b) (p c) t
-every-named p (fill-two {b} {c}) t = T-right (p b) (p c) t
-every-named p (part-one {a} {b} {c}) t = T-left (p b) (p c) t
-every-named p (part-two {a} {b} {c}) t = T-right (p b) (p c) t
-every-named p (join-one {b} {c}) t = T-left (p b) (p c) t
-every-named p (join-two {b} {c}) t = T-right (p b) (p c) t
+use Rattle.rule.proofs.Names.{T-left, T-right, every-named}
+use Rattle.forest.specs.Expression.{Expression, rhs, unfolded, expression, Unfolding, ruleNumber, height}
+use Rattle.forest.specs.Good.{Sort, Good, Known}
 
 -- a right-hand side asks for the named rules only
 pub rhs-same : (r : ℕ) (x : Rule) (f g : ℕ → Expression) → ((k : ℕ) → Names x k → f k ≡ g k) → rhs r x f ≡ rhs r x g
@@ -203,15 +170,6 @@ module _ {R : List Rule} {rank : ℕ → ℕ} (S : Sound R rank) where
 
   pub closed-row : {r : ℕ} → Closed R r → Good Sort.row (expression R r)
   closed-row {r} c = expression-good r (c .below) Sort.row (c .closed-kind)
-
--- how deep right-hand sides are applied in an expression
-unfoldable pub height : Expression → ℕ
-height (Expression.empty r) = 0
-height (Expression.pair r b c) = suc (max (height b) (height c))
-height (Expression.node r a c) = suc (height c)
-height (Expression.fill r b c) = suc (max (height b) (height c))
-height (Expression.part r a b c) = suc (max (height b) (height c))
-height (Expression.join r b c) = suc (max (height b) (height c))
 
 -- the higher of two that are lower than n
 under-both : {a b n : ℕ} → a < n → b < n → suc (max a b) ≤ n

@@ -12,7 +12,7 @@ use Rattle.rule.specs.Sound.{Sound, Closed}
 use Rattle.forest.specs.Expression.{Expression, expression}
 use Rattle.forest.specs.Algebra.{Hedge, x, _·_, _⟨_⟩, single, value, holes}
 use Rattle.forest.specs.Forest.{Forest, trees, forest}
-use Rattle.forest.proofs.Good.{Sort, Good}
+use Rattle.forest.specs.Good.{Sort, Good}
 use Rattle.forest.proofs.Unfold.{rule-good, closed-row}
 
 -- concatenation: a monoid

@@ -1,6 +1,6 @@
 -- A rule as an expression over the forest algebra (document 003, section 2.1: a variable's right-hand side is applied until
 -- no variable is left). The rule's number is kept at each step.
-use Prim.Native.Nat.{ℕ, zero, suc, _<_}
+use Prim.Native.Nat.{ℕ, zero, suc, _<_, max}
 use mathlib.Core.Path.{_≡_}
 use mathlib.Core.List.{List}
 use lib.ListN.{length}
@@ -49,3 +49,12 @@ ruleNumber (node r a c) = r
 ruleNumber (fill r b c) = r
 ruleNumber (part r a b c) = r
 ruleNumber (join r b c) = r
+
+-- how deep right-hand sides are applied in an expression
+unfoldable pub height : Expression → ℕ
+height (empty r) = 0
+height (pair r b c) = suc (max (height b) (height c))
+height (node r a c) = suc (height c)
+height (fill r b c) = suc (max (height b) (height c))
+height (part r a b c) = suc (max (height b) (height c))
+height (join r b c) = suc (max (height b) (height c))

@@ -7,3 +7,6 @@ pub mod Reference
 pub mod Reason
 pub mod Outcome
 pub mod Walk
+pub mod Good
+pub mod Position
+pub mod Sample

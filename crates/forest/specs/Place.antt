@@ -2,6 +2,7 @@
 use Prim.Native.Nat.{ℕ, _-_}
 use mathlib.Core.Bool.{Bool, true, false, cond, _&&_}
 use mathlib.Core.List.{List, [], _∷_}
+use mathlib.Core.Option.{Option, none, some}
 use lib.ListN.{length, drop}
 use lib.Dec.{eqb}
 use Rattle.rule.specs.declared.Rule.{Rule}
@@ -26,6 +27,15 @@ cellSpine = 2
 pub data Side : Type 0 where
   left : Side
   right : Side
+
+-- the other side, and the one of two that stands on a side
+unfoldable pub other : Side → Side
+other left = right
+other right = left
+
+unfoldable pub pick : {A : Type 0} → Side → A → A → A
+pick left b c = b
+pick right b c = c
 
 -- "(3, A, B, 0) is a longest run of one or more left steps ..; (4, A, B, 0) the same of right steps"
 unfoldable pub cellRun : Side → ℕ
@@ -59,6 +69,11 @@ representative (Expression.node r a c) = r
 representative (Expression.fill r b c) = r
 representative (Expression.part r a b c) = r
 representative (Expression.join r b c) = r
+
+-- the first of two nodes that there is
+unfoldable pub orElse : {A : Type 0} → Option A → Option A → Option A
+orElse none y = y
+orElse (some x) y = some x
 
 -- one step from rule a to rule b: a run of the same direction on top grows, so that runs are longest; else a run begins
 unfoldable pub step : Side → ℕ → ℕ → Cells → Cells

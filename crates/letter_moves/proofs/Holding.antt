@@ -9,7 +9,7 @@ use Rattle.rule.specs.declared.Rule.{Rule}
 use Rattle.rule.specs.Rule.{every}
 use Rattle.rule.specs.Sound.{rule, Sound}
 use Rattle.forest.specs.Place.{Cells}
-use Rattle.forest.proofs.Unfold.{T-left, T-right}
+use Rattle.rule.proofs.Names.{T-left, T-right}
 use Rattle.model.specs.Facts.{Facts, factsOf}
 use Rattle.model.proofs.Ranged.{Numbers}
 use Rattle.facts.specs.Facts.{rowCount, In, factsIn}

@@ -11,10 +11,10 @@ use Rattle.rule.specs.Sound.{Sound, Closed}
 use Rattle.forest.specs.Expression.{expression}
 use Rattle.forest.specs.Place.{placedForest}
 use Rattle.forest.specs.Letter.{Letter}
-use Rattle.forest.proofs.Good.{Sort, Good}
+use Rattle.forest.specs.Good.{Sort, Good}
 use Rattle.forest.proofs.Unfold.{unfolding-equation, ruleNumber-expression, expression-known, closed-row}
 use Rattle.forest.proofs.Bound.{place-bound}
-use Rattle.forest.proofs.Position.{Located, cells, labelOf}
+use Rattle.forest.specs.Position.{Located, cells, labelOf}
 use Rattle.forest.proofs.Finger.{placed-labelAt}
 use Rattle.forest.proofs.Placed.{placedAs}
 use Rattle.forest.proofs.Covered.{at-node}
@@ -24,7 +24,8 @@ use Rattle.model.specs.Walk.{moved}
 use Rattle.model.proofs.Fit.{Fit}
 use Rattle.model.proofs.Rules.{Agrees, rules-fit, rules-inside}
 use Rattle.model.proofs.Ranged.{Every, Numbers, node-number, cell-numbers}
-use Rattle.model.proofs.Walk.{movedAt, Same, moved-same}
+use Rattle.model.proofs.Walk.{movedAt, moved-same}
+use Rattle.model.specs.Same.{Same}
 use Rattle.letter_moves.specs.Standing.{Valid}
 
 module _ {R : List Rule} {rank : ℕ → ℕ} (S : Sound R rank) {r : ℕ} (C : Closed R r) (F : Facts) (agrees : (k : ℕ) → k < length R → Agrees F R k) where

@@ -10,11 +10,11 @@ use Rattle.rule.specs.Sound.{Sound, Closed}
 use Rattle.forest.specs.Expression.{expression}
 use Rattle.forest.specs.Letter.{Letter}
 use Rattle.forest.specs.Walk.{cellLength, cellsIn, answerWord}
-use Rattle.forest.proofs.Position.{Located}
+use Rattle.forest.specs.Position.{Located}
 use Rattle.model.specs.Facts.{factsOf}
 use Rattle.model.specs.Model.{Node}
 use Rattle.model.specs.Walk.{answer, moved}
-use Rattle.model.proofs.Walk.{Same}
+use Rattle.model.specs.Same.{Same}
 use Rattle.work_rows.specs.Rows.{Within}
 use Rattle.facts.specs.Facts.{rowCount, factsIn, kept, Climbs}
 use Rattle.letter_arrival.specs.declared.Landing.{Landing}

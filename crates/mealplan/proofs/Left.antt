@@ -3,8 +3,7 @@ use Prim.Native.Nat.{ℕ}
 use mathlib.Core.Path.{_≡_, ap, _∙_}
 use mathlib.Core.List.{List}
 use Rattle.forest.specs.declared.Walked.{Walked}
-use Rattle.demand.specs.Calls.{Left}
-use Rattle.walk.specs.Calls.{leaves}
+use Rattle.demand.specs.Calls.{Left, leaves}
 use Rattle.c_result.specs.Interface.{walkedResult, walkedPosition}
 
 pub left-given : {x : Walked} {work cursor answers : List ℕ} {l : Left} {result position : ℕ} → leaves x work cursor answers ≡ l

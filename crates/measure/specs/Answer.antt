@@ -7,7 +7,7 @@ use Rattle.forest.specs.Expression.{Expression}
 use Rattle.forest.specs.Algebra.{value}
 use Rattle.forest.specs.Forest.{trees}
 use Rattle.forest.specs.Outcome.{counted}
-use Rattle.forest.proofs.Good.{Sort, Good}
+use Rattle.forest.specs.Good.{Sort, Good}
 use Rattle.work_rows.specs.Rows.{Beyond}
 use Rattle.count_passes.specs.Tally.{Unfolds}
 

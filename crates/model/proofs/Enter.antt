@@ -7,10 +7,10 @@ use mathlib.Core.Bool.{false, cond}
 use mathlib.Core.List.{_∷_}
 use mathlib.Core.Option.{Option, none, some, Option·map}
 use Rattle.forest.specs.Expression.{Expression, ruleNumber}
-use Rattle.forest.specs.Place.{Cells, Side, cellSpine, isEmpty, representative}
-use Rattle.forest.proofs.Good.{Sort}
-use Rattle.forest.proofs.Position as P
-use Rattle.forest.proofs.Position.{Position, Located, At, Where, cells, pick}
+use Rattle.forest.specs.Place.{Cells, Side, cellSpine, isEmpty, representative, pick}
+use Rattle.forest.specs.Good.{Sort}
+use Rattle.forest.specs.Position as P
+use Rattle.forest.specs.Position.{Position, Located, At, Where, cells}
 use Rattle.model.specs.Facts.{Facts, last, depth}
 use Rattle.model.specs.Model as M
 use Rattle.model.specs.Model.{Node, run}

@@ -11,8 +11,8 @@ use Rattle.forest.specs.Place.{Cell, Cells, placedOf}
 use Rattle.forest.specs.Letter.{Letter}
 use Rattle.forest.specs.Reference.{Path, labelAt, answer, moved, answers, pathAfter}
 use Rattle.forest.specs.Walk.{placeAt, pathOf}
-use Rattle.forest.proofs.Good.{Sort, Good}
-use Rattle.forest.proofs.Position.{Located, labelOf, locatedOf}
+use Rattle.forest.specs.Good.{Sort, Good}
+use Rattle.forest.specs.Position.{Located, labelOf, locatedOf}
 use Rattle.forest.proofs.Forget.{label}
 use Rattle.forest.proofs.Steps.{Named, moved-named}
 use Rattle.forest.proofs.Relabel.{answer-relabel, moved-relabel, pathAfter-relabel}
@@ -28,7 +28,8 @@ use Rattle.model.specs.Walk as model
 use Rattle.model.proofs.Fit.{Fit}
 use Rattle.model.proofs.Accepted.{accepts-node}
 use Rattle.model.proofs.Rebuilt.{NodeWith, accepted-node}
-use Rattle.model.proofs.Walk.{moveAt, answersAt, afterAt, cellsAt, Same, answers-are, cells-after, same-here}
+use Rattle.model.proofs.Walk.{moveAt, answersAt, afterAt, cellsAt, answers-are, cells-after, same-here}
+use Rattle.model.specs.Same.{Same}
 use Rattle.model.proofs.Paths.{answer-at, moved-at, place-cells, all-distinct}
 
 -- labels taken off one by one

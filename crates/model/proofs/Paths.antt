@@ -8,12 +8,12 @@ use mathlib.Core.Option.{Option, none, some, Option·map, Option·none-ne-some, 
 use lib.ListN.{length}
 use lib.Dec.{eqb}
 use Rattle.forest.specs.Expression.{Expression, ruleNumber}
-use Rattle.forest.specs.Place.{Cells, Placed, Side, cellRun, representative, step, placedOf, firstCells}
+use Rattle.forest.specs.Place.{Cells, Placed, Side, cellRun, representative, step, placedOf, firstCells, pick, orElse}
 use Rattle.forest.specs.Letter.{Letter, isRoot}
 use Rattle.forest.specs.Reference.{Path, labelAt, isAbove, answer, moved}
 use Rattle.forest.specs.Walk.{placeAt, cellsOf}
-use Rattle.forest.proofs.Good.{Sort, Good}
-use Rattle.forest.proofs.Position.{Position, Located, pick, orElse, cells, locatedOf}
+use Rattle.forest.specs.Good.{Sort, Good}
+use Rattle.forest.specs.Position.{Position, Located, cells, locatedOf}
 use Rattle.forest.proofs.Cases.{by-option}
 use Rattle.forest.proofs.Steps.{Named, moved-nowhere, answer-label}
 use Rattle.forest.proofs.Finger.{answer-root, answer-child, answer-sibling, answer-parent, answer-stay, placed-labelAt, placed-moved}
@@ -27,7 +27,8 @@ use Rattle.model.specs.Walk as model
 use Rattle.model.proofs.Fit.{Fit}
 use Rattle.model.proofs.Unique as places
 use Rattle.model.proofs.Near.{first-cells-stay}
-use Rattle.model.proofs.Walk.{moveAt, movedAt, cellsAt, Same, same-cells, moved-same}
+use Rattle.model.proofs.Walk.{moveAt, movedAt, cellsAt, same-cells, moved-same}
+use Rattle.model.specs.Same.{Same}
 
 -- a position has cells
 filled : Cells → Type 0

@@ -12,7 +12,7 @@ use Rattle.rule.specs.Rule.{every}
 use Rattle.rule.specs.Sound.{rule, Sound}
 use Rattle.forest.specs.Expression.{Expression, expression, ruleNumber, rhs}
 use Rattle.forest.specs.Place.{Side, isEmpty, representative}
-use Rattle.forest.proofs.Good.{Sort, Good, Known}
+use Rattle.forest.specs.Good.{Sort, Good, Known}
 use Rattle.model.specs.Facts.{Facts, toward, last, depth, factsOf}
 use Rattle.model.proofs.Fit.{Fit, Tells, shape}
 use Rattle.model.proofs.Ranged.{Every}

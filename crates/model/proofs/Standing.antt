@@ -6,9 +6,9 @@ use mathlib.Core.Path.{_≡_}
 use mathlib.Core.Bool.{true, false}
 use mathlib.Core.Option.{some, Option·none-ne-some, Option·some-injective}
 use Rattle.forest.specs.Expression.{Expression, ruleNumber}
-use Rattle.forest.specs.Place.{Cells, Side, isEmpty, representative}
-use Rattle.forest.proofs.Good.{Sort}
-use Rattle.forest.proofs.Position.{Position, At, Where, cells, continues, pick}
+use Rattle.forest.specs.Place.{Cells, Side, isEmpty, representative, pick}
+use Rattle.forest.specs.Good.{Sort}
+use Rattle.forest.specs.Position.{Position, At, Where, cells, continues}
 use Rattle.model.specs.Facts.{Facts}
 use Rattle.model.specs.Model.{standing}
 use Rattle.model.proofs.Cells.{Top, at-row, at-spine, top-step, top-standing}

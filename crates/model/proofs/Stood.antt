@@ -9,9 +9,9 @@ use mathlib.Core.List.{[], _∷_}
 use mathlib.Core.Option.{Option, none, Option·map}
 use lib.Dec.{eqb, ltb, ltb→lt, eqb→eq}
 use Rattle.forest.specs.Expression.{Expression, ruleNumber}
-use Rattle.forest.specs.Place.{Cells, Side, cellSpine, cellRun, isEmpty, representative, step}
-use Rattle.forest.proofs.Good.{Sort}
-use Rattle.forest.proofs.Position.{Position, At, Where, cells, continues, pick}
+use Rattle.forest.specs.Place.{Cells, Side, cellSpine, cellRun, isEmpty, representative, step, pick}
+use Rattle.forest.specs.Good.{Sort}
+use Rattle.forest.specs.Position.{Position, At, Where, cells, continues}
 use Rattle.model.specs.Facts.{Facts, depth}
 use Rattle.model.specs.Model.{along}
 use Rattle.model.specs.Stored.{State, afterRun, reaches, keptBy}

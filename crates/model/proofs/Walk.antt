@@ -6,13 +6,14 @@ use mathlib.Core.Path.{_≡_, refl, ap, ap₂}
 use mathlib.Core.List.{List, [], _∷_}
 use mathlib.Core.Option.{Option, none, some, Option·map, Option·getD}
 use Rattle.forest.specs.Expression.{Expression, ruleNumber}
-use Rattle.forest.specs.Place.{Cells}
+use Rattle.forest.specs.Place.{Cells, orElse}
 use Rattle.forest.specs.Letter.{Letter}
-use Rattle.forest.proofs.Good.{Sort}
-use Rattle.forest.proofs.Position as P
-use Rattle.forest.proofs.Position.{Position, Located, At, Where, cells, labelOf, orElse}
+use Rattle.forest.specs.Good.{Sort}
+use Rattle.forest.specs.Position as P
+use Rattle.forest.specs.Position.{Position, Located, At, Where, cells, labelOf}
 use Rattle.model.specs.Facts.{Facts}
 use Rattle.model.specs.Model.{Node, standing}
+use Rattle.model.specs.Same.{Same, above, at}
 use Rattle.model.specs.Walk.{label, fromNode, move, moved, answer, answers, after}
 use Rattle.model.proofs.Cells.{Top, at-row, at-run, at-spine}
 use Rattle.model.proofs.Fit.{Fit, shape}
@@ -47,11 +48,6 @@ afterAt w (l ∷ ls) x = afterAt w ls (movedAt w l x)
 unfoldable pub cellsAt : Option Located → Cells
 cellsAt none = []
 cellsAt (some x) = cells (x .1)
-
--- the same place on positions and on cells; above the forest no rule is read
-pub data Same (w : Expression) : Option Located → Node → Type 0 where
-  above : {p : ℕ} → Same w none (p, [])
-  at : {e : Expression} {z : Position} → At w Where.here e z → Same w (some (e, z)) (ruleNumber e, cells z)
 
 pub same-cells : (w : Expression) (x : Option Located) (n : Node) → Same w x n → n .1 ≡ cellsAt x
 unfolding cellsAt

@@ -3,3 +3,4 @@ pub mod Run
 pub mod Model
 pub mod Stored
 pub mod Walk
+pub mod Same

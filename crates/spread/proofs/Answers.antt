@@ -14,7 +14,7 @@ use Rattle.plan.specs.declared.Written.{Written}
 use Rattle.plan.specs.Written.{outputAfter}
 use Rattle.forest.specs.Forest.{forest, weigh, one, text}
 use Rattle.forest.specs.Outcome.{nodeLength, textRoomed}
-use Rattle.forest.proofs.Good.{Sort, Good}
+use Rattle.forest.specs.Good.{Sort, Good}
 use Rattle.forest.proofs.Unfold.{unfolding-equation, closed-row}
 use Rattle.forest.proofs.Counts.{text-length}
 use Rattle.work_rows.specs.Rows.{ownEnd}

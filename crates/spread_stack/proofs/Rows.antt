@@ -9,11 +9,11 @@ use lib.ListN.{length, getD}
 use lib.Seq.{ext-getD}
 use lib.Dec.{T, ltb}
 use Rattle.rule.specs.declared.Rule.{Rule}
-use Rattle.rule.specs.Rule.{every, labelled}
+use Rattle.rule.specs.Rule.{every, labelled, Names}
 use Rattle.record.specs.Record.{wordLength}
 use Rattle.rule.specs.Sound.{rule, Sound}
 use Rattle.forest.specs.Expression.{Expression, rhs, expression}
-use Rattle.forest.proofs.Unfold.{Names, unfolding-equation}
+use Rattle.forest.proofs.Unfold.{unfolding-equation}
 use Rattle.work_rows.specs.Rows.{ruleIn, Within}
 use Rattle.work_rows.proofs.Rows.{within-rule, within-field}
 use Rattle.count_passes.proofs.Reach.{named-lower}

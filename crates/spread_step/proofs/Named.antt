@@ -6,8 +6,7 @@ use mathlib.Core.List.{List}
 use lib.ListN.{length}
 use lib.Dec.{leb→le}
 use Rattle.rule.specs.declared.Rule.{Rule}
-use Rattle.rule.specs.Rule.{labelled}
-use Rattle.forest.proofs.Unfold.{Names}
+use Rattle.rule.specs.Rule.{labelled, Names}
 use Rattle.work_rows.specs.Rows.{rowLength}
 use Rattle.count_passes.proofs.Reach.{named-lower}
 use Rattle.spread_step.specs.Step.{Steppable}

@@ -7,7 +7,7 @@ use mathlib.Core.List.{List, _++_}
 use lib.Dec.{eqb}
 use Rattle.rule.specs.declared.Rule.{Rule}
 use Rattle.forest.specs.Expression.{Expression, rhs}
-use Rattle.forest.proofs.Unfold.{Names, pair-one, pair-two, node-one, fill-two, part-one, part-two}
+use Rattle.rule.specs.Rule.{Names, pair-one, pair-two, node-one, fill-two, part-one, part-two}
 use Rattle.count_passes.specs.Says.{before, after, says}
 use Rattle.spread_step.specs.declared.Step.{Step}
 use Rattle.spread_step.specs.Task.{taskText, turnsIn, taskTurns}

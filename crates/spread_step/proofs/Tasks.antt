@@ -10,8 +10,9 @@ use lib.ListN.{length}
 use borrow.Author.Tests.{eqb-true, ne-eqb}
 use Rattle.rule.specs.declared.Rule.{Rule}
 use Rattle.rule.specs.Sound.{rule, Sound}
-use Rattle.forest.specs.Expression.{Expression, rhs, expression}
-use Rattle.forest.proofs.Unfold.{Names, height, by-rank, unfolding-equation, pair-one, pair-two}
+use Rattle.forest.specs.Expression.{Expression, rhs, expression, height}
+use Rattle.forest.proofs.Unfold.{by-rank, unfolding-equation}
+use Rattle.rule.specs.Rule.{Names, pair-one, pair-two}
 use Rattle.count_passes.specs.Says.{whole, closing, says}
 use Rattle.spread_step.specs.Task.{parts, close, taskWord, noTask, taskBy, taskText, turnsIn, taskTurns, taskHeight, taskIn, taskOf}
 

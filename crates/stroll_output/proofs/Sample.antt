@@ -10,7 +10,7 @@ use Rattle.forest.specs.Forest.{forest}
 use Rattle.forest.specs.Letter.{letterOf}
 use Rattle.forest.specs.Reference.{answers}
 use Rattle.forest.specs.Walk.{andLetters, lettersOf, otherAt, firstOther}
-use Rattle.forest.proofs.Starred.{sample}
+use Rattle.forest.specs.Sample.{sample}
 use Rattle.decimal.specs.Decimal.{digits, decimal}
 use Rattle.stroll_line.specs.Lines.{shown, line, lines, refusedLine}
 use Rattle.stroll_output.specs.Stroll.{walkPrinted, checkPrinted, strollOutput}

@@ -17,10 +17,9 @@ use Rattle.forest.specs.Forest.{forest}
 use Rattle.forest.specs.Reference.{answers}
 use Rattle.forest.specs.Walk.{lettersOf, firstOther}
 use Rattle.forest.proofs.Cases.{by-option}
-use Rattle.demand.specs.Calls.{Left, walkOf}
+use Rattle.demand.specs.Calls.{Left, walkOf, lends, leaves}
 use Rattle.demand.specs.Demand.{Above, wordsFrom}
 use Rattle.demand.proofs.FromAbove.{zeros-above, above-accepted, above-refused, above-answers}
-use Rattle.walk.specs.Calls.{lends, leaves}
 use Rattle.stroll_line.specs.Lines.{lineLength, lines, refusedLine}
 use Rattle.stroll_output.specs.Stroll.{mostPlan, mostLetters, walkPrinted, checkPrinted, strollOutput}
 use Rattle.stroll_line.specs.Said.{answerOf, answersFrom}

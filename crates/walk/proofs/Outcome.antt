@@ -16,10 +16,10 @@ use Rattle.plan.specs.Check.{checked, rulesOf}
 use Rattle.forest.specs.declared.Walked.{Walked}
 use Rattle.forest.specs.Outcome.{workWords, enoughWork, cleared, workAfter}
 use Rattle.forest.specs.Walk.{cursorWords, enoughLent, firstOther, Begun, placeJudged, lettersJudged, begunFrom, begun, walked, cursorAfter, answersAfter, walkedWork}
-use Rattle.demand.specs.Calls.{walkOf}
+use Rattle.demand.specs.Calls.{walkOf, lends, leaves}
 use Rattle.work_rows.specs.Rows.{workLength, Within}
 use Rattle.work_rows.proofs.Work.{enough-room, work-cleared}
-use Rattle.walk.specs.Calls.{lends, leaves, Lendable}
+use Rattle.walk.specs.Calls.{Lendable}
 use Rattle.walk_place.specs.Travel.{Walks}
 
 module _ (s work cursor letters given : List ℕ) where

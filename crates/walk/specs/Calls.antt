@@ -6,21 +6,12 @@ use lib.ListN.{length}
 use Rattle.rule.specs.declared.Rule.{Rule}
 use Rattle.plan.specs.declared.Checked.{Checked}
 use Rattle.plan.specs.Check.{checked}
-use Rattle.forest.specs.declared.Walked.{Walked}
-use Rattle.demand.specs.Calls.{Lent, Left}
 use Rattle.model.specs.Facts.{factsOf}
 use Rattle.work_rows.specs.Rows.{workLength}
 use Rattle.facts.specs.Facts.{factsIn, Climbs}
 use Rattle.place_cells.specs.Cells.{cursorLength}
 use Rattle.letter_moves.specs.Standing.{rulesKept}
 use Rattle.letter_run.specs.Ran.{Answerable}
-
--- what a call is lent, and what it answers and leaves
-abbrev pub lends : List ℕ → List ℕ → List ℕ → List ℕ → List ℕ → Lent
-lends plan work cursor letters given = record { plan = plan; work = work; cursor = cursor; letters = letters; answers = given }
-
-abbrev pub leaves : Walked → List ℕ → List ℕ → List ℕ → Left
-leaves x work cursor given = record { answer = x; work = work; cursor = cursor; answers = given }
 
 -- an accepted plan of n rules
 pub record Planned (plan : List ℕ) (n : ℕ) : Type 0 where

@@ -9,9 +9,9 @@ ghost use lib.ListN.{length, take};
 ghost use Rattle.plan.specs.declared.Checked.{Checked};
 ghost use Rattle.plan.specs.Check.{checked, rulesOf};
 ghost use Rattle.forest.specs.Walk.{firstOther, placeJudged, lettersJudged};
-ghost use Rattle.demand.specs.Calls.{walkOf};
+ghost use Rattle.demand.specs.Calls.{walkOf, lends, leaves};
 ghost use Rattle.work_rows.specs.Rows.{workLength, rowLength, Within};
-ghost use Rattle.walk.specs.Calls.{Filled, Planned, Lendable, lends, leaves};
+ghost use Rattle.walk.specs.Calls.{Filled, Planned, Lendable};
 ghost use Rattle.walk_place.specs.Travel.{Walks};
 use walk_lent::Found;
 

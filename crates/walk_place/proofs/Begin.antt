@@ -16,14 +16,14 @@ use Rattle.forest.specs.Reference.{Path, labelAt, answers, pathAfter}
 use Rattle.forest.specs.Walk.{cellAt, cellsIn, usedCells, headed, pathOf, Begun, stored, placeJudged, lettersOf, placeAt, storedCursor, cursorAfter, answerWord, wordsBytes, answersAfter}
 use Rattle.forest.proofs.Unfold.{ruleNumber-expression}
 use Rattle.forest.proofs.Forget.{label, placedForest-forgets}
-use Rattle.forest.proofs.Position.{locatedOf}
+use Rattle.forest.specs.Position.{locatedOf}
 use Rattle.forest.proofs.Steps.{Named}
 use Rattle.model.specs.Facts.{factsOf}
 use Rattle.model.specs.Model.{Node, standing}
 use Rattle.model.specs.Stored.{accepts}
 use Rattle.model.specs.Walk as model
 use Rattle.model.proofs.Rules.{facts-agree}
-use Rattle.model.proofs.Walk.{Same}
+use Rattle.model.specs.Same.{Same}
 use Rattle.model.proofs.Outcome.{Found, accepted-path, refused-path, call-answers, call-cells}
 use Rattle.letter_moves.specs.Standing.{Valid}
 use Rattle.walk_place.specs.Travel.{placed}

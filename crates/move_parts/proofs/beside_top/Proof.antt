@@ -3,8 +3,7 @@ use mathlib.Core.Path.{sym, ap, _∙_}
 use native.Mathlib.Omega.{arith}
 use denote.Ref.{now}
 use mathlib.Core.Option.{some}
-use Rattle.forest.specs.Place.{cellRun}
-use Rattle.forest.proofs.Position.{other}
+use Rattle.forest.specs.Place.{cellRun, other}
 use Rattle.model.specs.Model.{Node}
 use Rattle.facts.specs.Facts.{factsIn}
 use Rattle.side.specs.Side.{sideOf}

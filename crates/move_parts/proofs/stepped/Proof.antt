@@ -3,9 +3,8 @@ use Prim.Native.Nat.{_-_}
 use mathlib.Core.Path.{_≡_, ap, _∙_}
 use native.Mathlib.Omega.{arith}
 use denote.Ref.{now}
-use Rattle.forest.specs.Place.{step}
+use Rattle.forest.specs.Place.{step, other}
 use Rattle.forest.specs.Walk.{cellAt, cellsIn}
-use Rattle.forest.proofs.Position.{other}
 use Rattle.place_cells.specs.declared.Cell.{Cell as Words}
 use Rattle.facts.specs.Facts.{factsIn}
 use Rattle.side.specs.Side.{sideOf}

@@ -1,9 +1,8 @@
 -- The step's law and the run back. Assumes nothing.
 use mathlib.Core.Path.{_≡_, ap, _∙_}
 use denote.Ref.{now}
-use Rattle.forest.specs.Place.{step}
+use Rattle.forest.specs.Place.{step, other}
 use Rattle.forest.specs.Walk.{cellsIn}
-use Rattle.forest.proofs.Position.{other}
 use Rattle.model.specs.Model.{oneAbove, shrunk}
 use Rattle.facts.specs.Facts.{factsIn}
 use Rattle.side.specs.Side.{sideOf}

@@ -2,7 +2,8 @@
 use mathlib.Core.Path.{sym, ap, _∙_}
 use denote.Ref.{now}
 use Rattle.rule.specs.declared.Rule.{Rule}
-use Rattle.forest.proofs.Position.{other, pick, picked}
+use Rattle.forest.specs.Place.{other, pick}
+use Rattle.forest.proofs.Sides.{picked}
 use Rattle.model.specs.Model.{enter, besideHole}
 use Rattle.facts.specs.Facts.{factsIn, In}
 use Rattle.side.specs.Side.{sideOf}

@@ -3,9 +3,9 @@ use Prim.Native.Nat.{ℕ}
 use mathlib.Core.Path.{sym, ap, _∙_}
 use denote.Ref.{now}
 use Rattle.rule.specs.declared.Rule.{Rule}
-use Rattle.forest.specs.Place.{rowOfNode, rowOfPart}
+use Rattle.forest.specs.Place.{rowOfNode, rowOfPart, orElse}
 use Rattle.forest.specs.Walk.{cellsIn}
-use Rattle.forest.proofs.Position.{orElse, picked}
+use Rattle.forest.proofs.Sides.{picked}
 use Rattle.model.specs.Model.{enter, inward, child, childOf}
 use Rattle.facts.specs.Facts.{factsIn, In}
 use Rattle.side.specs.Side.{sideOf}

@@ -1,7 +1,7 @@
 -- Both ways are the definition's; the rules named are lower, so their tasks can be read, and the label is a byte. Assumes nothing.
 use borrow.Author.Needs.{needs}
 use borrow.Author.Tests.{eq-eqb, ne-eqb}
-use Rattle.forest.proofs.Unfold.{part-one, part-two}
+use Rattle.rule.specs.Rule.{part-one, part-two}
 use Rattle.spread_step.specs.Step.{ruleStep}
 use Rattle.spread_step.proofs.Named.{named-room, part-label}
 use Rattle.spread_step.proofs.part_step.Statement.{statement}

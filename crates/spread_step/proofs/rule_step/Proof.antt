@@ -1,6 +1,6 @@
 -- Each arm is the definition's; the rules named are lower, so their tasks can be read, and labels are bytes. Assumes nothing.
 use borrow.Author.Needs.{needs}
-use Rattle.forest.proofs.Unfold.{pair-one, pair-two, node-one, fill-one, fill-two, join-one, join-two}
+use Rattle.rule.specs.Rule.{pair-one, pair-two, node-one, fill-one, fill-two, join-one, join-two}
 use Rattle.spread_step.specs.Step.{ruleStep}
 use Rattle.spread_step.proofs.Named.{at-rule, named-room, named-few, node-label}
 use native.Mathlib.Omega.{arith}

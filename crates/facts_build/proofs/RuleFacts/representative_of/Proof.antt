@@ -1,6 +1,6 @@
 -- The arms of the match and the tests for emptiness are those of `representativeOf`. Assumes nothing.
 use mathlib.Core.Path.{sym, _∙_}
-use Rattle.forest.proofs.Unfold.{Names}
+use Rattle.rule.specs.Rule.{Names}
 use Rattle.facts_build.specs.RuleFacts.{representativeOf}
 use Rattle.facts.proofs.Ready.{ready-room}
 use borrow.Author.Needs.{needs}

@@ -1,6 +1,5 @@
 -- Positions: zippers into an expression, one for each node of its forest (document 003's node representations), their
 -- neighbours over a side, and their cells. A row's and a spine's crumbs lie over the position that they were opened at.
--- Assumes nothing.
 use Prim.Native.Nat.{ℕ}
 use mathlib.Core.Path.{_≡_}
 use mathlib.Core.Bool.{true, false, cond}
@@ -8,7 +7,7 @@ use mathlib.Core.List.{[], _∷_}
 use mathlib.Core.Option.{Option, none, some}
 use Rattle.forest.specs.Expression.{Expression, ruleNumber}
 use Rattle.forest.specs.Forest.{Forest, append}
-use Rattle.forest.specs.Place.{Cells, Side, cellRow, cellSpine, rowOfNode, rowOfPart, isEmpty, representative, step}
+use Rattle.forest.specs.Place.{Cells, Side, other, pick, orElse, cellRow, cellSpine, rowOfNode, rowOfPart, isEmpty, representative, step}
 
 pub data Position : Type 0 where
   start : Expression → Position
@@ -18,20 +17,6 @@ pub data Position : Type 0 where
   node-spine : ℕ → ℕ → Expression → Position → Position
   fill-spine : ℕ → Expression → Expression → Position → Position
   join-side : Side → ℕ → Expression → Expression → Position → Position
-
-unfoldable pub other : Side → Side
-other Side.left = Side.right
-other Side.right = Side.left
-
-unfoldable pub pick : {A : Type 0} → Side → A → A → A
-pick Side.left b c = b
-pick Side.right b c = c
-
--- what holds of both holds of the one on a side
-pub picked : {A : Type 0} (P : A → Type 0) (s : Side) (b c : A) → P b → P c → P (pick s b c)
-unfolding pick
-picked P Side.left b c x y = x
-picked P Side.right b c x y = y
 
 -- the cells of a position
 unfoldable pub cells : Position → Cells
@@ -181,10 +166,6 @@ rowParent (pair-side s r b c z) = rowParent z
 rowParent (node-spine r a c z) = none
 rowParent (fill-spine r b c z) = none
 rowParent (join-side s r b c z) = none
-
-unfoldable pub orElse : {A : Type 0} → Option A → Option A → Option A
-orElse none y = y
-orElse (some x) y = some x
 
 -- the first (left) or last (right) child of the node e at z
 unfoldable pub child : Side → Expression → Position → Option Located

@@ -1,5 +1,4 @@
 -- The sorts of expressions, as a derivation to recurse on: what stands in a row, a tree, and what stands in a spine.
--- Assumes nothing.
 use Prim.Native.Nat.{ℕ}
 use mathlib.Core.Path.{_≡_}
 use Rattle.forest.specs.Expression.{Expression}
