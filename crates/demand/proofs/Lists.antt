@@ -10,7 +10,7 @@ use Rattle.forest.specs.Forest.{Forest, forest}
 use Rattle.forest.specs.Place.{Placed, placedForest}
 use Rattle.forest.specs.Reference.{Path, labelAt, answers, pathAfter}
 use Rattle.forest.specs.Walk.{lettersOf, cellsIn, usedCells, placeAt, cellsOf, answerWord}
-use Rattle.forest.proofs.Steps.{Named}
+use Rattle.forest.specs.Position.{Named}
 use Rattle.demand.specs.Calls.{Call, lent, walkOf, lefts, cursorAfterCalls}
 use Rattle.demand.specs.Demand.{turnedDown, refusals, fingerPath, fingerAnswers, walkAnswers, someAccepted, ClearPast, Above, SameButSixteen, Meets, Demand3}
 use Rattle.demand.proofs.Walkable.{Walkable, Stands}

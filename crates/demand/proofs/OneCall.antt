@@ -23,7 +23,8 @@ use Rattle.forest.specs.Letter.{Letter}
 use Rattle.forest.proofs.Forget.{label}
 use Rattle.forest.proofs.Relabel.{pathAfter-relabel, moved-relabel}
 use Rattle.forest.proofs.Search.{path-of-place}
-use Rattle.forest.proofs.Steps.{Named, after-named}
+use Rattle.forest.proofs.Steps.{after-named}
+use Rattle.forest.specs.Position.{Named}
 use Rattle.forest.proofs.Stored.{AllFitting, stored-length, stored-head, stored-cells, stored-clear}
 use Rattle.demand.specs.Calls.{Lent, Left, Call, lent, walkOf}
 use Rattle.forest.specs.Outcome.{enoughWork}

@@ -13,7 +13,7 @@ use Rattle.forest.specs.Reference.{Path, labelAt, moved}
 use Rattle.forest.specs.Walk.{cellAt, cellsIn, placeAt}
 use Rattle.forest.proofs.Forget.{label}
 use Rattle.forest.proofs.Search.{Distinct}
-use Rattle.forest.proofs.Steps.{Named}
+use Rattle.forest.specs.Position.{Named}
 use Rattle.forest.proofs.Stored.{AllFitting}
 use Rattle.demand.specs.Demand.{SameButSixteen}
 

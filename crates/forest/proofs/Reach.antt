@@ -10,7 +10,8 @@ use Rattle.forest.specs.Forest.{Forest}
 use Rattle.forest.specs.Place.{Side, Cells, placedOf}
 use Rattle.forest.specs.Letter.{Letter}
 use Rattle.forest.specs.Reference.{Path, later, from, below, top, childrenAt, labelAt, tried, answer, moved, pathAfter}
-use Rattle.forest.proofs.Steps.{Named, above, node, moved-node, pathAfter-append}
+use Rattle.forest.proofs.Steps.{moved-node, pathAfter-append}
+use Rattle.forest.specs.Position.{above, node, Named}
 
 -- where a tree stands, one stands before it
 pub earlier : {A : Type 0} {a : A} (i : ℕ) (g : Forest A) → top (later (suc i) g) ≡ some a → (b : A) × (top (later i g) ≡ some b)

@@ -12,7 +12,7 @@ use Rattle.forest.specs.Place.{Side, orElse}
 use Rattle.forest.specs.Letter.{Letter, isRoot}
 use Rattle.forest.specs.Reference.{Path, later, from, below, top, childrenAt, labelAt, shifted, tried, isAbove, answer}
 use Rattle.forest.specs.Reason.{Reason, hasNone, atEnd, reasonAt, reasonAbove, reason}
-use Rattle.forest.proofs.Steps.{Named, above, node}
+use Rattle.forest.specs.Position.{above, node, Named}
 use Rattle.forest.proofs.Neighbours.{edge, top-end, answer-edge}
 use Rattle.forest.proofs.Reach.{earlier, parent-named}
 

@@ -14,7 +14,7 @@ use Rattle.forest.specs.Place.{Cell, Cells, Placed}
 use Rattle.forest.specs.Reference.{Path, later, from, below, top, childrenAt, nodeAt, labelAt}
 use Rattle.forest.specs.Walk.{sameCell, sameCells, firstOf, nodeWith, pathOf, placeAt, cellsOf}
 use Rattle.forest.proofs.Each.{Each, each-labelAt}
-use Rattle.forest.proofs.Steps.{Named}
+use Rattle.forest.specs.Position.{Named}
 
 -- ---- equal cells
 

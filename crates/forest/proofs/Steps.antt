@@ -6,6 +6,7 @@ use mathlib.Core.List.{List, [], _∷_, _++_}
 use mathlib.Core.Option.{Option, some, Option·none-ne-some}
 use Rattle.forest.specs.Forest.{Forest}
 use Rattle.forest.specs.Letter.{Letter, isRoot}
+use Rattle.forest.specs.Position.{Named, node}
 use Rattle.forest.specs.Reference.{Path, labelAt, tried, isAbove, answer, moved, answers, pathAfter}
 use Rattle.forest.proofs.Cases.{by-option}
 
@@ -44,11 +45,6 @@ same-answers e cs = ap (λ x. answers x cs []) e
 
 pub same-after : {A : Type 0} {f g : Forest A} → f ≡ g → (cs : List Letter) → pathAfter f cs [] ≡ pathAfter g cs []
 same-after e cs = ap (λ x. pathAfter x cs []) e
-
--- a path above the forest, or of a node
-pub data Named {A : Type 0} (g : Forest A) : Path → Type 0 where
-  above : Named g []
-  node : {p : Path} {a : A} → labelAt g p ≡ some a → Named g p
 
 pub moved-named : {A : Type 0} (g : Forest A) (c : Letter) (p : Path) → Named g p → Named g (moved g c p)
 moved-named g c p n = by-option (answer g c p) (λ e. rw (moved-nowhere g c p e) n) (λ a e. node (answer-label g c p e))

@@ -10,8 +10,7 @@ use Rattle.forest.specs.Place.{Side}
 use Rattle.forest.specs.Letter.{Letter}
 use Rattle.forest.specs.Reference.{Path, labelAt, tried}
 use Rattle.forest.specs.Good.{Sort, Good}
-use Rattle.forest.specs.Position.{Position, Located, locatedOf}
-use Rattle.forest.proofs.Steps.{Named, node}
+use Rattle.forest.specs.Position.{Position, Located, locatedOf, Named, node}
 use Rattle.forest.proofs.Neighbours.{Neighbours, Knows, neighbour, tried-neighbour}
 use Rattle.forest.proofs.Reach.{parent-named, sibling-before}
 use Rattle.forest.proofs.Knows.{located-knows}

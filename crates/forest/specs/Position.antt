@@ -7,6 +7,7 @@ use mathlib.Core.List.{[], _∷_}
 use mathlib.Core.Option.{Option, none, some}
 use Rattle.forest.specs.Expression.{Expression, ruleNumber}
 use Rattle.forest.specs.Forest.{Forest, append}
+use Rattle.forest.specs.Reference.{Path, labelAt}
 use Rattle.forest.specs.Place.{Cells, Side, other, pick, orElse, cellRow, cellSpine, rowOfNode, rowOfPart, isEmpty, representative, step}
 
 pub data Position : Type 0 where
@@ -235,3 +236,8 @@ pub data At (w : Expression) : Where → Expression → Position → Type 0 wher
   part : {r a : ℕ} {b c : Expression} {z : Position} → At w Where.spine (Expression.part r a b c) z → At w Where.here (Expression.part r a b c) z
   arm : {r a : ℕ} {b c : Expression} {z : Position} (s : Side) → At w Where.here (Expression.part r a b c) z → At w Where.row (pick s b c) (Position.part-row s r a b c z)
   hole : {r a : ℕ} {b c e : Expression} {z : Position} → At w Where.here (Expression.part r a b c) z → continues z ≡ some e → At w Where.tree e z
+
+-- a path above the forest, or of a node
+pub data Named {A : Type 0} (g : Forest A) : Path → Type 0 where
+  above : Named g []
+  node : {p : Path} {a : A} → labelAt g p ≡ some a → Named g p

@@ -31,9 +31,14 @@ unfoldable pub cursorWords : ℕ → ℕ
 cursorWords n = 16 * (n + 1)
 
 -- "8: work below 32 × n words, cursor below 16 × (n + 1) words, or fewer answers than letters"
+abbrev pub enoughCursor : ℕ → List ℕ → Bool
+enoughCursor n cursor = leb (cursorWords n) (wordCount cursor)
+
+abbrev pub enoughAnswers : List ℕ → List ℕ → Bool
+enoughAnswers letters given = leb (length letters) (wordCount given)
+
 unfoldable pub enoughLent : List ℕ → List ℕ → List ℕ → List ℕ → ℕ → Bool
-enoughLent work cursor letters given n =
-    enoughWork n work && (leb (cursorWords n) (wordCount cursor) && leb (length letters) (wordCount given))
+enoughLent work cursor letters given n = enoughWork n work && (enoughCursor n cursor && enoughAnswers letters given)
 
 -- the letters of a string of bytes, up to the first that is none
 unfoldable pub andLetters : Option Letter → List Letter → List Letter

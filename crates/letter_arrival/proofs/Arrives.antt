@@ -22,6 +22,6 @@ module _ (x : Change) (s : List ℕ) where
   node-rule t h = h
 
   pub arrived : (F : Facts) {s′ : List ℕ} {u a : ℕ} → u ≡ changeHigh x → a ≡ label (F .rule (x .rule)) → Wrote (changed x s) s s′
-      → Arrived F (changeNode x s) s s′ (record { used = u; rule = x .rule; answer = a })
+      → Arrived F (changeNode x s) s s′ (record { at = record { used = u; rule = x .rule }; answer = a })
   unfolding changeNode
-  arrived F q l w = record { landed = λ i. record { used = (q ∙ sym (length-change x s)) i; rule = x .rule; answer = l i }; wrote = w }
+  arrived F q l w = record { landed = λ i. record { at = record { used = (q ∙ sym (length-change x s)) i; rule = x .rule }; answer = l i }; wrote = w }

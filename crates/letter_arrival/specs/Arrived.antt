@@ -17,7 +17,7 @@ Fitting t s x = Lies s (length (x .1)) × In t (x .0)
 
 -- the used cells, the standing rule and the answer at a node
 abbrev pub landingAt : Facts → Node → Landing
-landingAt F x = record { used = length (x .1); rule = x .0; answer = label (F .rule (x .0)) }
+landingAt F x = record { at = record { used = length (x .1); rule = x .0 }; answer = label (F .rule (x .0)) }
 
 -- the node's cells are written, and nothing past them
 pub record Arrived (F : Facts) (x : Node) (s s′ : List ℕ) (r : Landing) : Type 0 where

@@ -7,10 +7,15 @@ ghost use Rattle.letter_arrival.specs.Arrived.{Fitting, Arrived};
 use place_cells::Change;
 use rule::Rule;
 
-// What a letter comes to: the used cells, the standing rule and the answer.
-pub struct Landing {
+// Where a walk stands: the used cells and the standing rule, which change together.
+pub struct Standing {
     pub used: usize,
     pub rule: u16,
+}
+
+// What a letter comes to: where the walk stands then, and the answer.
+pub struct Landing {
+    pub at: Standing,
     pub answer: u32,
 }
 
@@ -38,5 +43,6 @@ pub fn arrive(work: &[u8], cursor: &mut [u8], change: Change) -> Landing
     let rule = change.rule;
     let answer = label(work, rule);
     let used = place_cells::write(cursor, change);
-    Landing { used, rule, answer }
+    let at = Standing { used, rule };
+    Landing { at, answer }
 }

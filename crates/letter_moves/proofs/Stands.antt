@@ -2,9 +2,9 @@
 -- leads to such a place again. Assumes nothing.
 use Prim.Native.Nat.{ℕ, _+_, _*_, _≤_, _<_}
 use native.Mathlib.Omega.{arith}
-use mathlib.Core.Path.{_≡_, sym, ap, subst, _∙_}
+use mathlib.Core.Path.{_≡_, refl, sym, ap, subst, _∙_}
 use mathlib.Core.List.{List, [], _∷_, cons≢nil}
-use mathlib.Core.Option.{Option, none, some, Option·map}
+use mathlib.Core.Option.{Option, none, some, Option·map, Option·none-ne-some}
 use native.Mathlib.Decide.{decLt}
 use lib.ListN.{length}
 use lib.Dec.{T, leb→le}
@@ -14,7 +14,7 @@ use Rattle.rule.specs.Sound.{rule, Sound}
 use Rattle.rule.proofs.Rules.{past-rule}
 use Rattle.forest.specs.Place.{Cells}
 use Rattle.forest.specs.Letter.{Letter}
-use Rattle.forest.specs.Walk.{cellLength, cursorWords, cellsIn, nowhere, answerWord}
+use Rattle.forest.specs.Walk.{cellLength, cellsIn, nowhere, answerWord}
 use Rattle.model.specs.Facts.{factsOf}
 use Rattle.model.specs.Model.{Node}
 use Rattle.model.specs.Walk.{label, fromNode, move, moved, answer}
@@ -26,7 +26,7 @@ use Rattle.facts.proofs.Kept.{length-kept}
 use Rattle.letter_arrival.specs.declared.Landing.{Landing}
 use Rattle.facts.specs.Closes.{Closes}
 use Rattle.move_parts.specs.Moves.{Held, Kept, Node-has, Each, Fits}
-use Rattle.place_cells.specs.Cells.{Lies, cursorLength}
+use Rattle.place_cells.specs.Cells.{Lies, placeLength}
 use Rattle.letter_arrival.specs.Arrived.{Fitting, Arrived}
 use Rattle.place_cells.proofs.Stack.{cells-none, cells-top}
 use Rattle.place_cells.proofs.Writes.{length-cells}
@@ -74,12 +74,11 @@ module _ {r : ℕ} {t : List ℕ} (T : WalkedRows r t) where
   rule-in : (n : Node) → Valid (rulesKept t) r n → (n .1 ≡ [] → ⊥) → In t (n .0)
   rule-in n v e = let b = valid-rule (T .sound) (T .closed) (factsIn t) agrees n v e in let c = count in omega arith
 
-  -- 3 × n cells lie in what n rules need of the cursor
-  few : (n : Node) → Valid (rulesKept t) r n → cellLength * (length (n .1) + 1) ≤ cursorLength (rowCount t)
-  unfolding cursorWords
+  -- 3 × n cells and cell 0 are the room of a place
+  few : (n : Node) → Valid (rulesKept t) r n → cellLength * (length (n .1) + 1) ≤ placeLength (rowCount t)
   few n v = let a = short n v in omega arith
 
-  fits : (s : List ℕ) → cursorLength (rowCount t) ≤ length s → (n : Node) → Valid (rulesKept t) r n → Lies s (length (n .1))
+  fits : (s : List ℕ) → placeLength (rowCount t) ≤ length s → (n : Node) → Valid (rulesKept t) r n → Lies s (length (n .1))
   fits s room n v = let a = few n v in omega arith
 
   next : (l : Letter) (n : Node) → Valid (rulesKept t) r n → Valid (rulesKept t) r (moved (factsIn t) r l n)
@@ -127,7 +126,7 @@ module _ {r : ℕ} {t s : List ℕ} {k p : ℕ} (S : Stands r t s k p) where
       let l : Lies s (length (cellsIn s k)) = fits (S .rows) s (S .room) (p, cellsIn s k) (S .valid) in
       record { rows = rows-held (S .rows); climbs = S .rows .climbs; lies = omega arith; cells = numbers (S .rows) (p, cellsIn s k) (S .valid) }
 
-  pub stands-few : cellLength * (k + 1) ≤ cursorLength (rowCount t)
+  pub stands-few : cellLength * (k + 1) ≤ placeLength (rowCount t)
   stands-few = let many = length-cells s k in let f = few (S .rows) (p, cellsIn s k) (S .valid) in omega arith
 
   pub at-rule : (k ≡ 0 → ⊥) → In t p
@@ -161,16 +160,17 @@ module _ {r : ℕ} {t s : List ℕ} {k p : ℕ} (S : Stands r t s k p) where
         record {
           node = rw (e, z .landed) (λ i. (x .0, z .wrote .cells i));
           answered = rw (e, z .landed);
-          within = within-wider cellLength (cursorLength (rowCount t)) (omega arith) (few (S .rows) x valid-node) (z .wrote .within);
+          stays = λ q. absurd (Option·none-ne-some x (sym q ∙ e));
+          within = within-wider cellLength (placeLength (rowCount t)) (omega arith) (few (S .rows) x valid-node) (z .wrote .within);
         }
 
   -- one that leads nowhere leaves the place
-  pub stepped-nowhere : (l : Letter) → move (factsIn t) r l (p, cellsIn s k) ≡ none → Stepped r t l k p s s (record { used = k; rule = p; answer = nowhere })
+  pub stepped-nowhere : (l : Letter) → move (factsIn t) r l (p, cellsIn s k) ≡ none → Stepped r t l k p s s (record { at = record { used = k; rule = p }; answer = nowhere })
   unfolding moved answer answerWord
-  stepped-nowhere l e = record { node = rw e; answered = rw e; within = within-none cellLength (cursorLength (rowCount t)) s }
+  stepped-nowhere l e = record { node = rw e; answered = rw e; stays = λ q. refl; within = within-none cellLength (placeLength (rowCount t)) s }
 
   -- and where it stands
-  pub stands-after : (l : Letter) {s′ : List ℕ} {x : Landing} → Stepped r t l k p s s′ x → Stands r t s′ (x .used) (x .rule)
+  pub stands-after : (l : Letter) {s′ : List ℕ} {x : Landing} → Stepped r t l k p s s′ x → Stands r t s′ (x .at .used) (x .at .rule)
   stands-after l {s′} {x} z =
       let same = z .within .same-length in
       let room = S .room in

@@ -3,7 +3,7 @@
 use Prim.Native.Nat.{ℕ, _≤_}
 use mathlib.Core.Path.{_≡_}
 use mathlib.Core.List.{List}
-use mathlib.Core.Option.{Option}
+use mathlib.Core.Option.{Option, none}
 use lib.ListN.{length}
 use Rattle.rule.specs.declared.Rule.{Rule}
 use Rattle.rule.specs.Sound.{Sound, Closed}
@@ -13,12 +13,12 @@ use Rattle.forest.specs.Walk.{cellLength, cellsIn, answerWord}
 use Rattle.forest.specs.Position.{Located}
 use Rattle.model.specs.Facts.{factsOf}
 use Rattle.model.specs.Model.{Node}
-use Rattle.model.specs.Walk.{answer, moved}
+use Rattle.model.specs.Walk.{answer, move, moved}
 use Rattle.model.specs.Same.{Same}
 use Rattle.work_rows.specs.Rows.{Within}
 use Rattle.facts.specs.Facts.{rowCount, factsIn, kept, Climbs}
 use Rattle.letter_arrival.specs.declared.Landing.{Landing}
-use Rattle.place_cells.specs.Cells.{cursorLength}
+use Rattle.place_cells.specs.Cells.{placeLength}
 
 -- a node on cells that is the place of a node of rule r's forest, or above it
 pub record Valid (R : List Rule) (r : ℕ) (n : Node) : Type 0 where
@@ -39,11 +39,12 @@ pub record WalkedRows (r : ℕ) (t : List ℕ) : Type 0 where
 -- k cells of the cursor and the rule p are a place of rule r's forest
 pub record Stands (r : ℕ) (t s : List ℕ) (k p : ℕ) : Type 0 where
   pub rows : WalkedRows r t
-  pub room : cursorLength (rowCount t) ≤ length s
+  pub room : placeLength (rowCount t) ≤ length s
   pub valid : Valid (rulesKept t) r (p, cellsIn s k)
 
--- a letter from k cells and rule p
+-- a letter from k cells and rule p: the node arrived at and the answer; "nowhere is dealt with first, before any cell is written"
 pub record Stepped (r : ℕ) (t : List ℕ) (l : Letter) (k p : ℕ) (s s′ : List ℕ) (x : Landing) : Type 0 where
-  pub node : (x .rule, cellsIn s′ (x .used)) ≡ moved (factsIn t) r l (p, cellsIn s k)
+  pub node : (x .at .rule, cellsIn s′ (x .at .used)) ≡ moved (factsIn t) r l (p, cellsIn s k)
   pub answered : x .answer ≡ answerWord (answer (factsIn t) r l (p, cellsIn s k))
-  pub within : Within cellLength (cursorLength (rowCount t)) s s′
+  pub stays : move (factsIn t) r l (p, cellsIn s k) ≡ none → s′ ≡ s
+  pub within : Within cellLength (placeLength (rowCount t)) s s′

@@ -19,7 +19,8 @@ use Rattle.work_rows.specs.Rows.{Within}
 use Rattle.facts.specs.Facts.{rowCount, factsIn}
 use Rattle.work_rows.proofs.Rows.{within-none, within-both}
 use Rattle.letter_arrival.specs.declared.Landing.{Landing}
-use Rattle.place_cells.specs.Cells.{cursorLength}
+use Rattle.letter_arrival.specs.declared.Standing.{Standing}
+use Rattle.place_cells.specs.Cells.{placeLength}
 use Rattle.letter_moves.specs.Standing.{Stands, Stepped}
 use Rattle.letter_run.specs.Ran.{Ran, Answerable}
 use Rattle.letter_moves.proofs.Stands.{stands-few, stands-after}
@@ -79,19 +80,19 @@ letters-more : (letters : List ℕ) (i : ℕ) (l : Letter) → i < length letter
 unfolding lettersOf andLetters
 letters-more letters i l h e = rw (drop-cons letters i 0 h, add-one i) (rw e)
 
--- letters up to offset i from k₀ cells and rule p₀, at k cells and rule p: done is the words written so far
-pub record Partway (r : ℕ) (t letters : List ℕ) (k₀ p₀ : ℕ) (s₀ given₀ : List ℕ) (i k p : ℕ) (s given : List ℕ) : Type 0 where
-  pub stands : Stands r t s k p
+-- letters up to offset i from the place h₀, at the place h: done is the words written so far
+pub record Partway (r : ℕ) (t letters : List ℕ) (h₀ : Standing) (s₀ given₀ : List ℕ) (i : ℕ) (h : Standing) (s given : List ℕ) : Type 0 where
+  pub stands : Stands r t s (h .used) (h .rule)
   pub done : List ℕ
   pub count : length done ≡ i
   pub room : length given ≡ length given₀
   pub written : given ≡ inFront (wordsBytes done) given₀
-  pub left : done ++ map answerWord (answers (factsIn t) r (lettersOf (drop i letters)) (p, cellsIn s k)) ≡ map answerWord (answers (factsIn t) r (lettersOf letters) (p₀, cellsIn s₀ k₀))
-  pub leads : after (factsIn t) r (lettersOf (drop i letters)) (p, cellsIn s k) ≡ after (factsIn t) r (lettersOf letters) (p₀, cellsIn s₀ k₀)
-  pub within : Within cellLength (cursorLength (rowCount t)) s₀ s
+  pub left : done ++ map answerWord (answers (factsIn t) r (lettersOf (drop i letters)) (h .rule, cellsIn s (h .used))) ≡ map answerWord (answers (factsIn t) r (lettersOf letters) (h₀ .rule, cellsIn s₀ (h₀ .used)))
+  pub leads : after (factsIn t) r (lettersOf (drop i letters)) (h .rule, cellsIn s (h .used)) ≡ after (factsIn t) r (lettersOf letters) (h₀ .rule, cellsIn s₀ (h₀ .used))
+  pub within : Within cellLength (placeLength (rowCount t)) s₀ s
 
-module _ {r : ℕ} {t letters s₀ given₀ : List ℕ} {k₀ p₀ : ℕ} where
-  pub partway-none : Stands r t s₀ k₀ p₀ → Partway r t letters k₀ p₀ s₀ given₀ 0 k₀ p₀ s₀ given₀
+module _ {r : ℕ} {t letters s₀ given₀ : List ℕ} {h₀ : Standing} where
+  pub partway-none : Stands r t s₀ (h₀ .used) (h₀ .rule) → Partway r t letters h₀ s₀ given₀ 0 h₀ s₀ given₀
   partway-none S =
       record {
         stands = S;
@@ -101,15 +102,15 @@ module _ {r : ℕ} {t letters s₀ given₀ : List ℕ} {k₀ p₀ : ℕ} where
         written = sym (in-front-none given₀);
         left = refl;
         leads = refl;
-        within = within-none cellLength (cursorLength (rowCount t)) s₀;
+        within = within-none cellLength (placeLength (rowCount t)) s₀;
       }
 
-  module _ {i k p : ℕ} {s given : List ℕ} (P : Partway r t letters k₀ p₀ s₀ given₀ i k p s given) where
+  module _ {i : ℕ} {h : Standing} {s given : List ℕ} (P : Partway r t letters h₀ s₀ given₀ i h s given) where
     -- no letters left
-    ran-end : lettersOf (drop i letters) ≡ [] → Ran r t letters k₀ p₀ s₀ s given₀ given k
+    ran-end : lettersOf (drop i letters) ≡ [] → Ran r t letters h₀ s₀ s given₀ given (h .used)
     unfolding after answers
     ran-end e =
-        let words : P .done ≡ map answerWord (answers (factsIn t) r (lettersOf letters) (p₀, cellsIn s₀ k₀)) = sym (append-nil (P .done)) ∙ (rw e at (P .left)) in
+        let words : P .done ≡ map answerWord (answers (factsIn t) r (lettersOf letters) (h₀ .rule, cellsIn s₀ (h₀ .used))) = sym (append-nil (P .done)) ∙ (rw e at (P .left)) in
         record {
           cells = ap (λ (n : Node). n .1) (rw e at (P .leads));
           answered = P .written ∙ ap (λ (ws : List ℕ). inFront (wordsBytes ws) given₀) words;
@@ -117,18 +118,18 @@ module _ {r : ℕ} {t letters s₀ given₀ : List ℕ} {k₀ p₀ : ℕ} where
           few = stands-few (P .stands);
         }
 
-    pub ran-all : length letters ≤ i → Ran r t letters k₀ p₀ s₀ s given₀ given k
-    ran-all h = ran-end (letters-none letters i h)
+    pub ran-all : length letters ≤ i → Ran r t letters h₀ s₀ s given₀ given (h .used)
+    ran-all d = ran-end (letters-none letters i d)
 
-    pub ran-other : i < length letters → letterOf (getD letters i 0) ≡ none → Ran r t letters k₀ p₀ s₀ s given₀ given k
-    ran-other h e = ran-end (letters-other letters i h e)
+    pub ran-other : i < length letters → letterOf (getD letters i 0) ≡ none → Ran r t letters h₀ s₀ s given₀ given (h .used)
+    ran-other d e = ran-end (letters-other letters i d e)
 
     -- one letter more
     pub partway-more : (l : Letter) → i < length letters → letterOf (getD letters i 0) ≡ some l → Answerable letters given₀ → {s′ given′ : List ℕ} {x : Landing}
-        → Stepped r t l k p s s′ x → given′ ≡ put 2 given (2 * i) (x .answer) → Partway r t letters k₀ p₀ s₀ given₀ (i + 1) (x .used) (x .rule) s′ given′
+        → Stepped r t l (h .used) (h .rule) s s′ x → given′ ≡ put 2 given (2 * i) (x .answer) → Partway r t letters h₀ s₀ given₀ (i + 1) (x .at) s′ given′
     unfolding after answers
-    partway-more l h e room {s′} {given′} {x} z w =
-        let more = letters-more letters i l h e in
+    partway-more l d e room {s′} {given′} {x} z w =
+        let more = letters-more letters i l d e in
         let many = P .count in
         record {
           stands = stands-after (P .stands) l z;

@@ -7,16 +7,17 @@ use Rattle.record.specs.Record.{wordLength}
 use Rattle.words.specs.Front.{inFront}
 use Rattle.forest.specs.Walk.{cellLength, cellsIn, lettersOf, answerWord, wordsBytes}
 use Rattle.model.specs.Walk.{answers, after}
+use Rattle.letter_arrival.specs.declared.Standing.{Standing}
 use Rattle.work_rows.specs.Rows.{Within}
 use Rattle.facts.specs.Facts.{rowCount, factsIn}
-use Rattle.place_cells.specs.Cells.{cursorLength}
+use Rattle.place_cells.specs.Cells.{placeLength}
 
--- letters from k cells and rule p: the cells that they lead to, and a word for each
-pub record Ran (r : ℕ) (t letters : List ℕ) (k p : ℕ) (s s′ given given′ : List ℕ) (used : ℕ) : Type 0 where
-  pub cells : cellsIn s′ used ≡ (after (factsIn t) r (lettersOf letters) (p, cellsIn s k)) .1
-  pub answered : given′ ≡ inFront (wordsBytes (map answerWord (answers (factsIn t) r (lettersOf letters) (p, cellsIn s k)))) given
-  pub within : Within cellLength (cursorLength (rowCount t)) s s′
-  pub few : cellLength * (used + 1) ≤ cursorLength (rowCount t)
+-- letters from a place: the cells that they lead to, and a word for each
+pub record Ran (r : ℕ) (t letters : List ℕ) (from : Standing) (s s′ given given′ : List ℕ) (used : ℕ) : Type 0 where
+  pub cells : cellsIn s′ used ≡ (after (factsIn t) r (lettersOf letters) (from .rule, cellsIn s (from .used))) .1
+  pub answered : given′ ≡ inFront (wordsBytes (map answerWord (answers (factsIn t) r (lettersOf letters) (from .rule, cellsIn s (from .used))))) given
+  pub within : Within cellLength (placeLength (rowCount t)) s s′
+  pub few : cellLength * (used + 1) ≤ placeLength (rowCount t)
 
 -- a word of answers for each letter
 abbrev pub Answerable : List ℕ → List ℕ → Type 0

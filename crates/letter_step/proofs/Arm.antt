@@ -35,12 +35,12 @@ use denote.Triple.Call.{calls-at-last}
 use denote.Triple.Clauses.{ensured, lasts}
 use denote.Triple.Walked.{says}
 use Rattle.letter.specs.declared.Letter.{Letter}
-use Rattle.letter_step.specs.declared.Standing.{Standing}
+use Rattle.letter_arrival.specs.declared.Standing.{Standing}
 use Rattle.letter.specs.Letter.{moveOf}
 use Rattle.letter_moves.specs.Standing.{Stands, Stepped}
 use Rattle.letter_step.specs.Landed.{landed}
-use Rattle.letter_step.proofs.Standing as T
-use Rattle.letter_step.proofs.Standing.Laws as T′
+use Rattle.letter_arrival.proofs.Standing as T
+use Rattle.letter_arrival.proofs.Standing.Laws as T′
 use Rattle.letter_step.proofs.Thin.{thin-clauses, Lands}
 use Rattle.letter_step.proofs.Walks.{R, state}
 use Rattle.letter_step.proofs.first_root as thin
@@ -60,8 +60,8 @@ abbrev pub arm-code : ℕ → ℕ → ℕ → Name → Syntax.Body
 arm-code a b c f =
     seq (assign (place a []) (addrOf (place 2 (field 0 ∷ deref (tyInt w8) ∷ []))))
     (seq (assign (place b []) (aggregate (copy (place a []) ∷ copy (place 2 (field 1 ∷ [])) ∷ [])))
-    (seq (assign (place c []) (addrOf (place 7 [])))
-    (call f (copy (place 1 []) ∷ copy (place b []) ∷ copy (place c []) ∷ copy (place 5 []) ∷ []) (place 9 []))))
+    (seq (assign (place c []) (addrOf (place 6 [])))
+    (call f (copy (place 1 []) ∷ copy (place b []) ∷ copy (place c []) ∷ copy (place 4 []) ∷ []) (place 8 []))))
 
 -- what is known when a letter's function has answered x and left the list zs and the state h′
 pub record Landed (l : Letter) (r : ℕ) (ts ys : List ℕ) (h : Standing) (x : ℕ) (zs : List ℕ) (h′ : Standing) : Type 0 where
@@ -107,16 +107,16 @@ module _ {M : Type 1} (𝓤 : URA M) (H : Heap 𝓤) (A : Atoms 𝓤) (W : Given
   abbrev pub Cursor : Fml
   Cursor = MutSlice (named 1) κ₁ u8 .own cursor (s ∷ [])
 
-  module _ (l : Letter) (l₁ l₂ l₅ l₇ l₉ : ℕ) where
+  module _ (l : Letter) (l₁ l₂ l₄ l₆ l₈ : ℕ) where
     -- the state in the local, lent under the name δ
     abbrev at : GName → RefT Standing
-    at δ = record { ptr = (l₇, 0); name = δ; now = h }
+    at δ = record { ptr = (l₆, 0); name = δ; now = h }
 
     abbrev State : ℕ → GName → Fml
-    State ν δ = MutRef (named 2) (ν ∷ []) R .own (at δ) (vptr l₇ 0 ∷ [])
+    State ν δ = MutRef (named 2) (ν ∷ []) R .own (at δ) (vptr l₆ 0 ∷ [])
 
     abbrev to-thin : ℕ → GName → Lands l 𝓤 H A .Ghost
-    to-thin ν δ = (((κ₀, (κ₁, (ν ∷ [], tt))), (q₀, (q₁, (fullShare, tt))), tt, (rows, (cursor, (at δ, (r, tt)))), (t ∷ [], (s ∷ [], (vptr l₇ 0 ∷ [], (vint w16 r ∷ [], tt))))), tt)
+    to-thin ν δ = (((κ₀, (κ₁, (ν ∷ [], tt))), (q₀, (q₁, (fullShare, tt))), tt, (rows, (cursor, (at δ, (r, tt)))), (t ∷ [], (s ∷ [], (vptr l₆ 0 ∷ [], (vint w16 r ∷ [], tt))))), tt)
 
     goes-thin : (ν : ℕ) (δ : GName)
         → ent 𝓤 (sep 𝓤 (sep 𝓤 (sem 𝓤 H A Rows) (sep 𝓤 (sem 𝓤 H A Cursor) (sem 𝓤 H A (State ν δ)))) (sep 𝓤 (A .lft κ₀ q₀) (sep 𝓤 (A .lft κ₁ q₁) (A .lft (ν ∷ []) fullShare)))) (Lands l 𝓤 H A .pre (to-thin ν δ))
@@ -128,18 +128,18 @@ module _ {M : Type 1} (𝓤 : URA M) (H : Heap 𝓤) (A : Atoms 𝓤) (W : Given
     -- what an arm has before it and after it, beside the rooms of its temporaries and what it does not touch
     abbrev pub Before : List (Item 𝓤) → List (Item 𝓤)
     Before Δ =
-        ‵ (froom (tyInt w32) l₉ 0) ∷ ‵ (fdies (tyInt w32) l₉) ∷ ‵ (fat fullShare T′.mir l₇ 0 (state (h .used) (h .rule))) ∷ ‵ (fdies T′.mir l₇) ∷ ‵ (fat fullShare (tyInt w16) l₅ 0 (vint w16 r)) ∷ ‵ (fdies (tyInt w16) l₅)
+        ‵ (froom (tyInt w32) l₈ 0) ∷ ‵ (fdies (tyInt w32) l₈) ∷ ‵ (fat fullShare T′.mir l₆ 0 (state (h .used) (h .rule))) ∷ ‵ (fdies T′.mir l₆) ∷ ‵ (fat fullShare (tyInt w16) l₄ 0 (vint w16 r)) ∷ ‵ (fdies (tyInt w16) l₄)
         ∷ ‵ (fat fullShare (sliceTy (tyRef (named 1) mut (tyInt w8))) l₂ 0 s) ∷ ‵ (fdies (sliceTy (tyRef (named 1) mut (tyInt w8))) l₂) ∷ ‵ (fat fullShare (sliceTy (tyRef (named 0) imm (tyInt w8))) l₁ 0 t) ∷ ‵ (fdies (sliceTy (tyRef (named 0) imm (tyInt w8))) l₁)
         ∷ ‵ (flft κ₀ q₀) ∷ ‵ (flft κ₁ q₁) ∷ ‵ Rows ∷ ‵ Cursor ∷ Δ
 
     abbrev pub After : ℕ → List ℕ → Standing → List (Item 𝓤) → List (Item 𝓤)
     After x zs h′ Δ =
-        ‵ (fat fullShare T′.mir l₇ 0 (state (h′ .used) (h′ .rule))) ∷ ‵ (flft κ₁ q₁) ∷ ‵ (flft κ₀ q₀) ∷ ‵ (finally u8 γ₁ zs) ∷ ‵ Rows ∷ ‵ (fat fullShare (tyInt w32) l₉ 0 (vint w32 x)) ∷ ‵ (fdies (tyInt w32) l₉) ∷ ‵ (fdies T′.mir l₇)
-        ∷ ‵ (fat fullShare (tyInt w16) l₅ 0 (vint w16 r)) ∷ ‵ (fdies (tyInt w16) l₅)
+        ‵ (fat fullShare T′.mir l₆ 0 (state (h′ .used) (h′ .rule))) ∷ ‵ (flft κ₁ q₁) ∷ ‵ (flft κ₀ q₀) ∷ ‵ (finally u8 γ₁ zs) ∷ ‵ Rows ∷ ‵ (fat fullShare (tyInt w32) l₈ 0 (vint w32 x)) ∷ ‵ (fdies (tyInt w32) l₈) ∷ ‵ (fdies T′.mir l₆)
+        ∷ ‵ (fat fullShare (tyInt w16) l₄ 0 (vint w16 r)) ∷ ‵ (fdies (tyInt w16) l₄)
         ∷ ‵ (fat fullShare (sliceTy (tyRef (named 1) mut (tyInt w8))) l₂ 0 s) ∷ ‵ (fdies (sliceTy (tyRef (named 1) mut (tyInt w8))) l₂) ∷ ‵ (fat fullShare (sliceTy (tyRef (named 0) imm (tyInt w8))) l₁ 0 t) ∷ ‵ (fdies (sliceTy (tyRef (named 0) imm (tyInt w8))) l₁) ∷ Δ
 
     module _ (C : Calls 𝓤 H) (Λ : Loops 𝓤 H) (fm : FmC 𝓤 H (W .laws) C) (f : Name) (known-thin : Triple 𝓤 (C f) (Lands l 𝓤 H A)) (E : Env 𝓤 H) (e₁ : spotOf 𝓤 H E 1 ≡ (sliceTy (tyRef (named 0) imm (tyInt w8)), l₁, 0)) (e₂ : spotOf 𝓤 H E 2 ≡ (sliceTy (tyRef (named 1) mut (tyInt w8)), l₂, 0))
-        (e₅ : spotOf 𝓤 H E 5 ≡ (tyInt w16, l₅, 0)) (e₇ : spotOf 𝓤 H E 7 ≡ (T′.mir, l₇, 0)) (e₉ : spotOf 𝓤 H E 9 ≡ (tyInt w32, l₉, 0)) where
+        (e₄ : spotOf 𝓤 H E 4 ≡ (tyInt w16, l₄, 0)) (e₆ : spotOf 𝓤 H E 6 ≡ (T′.mir, l₆, 0)) (e₈ : spotOf 𝓤 H E 8 ≡ (tyInt w32, l₈, 0)) where
       pub arm : (q : Kit.Post 𝓤 H) (a b c la lb lc : ℕ) → spotOf 𝓤 H E a ≡ (pointer, la, 0) → spotOf 𝓤 H E b ≡ (slice, lb, 0) → spotOf 𝓤 H E c ≡ (lent, lc, 0) → (Δ : List (Item 𝓤))
           → ((x : ℕ) (zs : List ℕ) (h′ : Standing) → Landed l r ts ys h x zs h′ → Sq W (Rooms la lb lc ∷ After x zs h′ Δ) (prop (post 𝓤 H q next))) → Sq W (Rooms la lb lc ∷ Before Δ) (runs C Λ E (arm-code a b c f) q)
       unfolding partOf
@@ -147,26 +147,26 @@ module _ {M : Type 1} (𝓤 : URA M) (H : Heap 𝓤) (A : Atoms 𝓤) (W : Given
           unbundle ! $
           assigns ! (addr ! (from-at ! e₂ (fld ! refl (hop ! (look-in ! 12 (sub ! 0 refl (whole !))) (stop !))))) (from-at ! ea (stop !)) (init ! 0 refl (tt, tt)) $
           assigns ! (agg ! (and-then ! (load ! (from-at ! ea (stop !)) (look ! 0 refl)) (and-then ! (load ! (from-at ! e₂ (fld ! refl (stop !))) (look-in ! 12 (sub ! 1 refl (whole !)))) (no-more !)))) (from-at ! eb (stop !)) (init ! 2 refl (tt, (tt, (record { fits = room₁ .0 }, tt)))) $
-          assigns ! (addr ! (from-at ! e₇ (stop !))) (from-at ! ec (stop !)) (init ! 4 refl (tt, tt)) $
+          assigns ! (addr ! (from-at ! e₆ (stop !))) (from-at ! ec (stop !)) (init ! 4 refl (tt, tt)) $
           -- the state is lent for a lifetime ν of the call, and the cursor is passed on for good
-          lft-new ! tt (λ ν. move ! (9 ∷ []) $ use1 W (‵ (cellAt fullShare (R .mir) (state (h .used) (h .rule) ∷ []) l₇ 0)) (W .laws .at-raw fullShare T′.mir l₇ 0 (state (h .used) (h .rule))) $
+          lft-new ! tt (λ ν. move ! (9 ∷ []) $ use1 W (‵ (cellAt fullShare (R .mir) (state (h .used) (h .rule) ∷ []) l₆ 0)) (W .laws .at-raw fullShare T′.mir l₆ 0 (state (h .used) (h .rule))) $
           owned ! R (Is R) (LL.makes T.the-type T′.the-plain 𝓤 H A) h (state (h .used) (h .rule) ∷ []) (LL.owes T.the-type T′.the-laws h ((refl, k-fits), ((refl, p-fits), tt))) $ move ! (1 ∷ 0 ∷ []) $ fjoin ! $
-          fpack ! (List Val) (λ us. fsep (cellAt fullShare (R .mir) us l₇ 0) (R .own h us)) (state (h .used) (h .rule) ∷ []) $
-          use1 W (later (∃ (λ (δ : GName). ‵ (State ν δ) ⊛ ‵ (flent (ν ∷ []) (Body (lies R) l₇ 0 δ))))) (lends-ref 𝓤 H A W R (named 2) (ν ∷ []) h l₇ 0) $ await ! tt $ pick ! (λ δ. split ! $
+          fpack ! (List Val) (λ us. fsep (cellAt fullShare (R .mir) us l₆ 0) (R .own h us)) (state (h .used) (h .rule) ∷ []) $
+          use1 W (later (∃ (λ (δ : GName). ‵ (State ν δ) ⊛ ‵ (flent (ν ∷ []) (Body (lies R) l₆ 0 δ))))) (lends-ref 𝓤 H A W R (named 2) (ν ∷ []) h l₆ 0) $ await ! tt $ pick ! (λ δ. split ! $
           move ! (18 ∷ 19 ∷ 2 ∷ []) $ group ! 3 $ move ! (18 ∷ []) $ use1 W (‵ Rows ⊛ ‵ Rows) (shr-slice-copy 𝓤 H A W (named 0) κ₀ u8 .twice rows (t ∷ [])) $ split ! $
           move ! (0 ∷ 20 ∷ 3 ∷ []) $ group ! 3 $ move ! (0 ∷ 2 ∷ []) $ use2 W (raw (Lands l 𝓤 H A .pre (to-thin ν δ))) (goes-thin ν δ) $
-          -- [what the function asks; the table; the lender's part; the temporaries; _9; d₇; _5; _2; _1]
-          calls-at-last ! fm (Lands l 𝓤 H A) known-thin (to-thin ν δ) (and-then ! (load ! (from-at ! e₁ (stop !)) (look ! 16 refl)) (and-then ! (load ! (from-at ! eb (stop !)) (look ! 5 refl)) (and-then ! (load ! (from-at ! ec (stop !)) (look ! 7 refl)) (and-then ! (load ! (from-at ! e₅ (stop !)) (look ! 12 refl)) (no-more !))))) (λ w.
+          -- [what the function asks; the table; the lender's part; the temporaries; _8; d₆; _4; _2; _1]
+          calls-at-last ! fm (Lands l 𝓤 H A) known-thin (to-thin ν δ) (and-then ! (load ! (from-at ! e₁ (stop !)) (look ! 16 refl)) (and-then ! (load ! (from-at ! eb (stop !)) (look ! 5 refl)) (and-then ! (load ! (from-at ! ec (stop !)) (look ! 7 refl)) (and-then ! (load ! (from-at ! e₄ (stop !)) (look ! 12 refl)) (no-more !))))) (λ w.
           use1 W (later (∃ (λ (x : ℕ). ((‵ (flft κ₀ q₀) ⊛ ‵ (flft κ₁ q₁) ⊛ ‵ (flft (ν ∷ []) fullShare) ⊛ ‵ ftrue) ⊛ ‵ (u32 .own x (w ∷ []))) ⊛ raw (ensured 𝓤 H A thin.ended (thin-clauses l 𝓤) (κ₀, (κ₁, (ν ∷ [], tt))) (rows, (cursor, (at δ, (r, tt)))) tt x)))) (id⊢ 𝓤 _) $ await ! tt $ pick ! (λ x.
           split ! $ move ! (1 ∷ []) $ use1 W (∃ (λ (zs : Unit {0} × (List ℕ × (Standing × (Unit {0} × Unit {0})))). ‵ (lasts thin.ended (κ₀, (κ₁, (ν ∷ [], tt))) (rows, (cursor, (at δ, (r, tt)))) zs) ⊛ raw (fact 𝓤 (Stepped r ts (moveOf l) (h .used) (h .rule) ys (zs .1 .0) (landed (zs .1 .1 .0) x))))) (id⊢ 𝓤 _) $ pick ! (λ zs.
           split ! $ move ! (1 ∷ []) $ heard ! (Stepped r ts (moveOf l) (h .used) (h .rule) ys (zs .1 .0) (landed (zs .1 .1 .0) x)) (λ e. fsplit ! $ drop ! $ fsplit ! $ fsplit ! $ move ! (1 ∷ []) $ feqL ! (λ same.
           move ! (1 ∷ []) $ fsplit ! $ move ! (3 ∷ []) $ split ! $ move ! (1 ∷ []) $ peeks ! u32 (Is u32) (shows 𝓤 H A u32) x (w ∷ []) (λ is. drop ! $
           -- [the tokens; the last state; true; the last list; the table; the lender's part; the temporaries; …]
           split ! $ move ! (1 ∷ []) $ split ! $ move ! (1 ∷ []) $ split ! $ lft-end ! tt $ move ! (0 ∷ 8 ∷ 4 ∷ []) $
-          use3 W (later (‵ (lies R .lies (zs .1 .1 .0) l₇ 0))) (ref-back 𝓤 H A W R (ν ∷ []) δ (zs .1 .1 .0) l₇ 0) $ await ! tt $ fpick ! (λ us. fsplit ! $ move ! (1 ∷ []) $
-          peeks ! R (Is R) (shows 𝓤 H A R) (zs .1 .1 .0) us (λ is-h. drop ! $ rewrite ! 0 (λ (z : List Val). ‵ (cellAt fullShare (R .mir) z l₇ 0)) (LL.tells T.the-type T′.the-laws (zs .1 .1 .0) us is-h) refl $
-          use1 W (‵ (fat fullShare T′.mir l₇ 0 (state (zs .1 .1 .0 .used) (zs .1 .1 .0 .rule)))) (W .laws .raw-at fullShare T′.mir l₇ 0 (state (zs .1 .1 .0 .used) (zs .1 .1 .0 .rule))) $
-          -- [_7; true; κ₁'s token; κ₀'s; true; the last list; the table; the temporaries; _9; d₇; _5; _2; _1]
-          land-last ! (from-at ! e₉ (stop !)) (init ! 13 refl (uint-lawful 𝓤 H A W w32 .typed x _ is .0)) $ rewrite ! 13 (λ (u : Val). ‵ (fat fullShare (tyInt w32) l₉ 0 u)) (ap only (is .0)) refl $
+          use3 W (later (‵ (lies R .lies (zs .1 .1 .0) l₆ 0))) (ref-back 𝓤 H A W R (ν ∷ []) δ (zs .1 .1 .0) l₆ 0) $ await ! tt $ fpick ! (λ us. fsplit ! $ move ! (1 ∷ []) $
+          peeks ! R (Is R) (shows 𝓤 H A R) (zs .1 .1 .0) us (λ is-h. drop ! $ rewrite ! 0 (λ (z : List Val). ‵ (cellAt fullShare (R .mir) z l₆ 0)) (LL.tells T.the-type T′.the-laws (zs .1 .1 .0) us is-h) refl $
+          use1 W (‵ (fat fullShare T′.mir l₆ 0 (state (zs .1 .1 .0 .used) (zs .1 .1 .0 .rule)))) (W .laws .raw-at fullShare T′.mir l₆ 0 (state (zs .1 .1 .0 .used) (zs .1 .1 .0 .rule))) $
+          -- [_6; true; κ₁'s token; κ₀'s; true; the last list; the table; the temporaries; _8; d₆; _4; _2; _1]
+          land-last ! (from-at ! e₈ (stop !)) (init ! 13 refl (uint-lawful 𝓤 H A W w32 .typed x _ is .0)) $ rewrite ! 13 (λ (u : Val). ‵ (fat fullShare (tyInt w32) l₈ 0 u)) (ap only (is .0)) refl $
           forget ! 7 refl $ forget ! 9 refl $ forget ! 11 refl $ move ! (7 ∷ 8 ∷ 9 ∷ 10 ∷ 11 ∷ 12 ∷ []) $ group ! 6 $ move ! (2 ∷ 5 ∷ []) $ drop ! $ drop ! $
           rest x (zs .1 .0) (zs .1 .1 .0) (record { stepped = e; same = same; answer = is .1; used = LL.owed T.the-type T′.the-laws (zs .1 .1 .0) us is-h .0 .1; rule = LL.owed T.the-type T′.the-laws (zs .1 .1 .0) us is-h .1 .0 .1 })))))))))))

@@ -29,8 +29,8 @@ use Rattle.letter.specs.declared.Letter.{Letter}
 use Rattle.letter.specs.Letter.{moveOf}
 use Rattle.letter_moves.specs.Standing.{Stands, Stepped}
 use Rattle.letter_step.specs.Landed.{landed}
-use Rattle.letter_step.proofs.Standing as standing
-use Rattle.letter_step.proofs.Standing.Laws as standing′
+use Rattle.letter_arrival.proofs.Standing as standing
+use Rattle.letter_arrival.proofs.Standing.Laws as standing′
 use Rattle.letter_moves.proofs.to_first_root as lead
 use Rattle.letter_step.proofs.first_root as thin
 
@@ -40,8 +40,8 @@ at-node =
     seq (assign (place 12 []) (addrOf (place 2 (field 0 ∷ deref (tyInt w8) ∷ []))))
     (seq (assign (place 13 []) (aggregate (copy (place 12 []) ∷ copy (place 2 (field 1 ∷ [])) ∷ [])))
     (seq (call #letter_arrival·arrive (copy (place 1 []) ∷ copy (place 13 []) ∷ copy (place 5 []) ∷ []) (place 6 []))
-    (seq (assign (place 3 (deref standing′.mir ∷ [])) (aggregate (copy (place 6 (field 0 ∷ [])) ∷ copy (place 6 (field 1 ∷ [])) ∷ [])))
-    (seq (assign (place 0 []) (rvOpd (copy (place 6 (field 2 ∷ []))))) return))))
+    (seq (assign (place 3 (deref standing′.mir ∷ [])) (rvOpd (copy (place 6 (field 0 ∷ [])))))
+    (seq (assign (place 0 []) (rvOpd (copy (place 6 (field 1 ∷ []))))) return))))
 
 abbrev pub nowhere-else : Body
 nowhere-else = seq (assign (place 0 []) (rvOpd (intBig w32 65535))) return

@@ -30,7 +30,7 @@ use Rattle.letter_arrival.proofs.arrive.Symbol.{name as #letter_arrival·arrive
 use Rattle.letter_arrival.proofs.arrive.Met as arrive-thm
 use Rattle.letter.specs.declared.Letter.{Letter}
 use Rattle.letter_moves.specs.Standing.{Stands}
-use Rattle.letter_step.proofs.Standing as T
+use Rattle.letter_arrival.proofs.Standing as T
 use Rattle.letter_step.proofs.Thin.{function, thin-clauses, Leads, Lands, Arrives}
 use Rattle.letter_step.proofs.Walks.{stayed, walk}
 use Rattle.letter_step.proofs.first_root as thin

@@ -63,12 +63,12 @@ use Rattle.letter_arrival.proofs.Landing.Laws as landing′
 use Rattle.letter_arrival.proofs.arrive as arrive
 use Rattle.letter_arrival.proofs.arrive.Symbol.{name as #letter_arrival·arrive}
 use Rattle.letter.specs.declared.Letter.{Letter}
-use Rattle.letter_step.specs.declared.Standing.{Standing}
+use Rattle.letter_arrival.specs.declared.Standing.{Standing}
 use Rattle.letter.specs.Letter.{moveOf}
 use Rattle.letter_moves.specs.Standing.{Stands, Stepped}
 use Rattle.letter_step.specs.Landed.{landed}
-use Rattle.letter_step.proofs.Standing as T
-use Rattle.letter_step.proofs.Standing.Laws as T′
+use Rattle.letter_arrival.proofs.Standing as T
+use Rattle.letter_arrival.proofs.Standing.Laws as T′
 use Rattle.letter_moves.proofs.Stands.{move-fitting, stepped-node, stepped-nowhere}
 use Rattle.letter_step.proofs.Lent.{LentMut, LentShared, lends-mut, mut-back, lends-shared, shared-back}
 use Rattle.letter_step.proofs.Thin.{function, decided, at-node, nowhere-else, taking, lead-clauses, thin-clauses, Leads, Arrives}
@@ -212,8 +212,8 @@ module _ (l : Letter) {M : Type 1} (𝓤 : URA M) (H : Heap 𝓤) (A : Atoms �
 
     module _ (fm : FmC 𝓤 H (W .laws) C) (known-arrive : Triple 𝓤 (C #letter_arrival·arrive) (Arrives 𝓤 H A mem run)) where
       -- what `arrive` returned fits its fields
-      fits : (y : Landing) (w : Val) → Is landing.the-row y (w ∷ []) → (y .used < 2 ^ 64) × ((y .rule < 2 ^ 16) × (y .answer < 2 ^ 32))
-      fits y w is = let f = LL.owed landing.the-type landing′.the-laws y _ is in (f .0 .1, (f .1 .0 .1, f .1 .1 .0 .1))
+      fits : (y : Landing) (w : Val) → Is landing.the-row y (w ∷ []) → (y .at .used < 2 ^ 64) × ((y .at .rule < 2 ^ 16) × (y .answer < 2 ^ 32))
+      fits y w is = let f = LL.owed landing.the-type landing′.the-laws y _ is in let g = LL.owed T.the-type T′.the-laws (y .at) _ (f .0) in (g .0 .1, (g .1 .0 .1, f .1 .0 .1))
 
       -- at a node: `arrive` writes its cells, and what it returns is stored
       arrives : h .used < 2 ^ 64 → h .rule < 2 ^ 16 → (x : Change) → Is change.the-row x (v x ∷ []) → moves (factsIn ts) r (moveOf l) (h .rule, cellsIn ys (h .used)) ≡ some (changeNode x ys)
@@ -239,11 +239,11 @@ module _ (l : Letter) {M : Type 1} (𝓤 : URA M) (H : Heap 𝓤) (A : Atoms �
           split ! $ move ! (1 ∷ []) $ split ! $ lft-end ! tt $ move ! (0 ∷ 6 ∷ 3 ∷ []) $
           use3 W (later (‵ (Cursor (zs .1 .0)) ⊛ ‵ (flft κ₁ q₁))) (mut-back u8 κ₁ (ν ∷ []) q₁ γ₁ b₁ o₁ 𝓤 H A W (named 1) (named 1) ys δ (zs .1 .0) room₁ same) $ await ! tt $ split ! $ move ! (2 ∷ 4 ∷ []) $ drop ! $ drop ! $
           -- the state and the answer are stored, and the borrow of the state is closed
-          assigns ! (agg ! (and-then ! (load ! (from ! (fld ! refl (stop !))) (look-in ! 22 (sub ! 0 refl (whole !)))) (and-then ! (load ! (from ! (fld ! refl (stop !))) (look-in ! 22 (sub ! 1 refl (whole !)))) (no-more !)))) (from ! (hop ! (look ! 28 refl) (stop !))) (store-raw ! 4 refl (tt, (record { fits = fits y w is-y .0 }, (record { fits = fits y w is-y .1 .0 }, tt)))) $
-          assigns ! (of-opd ! (load ! (from ! (fld ! refl (stop !))) (look-in ! 22 (sub ! 2 refl (whole !))))) (from ! (stop !)) (init ! 34 refl (tt, record { fits = fits y w is-y .1 .1 })) $
-          shut ! tt (zs .1 .0) (record { used = y .used; rule = y .rule }) (fits y w is-y .0) (fits y w is-y .1 .0) $
+          assigns ! (of-opd ! (load ! (from ! (fld ! refl (stop !))) (look-in ! 22 (sub ! 0 refl (whole !))))) (from ! (hop ! (look ! 28 refl) (stop !))) (store-raw ! 4 refl (tt, (record { fits = fits y w is-y .0 }, (record { fits = fits y w is-y .1 .0 }, tt)))) $
+          assigns ! (of-opd ! (load ! (from ! (fld ! refl (stop !))) (look-in ! 22 (sub ! 1 refl (whole !))))) (from ! (stop !)) (init ! 34 refl (tt, record { fits = fits y w is-y .1 .1 })) $
+          shut ! tt (zs .1 .0) (y .at) (fits y w is-y .0) (fits y w is-y .1 .0) $
           forget ! 7 refl $ forget ! 9 refl $ forget ! 11 refl $ forget ! 13 refl $ forget ! 15 refl $ forget ! 17 refl $ forget ! 19 refl $ forget ! 21 refl $ forget ! 23 refl $ forget ! 25 refl $ forget ! 27 refl $ forget ! 29 refl $ forget ! 31 refl $ returns ! (look ! 33 refl) $ forget ! 33 refl $
-          frees-all (y .answer) (zs .1 .0) (record { used = y .used; rule = y .rule }) (fits y w is-y .1 .1) same (stepped-node S (moveOf l) e arrived)))))))))
+          frees-all (y .answer) (zs .1 .0) (y .at) (fits y w is-y .1 .1) same (stepped-node S (moveOf l) e arrived)))))))))
 
       -- the let-else, by cases on where the letter leads
       matched : h .used < 2 ^ 64 → h .rule < 2 ^ 16 → (o : Outcome) (w : Val) → Is outcome-type.the-row o (w ∷ []) → Said o → Sq W (Open ys h (Told o)) (runs C Λ E decided (atRet E Post))

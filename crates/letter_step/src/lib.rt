@@ -1,16 +1,11 @@
 // One letter from a place: the state of a walk, and a function for each letter (document 01, "Letters").
 use letter_arrival::Landing;
+use letter_arrival::Standing;
 use move_parts::Outcome;
 ghost use Rattle.letter.specs.Letter.{moveOf};
 ghost use Rattle.letter_moves.specs.Standing.{Stands, Stepped};
 ghost use Rattle.letter_step.specs.Landed.{landed};
 use letter::Letter;
-
-// The state of a walk while letters run: the used cells and the standing rule, which change together.
-struct Standing {
-    used: usize,
-    rule: u16,
-}
 
 // a: the root of the first tree, or the place is kept.
 fn first_root(rows: &[u8], cursor: &mut [u8], at: &mut Standing, r: u16) -> u32
@@ -22,10 +17,7 @@ fn first_root(rows: &[u8], cursor: &mut [u8], at: &mut Standing, r: u16) -> u32
         return Letter::NOWHERE;
     };
     let landing = letter_arrival::arrive(rows, cursor, change);
-    *at = Standing {
-        used: landing.used,
-        rule: landing.rule,
-    };
+    *at = landing.at;
     landing.answer
 }
 
@@ -38,10 +30,7 @@ fn last_root(rows: &[u8], cursor: &mut [u8], at: &mut Standing, r: u16) -> u32
         return Letter::NOWHERE;
     };
     let landing = letter_arrival::arrive(rows, cursor, change);
-    *at = Standing {
-        used: landing.used,
-        rule: landing.rule,
-    };
+    *at = landing.at;
     landing.answer
 }
 
@@ -55,10 +44,7 @@ fn first_child(rows: &[u8], cursor: &mut [u8], at: &mut Standing, r: u16) -> u32
         return Letter::NOWHERE;
     };
     let landing = letter_arrival::arrive(rows, cursor, change);
-    *at = Standing {
-        used: landing.used,
-        rule: landing.rule,
-    };
+    *at = landing.at;
     landing.answer
 }
 
@@ -72,10 +58,7 @@ fn last_child(rows: &[u8], cursor: &mut [u8], at: &mut Standing, r: u16) -> u32
         return Letter::NOWHERE;
     };
     let landing = letter_arrival::arrive(rows, cursor, change);
-    *at = Standing {
-        used: landing.used,
-        rule: landing.rule,
-    };
+    *at = landing.at;
     landing.answer
 }
 
@@ -89,10 +72,7 @@ fn next_sibling(rows: &[u8], cursor: &mut [u8], at: &mut Standing, r: u16) -> u3
         return Letter::NOWHERE;
     };
     let landing = letter_arrival::arrive(rows, cursor, change);
-    *at = Standing {
-        used: landing.used,
-        rule: landing.rule,
-    };
+    *at = landing.at;
     landing.answer
 }
 
@@ -106,10 +86,7 @@ fn previous_sibling(rows: &[u8], cursor: &mut [u8], at: &mut Standing, r: u16) -
         return Letter::NOWHERE;
     };
     let landing = letter_arrival::arrive(rows, cursor, change);
-    *at = Standing {
-        used: landing.used,
-        rule: landing.rule,
-    };
+    *at = landing.at;
     landing.answer
 }
 
@@ -122,10 +99,7 @@ fn parent(rows: &[u8], cursor: &mut [u8], at: &mut Standing, r: u16) -> u32
         return Letter::NOWHERE;
     };
     let landing = letter_arrival::arrive(rows, cursor, change);
-    *at = Standing {
-        used: landing.used,
-        rule: landing.rule,
-    };
+    *at = landing.at;
     landing.answer
 }
 
@@ -138,19 +112,16 @@ fn same(rows: &[u8], cursor: &mut [u8], at: &mut Standing, r: u16) -> u32
         return Letter::NOWHERE;
     };
     let landing = letter_arrival::arrive(rows, cursor, change);
-    *at = Standing {
-        used: landing.used,
-        rule: landing.rule,
-    };
+    *at = landing.at;
     landing.answer
 }
 
-// A letter from k cells and rule p: decided on the cells as they are, and then written.
-pub fn step(rows: &[u8], cursor: &mut [u8], k: usize, p: u16, r: u16, letter: Letter) -> Landing
-    requires { ⌜ Stands r (now rows) (now cursor) k p ⌝ }
-    ensures { λ x. ⌜ Stepped r (now (rows .entry)) (moveOf letter) k p (now (cursor .entry)) (now (cursor .exit)) x ⌝ }
+// A letter from a place: decided on the cells as they are, and then written.
+pub fn step(rows: &[u8], cursor: &mut [u8], from: Standing, r: u16, letter: Letter) -> Landing
+    requires { ⌜ Stands r (now rows) (now cursor) (from .used) (from .rule) ⌝ }
+    ensures { λ x. ⌜ Stepped r (now (rows .entry)) (moveOf letter) (from .used) (from .rule) (now (cursor .entry)) (now (cursor .exit)) x ⌝ }
 {
-    let mut at = Standing { used: k, rule: p };
+    let mut at = from;
     let answer = match letter {
         Letter::A => first_root(rows, cursor, &mut at, r),
         Letter::Z => last_root(rows, cursor, &mut at, r),
@@ -161,9 +132,5 @@ pub fn step(rows: &[u8], cursor: &mut [u8], k: usize, p: u16, r: u16, letter: Le
         Letter::U => parent(rows, cursor, &mut at, r),
         Letter::S => same(rows, cursor, &mut at, r),
     };
-    Landing {
-        used: at.used,
-        rule: at.rule,
-        answer,
-    }
+    Landing { at, answer }
 }

@@ -12,9 +12,9 @@ use Rattle.forest.specs.Letter.{Letter}
 use Rattle.forest.specs.Reference.{Path, labelAt, answer, moved, answers, pathAfter}
 use Rattle.forest.specs.Walk.{placeAt, pathOf}
 use Rattle.forest.specs.Good.{Sort, Good}
-use Rattle.forest.specs.Position.{Located, labelOf, locatedOf}
+use Rattle.forest.specs.Position.{Located, labelOf, locatedOf, Named}
 use Rattle.forest.proofs.Forget.{label}
-use Rattle.forest.proofs.Steps.{Named, moved-named}
+use Rattle.forest.proofs.Steps.{moved-named}
 use Rattle.forest.proofs.Relabel.{answer-relabel, moved-relabel, pathAfter-relabel}
 use Rattle.forest.proofs.Finger.{placed-labelAt, placed-answer, placed-moved, placed-after}
 use Rattle.forest.proofs.Placed.{placedAs}

@@ -13,9 +13,9 @@ use Rattle.forest.specs.Letter.{Letter, isRoot}
 use Rattle.forest.specs.Reference.{Path, labelAt, isAbove, answer, moved}
 use Rattle.forest.specs.Walk.{placeAt, cellsOf}
 use Rattle.forest.specs.Good.{Sort, Good}
-use Rattle.forest.specs.Position.{Position, Located, cells, locatedOf}
+use Rattle.forest.specs.Position.{Position, Located, cells, locatedOf, Named}
 use Rattle.forest.proofs.Cases.{by-option}
-use Rattle.forest.proofs.Steps.{Named, moved-nowhere, answer-label}
+use Rattle.forest.proofs.Steps.{moved-nowhere, answer-label}
 use Rattle.forest.proofs.Finger.{answer-root, answer-child, answer-sibling, answer-parent, answer-stay, placed-labelAt, placed-moved}
 use Rattle.forest.proofs.Placed.{placedAs}
 use Rattle.forest.proofs.Nodes.{node-at}

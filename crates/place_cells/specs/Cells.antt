@@ -44,3 +44,7 @@ Lies s k = cellLength * (k + 1) ≤ length s
 -- the bytes of the cursor that n rules need
 abbrev pub cursorLength : ℕ → ℕ
 cursorLength n = wordLength * cursorWords n
+
+-- the bytes of cell 0 and of the cells that a place of n rules can have: "k is at most 3 × n"
+abbrev pub placeLength : ℕ → ℕ
+placeLength n = cellLength * (3 * n + 1)

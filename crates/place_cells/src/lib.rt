@@ -48,10 +48,19 @@ impl Cell {
 
     pub const RIGHT: u16 = 4;
 
-    // Words of a cell, bytes of a cell.
+    // No cell: a kind that no cell has.
+    const NONE: u16 = 0;
+
+    // Words of a cell, bytes of a cell, and where its later words begin.
     pub const WORDS: usize = 4;
 
     pub const LENGTH: usize = 8;
+
+    const ONE: usize = 2;
+
+    const TWO: usize = 4;
+
+    const THREE: usize = 6;
 
     // Cells of the cursor a rule, with as many more.
     pub const A_RULE: usize = 4;
@@ -91,9 +100,9 @@ impl Cell {
         let at = Cell::LENGTH * i;
         Cell {
             kind: words::read16(s, at),
-            one: words::read16(s, at + 2),
-            two: words::read16(s, at + 4),
-            three: words::read16(s, at + 6),
+            one: words::read16(s, at + Cell::ONE),
+            two: words::read16(s, at + Cell::TWO),
+            three: words::read16(s, at + Cell::THREE),
         }
     }
 
@@ -104,17 +113,17 @@ impl Cell {
     {
         let at = Cell::LENGTH * i;
         words::write16(s, at, self.kind);
-        words::write16(s, at + 2, self.one);
-        words::write16(s, at + 4, self.two);
-        words::write16(s, at + 6, self.three);
+        words::write16(s, at + Cell::ONE, self.one);
+        words::write16(s, at + Cell::TWO, self.two);
+        words::write16(s, at + Cell::THREE, self.three);
     }
 
-    // No cell: a kind that no cell has.
+    // No cell.
     pub fn none() -> Cell
         ensures { λ r. ⌜ r ≡ noCell ⌝ }
     {
         Cell {
-            kind: 0,
+            kind: Cell::NONE,
             one: 0,
             two: 0,
             three: 0,
@@ -294,7 +303,7 @@ fn push(cursor: &mut [u8], k: usize, cell: Cell) -> usize
     requires { ⌜ Lies (now cursor) (high cell k) ⌝ }
     ensures { λ r. ⌜ (r ≡ high cell k) × Wrote (add cell (cellsIn (now (cursor .entry)) k)) (now (cursor .entry)) (now (cursor .exit)) ⌝ }
 {
-    if cell.kind == 0 {
+    if cell.kind == Cell::NONE {
         return k;
     }
     let top = k + 1;

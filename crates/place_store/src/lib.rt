@@ -1,9 +1,10 @@
 // The stored place: its number of used cells in cell 0, and zeros past them.
 ghost use mathlib.Core.Path.{_≡_};
-ghost use Prim.Native.Nat.{_+_, _*_, _≤_};
+ghost use Prim.Native.Nat.{_+_, _*_, _%_, _≤_};
 ghost use lib.ListN.{length};
-ghost use Rattle.forest.specs.Walk.{cellLength, cellsIn, headed, storedCursor};
-ghost use Rattle.place_cells.specs.Cells.{cursorLength};
+ghost use Rattle.forest.specs.Walk.{cellLength, cellAt, cellsIn, headed, storedCursor};
+ghost use Rattle.place_cells.specs.Cells.{cell, putCell, cursorLength};
+ghost use Rattle.place_store.specs.Head.{headOf};
 ghost use Rattle.place_store.specs.Past.{clearedPast};
 use place_cells::Cell;
 
@@ -17,18 +18,50 @@ fn clear_past(cursor: &mut [u8], k: usize, n: u16)
     work_rows::clear(&mut cursor[from..], to - from);
 }
 
+// Cell 0: the number of used cells, then three words, which are 0.
+pub struct Head {
+    pub used: u16,
+    one: u16,
+    two: u16,
+    three: u16,
+}
+
+impl Head {
+    // Cell 0 of a cursor.
+    pub fn read(cursor: &[u8]) -> Head
+        requires { ⌜ cellLength ≤ length (now cursor) ⌝ }
+        ensures { λ h. ⌜ h ≡ headOf (cellAt (now (cursor .entry)) 0) ⌝ }
+    {
+        let cell = Cell::read(cursor, 0);
+        Head {
+            used: cell.kind,
+            one: cell.one,
+            two: cell.two,
+            three: cell.three,
+        }
+    }
+
+    // Cell 0 of a place with k used cells, into the cursor.
+    fn write(cursor: &mut [u8], k: usize)
+        requires { ⌜ cellLength ≤ length (now cursor) ⌝ }
+        ensures { λ x. ⌜ now (cursor .exit) ≡ putCell (now (cursor .entry)) 0 (cell (k % 65536, 0, 0, 0)) ⌝ }
+    {
+        let cell = Cell {
+            kind: (k % 65536) as u16,
+            one: 0,
+            two: 0,
+            three: 0,
+        };
+        cell.write(cursor, 0);
+    }
+}
+
 // The place of cells 1 to k: their number into cell 0, with no later word, and zeros past them.
 pub fn store(cursor: &mut [u8], k: usize, n: u16)
     requires { ⌜ (cellLength * (k + 1) ≤ cursorLength n) × (cursorLength n ≤ length (now cursor)) ⌝ }
     ensures { λ x. ⌜ now (cursor .exit) ≡ storedCursor n (cellsIn (now (cursor .entry)) k) (now (cursor .entry)) ⌝ }
 {
-    let head = Cell {
-        kind: (k % 65536) as u16,
-        one: 0,
-        two: 0,
-        three: 0,
-    };
-    head.write(cursor, 0);
+    Head::write(cursor, k);
     clear_past(cursor, k, n);
 }
 
@@ -37,8 +70,8 @@ pub fn headed(cursor: &[u8], n: u16) -> bool
     requires { ⌜ cellLength ≤ length (now cursor) ⌝ }
     ensures { λ b. ⌜ b ≡ headed n (now (cursor .entry)) ⌝ }
 {
-    let head = Cell::read(cursor, 0);
-    let used = head.kind as usize;
+    let head = Head::read(cursor);
+    let used = head.used as usize;
     (head.one == 0)
         & ((head.two == 0)
             & ((head.three == 0)

@@ -73,15 +73,18 @@ module _ {s : List ℕ} {n start : ℕ} {work cursor letters given : List ℕ} (
     pub travels : Travels start n t cursor letters given
     travels =
         record {
-          rows =
+          place =
               record {
-                sound = rw (f .rules) (whole .sound);
-                closed = rw (f .rules) (whole .ends);
-                facts-are = f .facts-are ∙ ap factsOf (sym (f .rules));
-                climbs = f .climbs;
+                rows =
+                    record {
+                      sound = rw (f .rules) (whole .sound);
+                      closed = rw (f .rules) (whole .ends);
+                      facts-are = f .facts-are ∙ ap factsOf (sym (f .rules));
+                      climbs = f .climbs;
+                    };
+                count = omega arith;
+                room = L .room;
               };
-          count = omega arith;
-          room = L .room;
           answerable = L .answerable;
         }
 

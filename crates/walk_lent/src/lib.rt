@@ -2,7 +2,7 @@
 use letter::Read;
 use place_cells::Cell;
 ghost use mathlib.Core.Path.{_≡_};
-ghost use Rattle.forest.specs.Walk.{firstOther, enoughLent};
+ghost use Rattle.forest.specs.Walk.{firstOther, enoughCursor, enoughAnswers, enoughLent};
 ghost use Rattle.walk_lent.specs.Found.{foundAt};
 
 // Where the first byte that is no letter stands, if there is one.
@@ -25,11 +25,23 @@ pub fn first_other(letters: &[u8]) -> Found
     Found::Nothing
 }
 
+// Whether the cursor has the words that n rules need.
+pub fn enough_cursor(cursor: &[u8], n: u16) -> bool
+    ensures { λ b. ⌜ b ≡ enoughCursor n (now (cursor .entry)) ⌝ }
+{
+    Cell::WORDS * Cell::A_RULE * (n as usize + 1) <= words::word_count(cursor)
+}
+
+// Whether each letter has a word of answers.
+fn enough_answers(letters: &[u8], answers: &[u8]) -> bool
+    ensures { λ b. ⌜ b ≡ enoughAnswers (now (letters .entry)) (now (answers .entry)) ⌝ }
+{
+    letters.len() <= words::word_count(answers)
+}
+
 // Whether n rules have enough of work and cursor, and each letter a word of answers.
 pub fn enough_lent(work: &[u8], cursor: &[u8], letters: &[u8], answers: &[u8], n: u16) -> bool
     ensures { λ b. ⌜ b ≡ enoughLent (now (work .entry)) (now (cursor .entry)) (now (letters .entry)) (now (answers .entry)) n ⌝ }
 {
-    work_rows::enough_work(work, n)
-        & ((Cell::WORDS * Cell::A_RULE * (n as usize + 1) <= words::word_count(cursor))
-            & (letters.len() <= words::word_count(answers)))
+    work_rows::enough_work(work, n) & (enough_cursor(cursor, n) & enough_answers(letters, answers))
 }

@@ -11,10 +11,10 @@ use Rattle.letter_run.proofs.run.Statement.{statement}
 use Rattle.letter_run.proofs.run.Tie as tie
 
 abbrev Inv-loop : tie.InvT-loop
-Inv-loop rows cursor₀ letters answers₀ r k p used₀ rule₀ i₀ cursor answers used rule i = (i ≤ length letters) × Partway r rows letters k p cursor₀ answers₀ i used rule cursor answers
+Inv-loop rows cursor₀ letters answers₀ r at₀ i₀ cursor answers at i = (i ≤ length letters) × Partway r rows letters at₀ cursor₀ answers₀ i at cursor answers
 
 abbrev μ-loop : tie.MeasureT-loop
-μ-loop rows cursor₀ letters answers₀ r k p used₀ rule₀ i₀ cursor answers used rule i = length letters - i
+μ-loop rows cursor₀ letters answers₀ r at₀ i₀ cursor answers at i = length letters - i
 
 loop-holds : tie.Need-loop-holds Inv-loop μ-loop
 loop-holds c = (omega arith, partway-none (c .before .before .before .before .pre .0))
@@ -54,14 +54,17 @@ write16-requires : tie.Need-write16-requires Inv-loop μ-loop
 write16-requires c κs = let room = c .before .before .before .before .before .before .before .before .before .before .before .before .before .before .before .before .before .pre .1 in let long = c .before .before .before .before .before .before .before .before .before .before .before .before .loop .inv .1 .room in omega arith
 
 add-i : tie.Need-add-i Inv-loop μ-loop
-add-i c = omega arith
+add-i c = let long = c .before .before .before .before .before .before .before .before .before .before .before .before .before .before .before .before .before .before .before .before .before .good .1 .1 .0 .0 in let less = c .before .before .before .before .before .before .before .before .before .before .before .before .before .before .before .loop-test .taken in omega arith
 
 loop-less : tie.Need-loop-less Inv-loop μ-loop
 loop-less c = omega arith
 
 loop-again : tie.Need-loop-again Inv-loop μ-loop
 unfolding readAs
-loop-again c = (omega arith, partway-more (c .before .before .before .before .before .before .before .before .before .before .before .before .before .before .before .loop .inv .1) _ (c .before .before .before .before .before .before .before .before .before .before .before .before .before .before .loop-test .taken) (sym (c .before .before .before .before .before .before .before .before .before .before .before .before .letter-of .ensures) ∙ ap readAs (c .before .before .before .before .before .before .before .before .before .before .letter .given .1)) (c .before .before .before .before .before .before .before .before .before .before .before .before .before .before .before .before .before .before .before .before .pre .1) (c .before .before .before .before .before .before .before .step .ensures) (c .before .before .write16 .ensures))
+loop-again c =
+    (omega (arith, c .before .before .before .before .before .before .before .before .before .before .before .before .before .before .before .loop-test .taken), partway-more (c .before .before .before .before .before .before .before .before .before .before .before .before .before .before .before .before .loop .inv .1) _ (c .before .before .before .before .before .before .before .before .before .before .before .before .before .before .before .loop-test .taken)
+    (sym (c .before .before .before .before .before .before .before .before .before .before .before .before .before .letter-of .ensures) ∙ ap readAs (c .before .before .before .before .before .before .before .before .before .before .before .letter .given .1))
+    (c .before .before .before .before .before .before .before .before .before .before .before .before .before .before .before .before .before .before .before .before .before .pre .1) (c .before .before .before .before .before .before .before .before .step .ensures) (c .before .before .before .write16 .ensures))
 
 same-length-3 : tie.Need-same-length-3 Inv-loop μ-loop
 same-length-3 c = c .before .loop .inv .1 .within .same-length

@@ -4,7 +4,7 @@ use mathlib.Core.Path.{ap}
 use mathlib.Core.Bool.{_&&_}
 use lib.Dec.{eqb, leb}
 use Rattle.forest.specs.Walk.{headed, usedCells, cursorWords}
-use Rattle.place_cells.specs.declared.Cell.{Cell as Words}
+use Rattle.place_store.specs.declared.Head.{Head}
 use borrow.Author.Needs.{needs}
 use Rattle.place_store.proofs.headed.Statement.{statement}
 use Rattle.place_store.proofs.headed.Tie as tie
@@ -32,7 +32,7 @@ mul-result-3 c = search needs
 
 returns : tie.Need-returns
 unfolding headed usedCells cursorWords
-returns c = ap (λ (y : Words). eqb (y .one) 0 && (eqb (y .two) 0 && (eqb (y .three) 0 && leb (4 * (y .kind + 1)) (16 * (c .before .before .before .before .before .before .args .n + 1))))) (c .before .before .before .before .read .ensures)
+returns c = ap (λ (y : Head). eqb (y .one) 0 && (eqb (y .two) 0 && (eqb (y .three) 0 && leb (4 * (y .used + 1)) (16 * (c .before .before .before .before .before .before .args .n + 1))))) (c .before .before .before .before .read .ensures)
 
 pub headed-spec : {M : Type 1} → statement M
 headed-spec =

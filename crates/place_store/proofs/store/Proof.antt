@@ -8,9 +8,6 @@ use borrow.Author.Needs.{needs}
 use Rattle.place_store.proofs.store.Statement.{statement}
 use Rattle.place_store.proofs.store.Tie as tie
 
-cast-t6 : tie.Need-cast-t6
-cast-t6 c = search needs
-
 write-requires : tie.Need-write-requires
 write-requires c κs = search needs
 
@@ -28,4 +25,4 @@ returns c =
     ∙ stored-whole (now (a .cursor)) (a .k) (a .n) (λ i. omega (arith, c .before .before .before .before .before .before .before .before .slice-known .given i)) (c .before .before .before .before .before .before .before .before .before .pre .0) (c .before .before .before .before .before .before .before .before .before .pre .1)
 
 pub store-spec : {M : Type 1} → statement M
-store-spec = tie.close (tie.spec cast-t6 write-requires clear-past-requires same-length returns)
+store-spec = tie.close (tie.spec write-requires clear-past-requires same-length returns)

@@ -3,10 +3,10 @@ use mathlib.Core.Path.{_∙_}
 use denote.Ref.{now}
 use Rattle.facts.specs.Facts.{factsIn}
 use Rattle.letter_moves.proofs.Stands.{rows-held, walked-in}
-use Rattle.walk_place.proofs.Places.{placed-above, placed-node}
+use Rattle.place_open.proofs.Places.{placed-above, placed-node}
 use native.Mathlib.Omega.{arith}
-use Rattle.walk_place.proofs.placed.Statement.{statement}
-use Rattle.walk_place.proofs.placed.Tie as tie
+use Rattle.place_open.proofs.placed.Statement.{statement}
+use Rattle.place_open.proofs.placed.Tie as tie
 
 returns : tie.Need-returns
 returns c = let a = c .before .before .before .args in placed-above (factsIn (now (a .rows))) (a .r) (now (a .cursor)) (a .k) (c .if1 .taken)

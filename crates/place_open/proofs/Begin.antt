@@ -16,8 +16,7 @@ use Rattle.forest.specs.Reference.{Path, labelAt, answers, pathAfter}
 use Rattle.forest.specs.Walk.{cellAt, cellsIn, usedCells, headed, pathOf, Begun, stored, placeJudged, lettersOf, placeAt, storedCursor, cursorAfter, answerWord, wordsBytes, answersAfter}
 use Rattle.forest.proofs.Unfold.{ruleNumber-expression}
 use Rattle.forest.proofs.Forget.{label, placedForest-forgets}
-use Rattle.forest.specs.Position.{locatedOf}
-use Rattle.forest.proofs.Steps.{Named}
+use Rattle.forest.specs.Position.{locatedOf, Named}
 use Rattle.model.specs.Facts.{factsOf}
 use Rattle.model.specs.Model.{Node, standing}
 use Rattle.model.specs.Stored.{accepts}
@@ -26,16 +25,11 @@ use Rattle.model.proofs.Rules.{facts-agree}
 use Rattle.model.specs.Same.{Same}
 use Rattle.model.proofs.Outcome.{Found, accepted-path, refused-path, call-answers, call-cells}
 use Rattle.letter_moves.specs.Standing.{Valid}
-use Rattle.walk_place.specs.Travel.{placed}
+use Rattle.place_open.specs.Open.{placed, Stood}
 use Rattle.letter_moves.proofs.Valid.{good, fit}
 
 module _ {R : List Rule} {rank : ℕ → ℕ} (S : Sound R rank) {r : ℕ} (C : Closed R r) where
-  -- a place of the walked rule's forest: its path and the walker's node there
-  pub record Stood (p : Path) (n : Node) : Type 0 where
-    pub named : Named (locatedOf (expression R r)) p
-    pub same : Same (expression R r) (labelAt (locatedOf (expression R r)) p) n
-
-  pub stood-valid : (p : Path) (n : Node) → Stood p n → Valid R r n
+  pub stood-valid : (p : Path) (n : Node) → Stood R r p n → Valid R r n
   stood-valid p n s = record { position = labelAt (locatedOf (expression R r)) p; same = s .same }
 
   -- refusal 10
@@ -47,7 +41,7 @@ module _ {R : List Rule} {rank : ℕ → ℕ} (S : Sound R rank) {r : ℕ} (C : 
   unfolding placeJudged stored cellsIn pathOf
   place-above n cursor h u = rw (h, u)
 
-  stood-above : (p : ℕ) → Stood [] (p, [])
+  stood-above : (p : ℕ) → Stood R r [] (p, [])
   unfolding labelAt
   stood-above p = record { named = Named.above; same = Same.above }
 
@@ -55,7 +49,7 @@ module _ {R : List Rule} {rank : ℕ → ℕ} (S : Sound R rank) {r : ℕ} (C : 
   numbered = ruleNumber-expression R r
 
   place-accepted : (n : ℕ) (cursor : List ℕ) (k : ℕ) → headed n cursor ≡ true → usedCells cursor ≡ suc k → accepts (factsOf R) r (cellsIn cursor (suc k)) ≡ true
-      → (p : Path) × Stood p (standing (factsOf R) (cellsIn cursor (suc k)), cellsIn cursor (suc k)) × (placeJudged R n r cursor ≡ Begun.at n r p)
+      → (p : Path) × Stood R r p (standing (factsOf R) (cellsIn cursor (suc k)), cellsIn cursor (suc k)) × (placeJudged R n r cursor ≡ Begun.at n r p)
   unfolding placeJudged stored placedForest
   place-accepted n cursor k h u q =
       let f : Found (expression R r) (good S C (factsOf R) (λ k l. facts-agree R k)) (factsOf R) (fit S C (factsOf R) (λ k l. facts-agree R k)) (cellsIn cursor (suc k)) =
@@ -70,13 +64,13 @@ module _ {R : List Rule} {rank : ℕ → ℕ} (S : Sound R rank) {r : ℕ} (C : 
 
   -- both by the test of the stored cells, above the forest or at a node
   begins-at : (n : ℕ) (cursor : List ℕ) (k : ℕ) → headed n cursor ≡ true → usedCells cursor ≡ k → placed (factsOf R) r (cellsIn cursor k) ≡ true
-      → (p : Path) × Stood p (standing (factsOf R) (cellsIn cursor k), cellsIn cursor k) × (placeJudged R n r cursor ≡ Begun.at n r p)
+      → (p : Path) × Stood R r p (standing (factsOf R) (cellsIn cursor k), cellsIn cursor k) × (placeJudged R n r cursor ≡ Begun.at n r p)
   unfolding placed cellsIn
   begins-at n cursor zero h u q = ([], stood-above (standing (factsOf R) []), place-above n cursor h u)
   begins-at n cursor (suc k) h u q = place-accepted n cursor k h u q
 
   pub begins : (n : ℕ) (cursor : List ℕ) (k : ℕ) → headed n cursor ≡ true → k ≡ usedCells cursor → placed (factsOf R) r (cellsIn cursor k) ≡ true
-      → (p : Path) × Stood p (standing (factsOf R) (cellsIn cursor k), cellsIn cursor k) × (placeJudged R n r cursor ≡ Begun.at n r p)
+      → (p : Path) × Stood R r p (standing (factsOf R) (cellsIn cursor k), cellsIn cursor k) × (placeJudged R n r cursor ≡ Begun.at n r p)
   begins n cursor k h u q = begins-at n cursor k h (sym u) q
 
   pub begins-not : (n : ℕ) (cursor : List ℕ) (k : ℕ) → headed n cursor ≡ true → k ≡ usedCells cursor → placed (factsOf R) r (cellsIn cursor k) ≡ false
@@ -90,7 +84,7 @@ module _ {R : List Rule} {rank : ℕ → ℕ} (S : Sound R rank) {r : ℕ} (C : 
   unfolding placedForest
   labels-forest = placedForest-forgets R r
 
-  pub answers-left : (n : ℕ) (p : Path) (x : Node) → Stood p x → (letters given : List ℕ)
+  pub answers-left : (n : ℕ) (p : Path) (x : Node) → Stood R r p x → (letters given : List ℕ)
       → answersAfter R (Begun.at n r p) letters given ≡ inFront (wordsBytes (map answerWord (model.answers (factsOf R) r (lettersOf letters) x))) given
   unfolding answersAfter
   answers-left n p x s letters given =
@@ -99,7 +93,7 @@ module _ {R : List Rule} {rank : ℕ → ℕ} (S : Sound R rank) {r : ℕ} (C : 
       ∙ call-answers (expression R r) (good S C (factsOf R) (λ k l. facts-agree R k)) (factsOf R) (fit S C (factsOf R) (λ k l. facts-agree R k)) (lettersOf letters) p x (s .named) (s .same)
       ∙ ap (λ (k : ℕ). model.answers (factsOf R) k (lettersOf letters) x) numbered)
 
-  pub cursor-left : (n : ℕ) (p : Path) (x : Node) → Stood p x → (letters cursor : List ℕ)
+  pub cursor-left : (n : ℕ) (p : Path) (x : Node) → Stood R r p x → (letters cursor : List ℕ)
       → cursorAfter R (Begun.at n r p) letters cursor ≡ storedCursor n ((model.after (factsOf R) r (lettersOf letters) x) .1) cursor
   unfolding cursorAfter placedForest
   cursor-left n p x s letters cursor =
