@@ -19,6 +19,7 @@ use Rattle.place_cells.specs.Cells.{cursorLength}
 use Rattle.place_cells.proofs.Writes.{length-cells}
 use Rattle.letter_arrival.specs.declared.Standing.{Standing}
 use Rattle.letter_moves.specs.Standing.{rulesKept, Stands}
+use Rattle.letter_moves.proofs.Stands.{stands-few}
 use Rattle.letter_run.specs.Ran.{Ran}
 use Rattle.place_open.specs.Open.{Openable, OpensAt}
 use Rattle.place_open.proofs.Begin.{answers-left, cursor-left}
@@ -46,6 +47,16 @@ module _ {start n : ℕ} {t s letters given : List ℕ} (J : Travels start n t s
       let room = J .place .room in
       let many = J .place .count in
       let few = x .few in
+      (omega arith, omega arith)
+
+  -- and so does what was stored before
+  pub begun-lies : {s′ given′ : List ℕ} {end : ℕ} → Ran r t letters h s s′ given given′ end → (cellLength * (h .used + 1) ≤ cursorLength n) × (cursorLength n ≤ length s′)
+  unfolding cursorWords
+  begun-lies x =
+      let same = x .within .same-length in
+      let room = J .place .room in
+      let many = J .place .count in
+      let few = stands-few (O .stands) in
       (omega arith, omega arith)
 
   judged-accepted : Walked.Accepted ≡ walked (placeJudged (rulesKept t) n start s)

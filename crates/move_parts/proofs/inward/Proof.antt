@@ -2,6 +2,7 @@
 use Prim.Native.Nat.{ℕ}
 use mathlib.Core.Path.{sym, ap, _∙_}
 use mathlib.Core.Option.{some, Option·map}
+use native.Mathlib.Omega.{arith}
 use denote.Ref.{now}
 use Rattle.forest.specs.Place.{Cells, Side}
 use Rattle.forest.specs.Walk.{cellsIn}
@@ -38,7 +39,7 @@ enum-told : tie.Need-enum-told
 enum-told c = search needs
 
 continued-requires : tie.Need-continued-requires
-continued-requires c κs = held-less (c .before .before .before .before .before .before .pre) _ (c .before .before .before .pop-run .ensures .0)
+continued-requires c κs = held-less (c .before .before .before .before .before .before .pre) _ (omega (arith, c .before .before .before .pop-run .ensures .0))
 
 returns-2 : tie.Need-returns-2
 unfolding sideOf

@@ -40,7 +40,7 @@ enter-requires : tie.Need-enter-requires
 enter-requires c κs =
     let a = c .before .before .before .before .before .before .before .before .args in let h = c .before .before .before .before .before .before .before .before .pre in let P = In (now (a .work)) in
     let both = named-arms P (sym (c .before .before .before .before .before .before .rule-at .ensures) ∙ c .before .before .before .before .left .given .1) (h .0 .names (a .stem .rule) (h .1)) in
-    (h .0, rw (c .pick .ensures) (picked P (sideOf (a .side)) _ _ (both .0) (both .1)))
+    (h .0, rw (c .pick .ensures) (picked P (sideOf (a .side)) _ _ (search (both .0, both .1)) (search (both .0, both .1))))
 
 returns-2 : tie.Need-returns-2
 unfolding besideHole

@@ -6,6 +6,8 @@ use Rattle.model.specs.Model.{enter, inward}
 use Rattle.facts.specs.Facts.{factsIn}
 use Rattle.side.specs.Side.{sideOf}
 use Rattle.move_parts.specs.Moves.{outcome}
+use Rattle.move_parts.proofs.Held.{held-less}
+use native.Mathlib.Omega.{arith}
 use Rattle.move_parts.proofs.Outcomes.{took, took-none, else-some, else-none}
 use borrow.Author.Needs.{needs}
 use Rattle.moves.proofs.part_child.Statement.{statement}
@@ -33,7 +35,7 @@ enum-told : tie.Need-enum-told
 enum-told c = search needs
 
 inward-requires : tie.Need-inward-requires
-inward-requires c κs = c .before .before .before .before .before .before .before .pre .0
+inward-requires c κs = held-less (c .before .before .before .before .before .before .before .pre .0) _ (omega arith)
 
 returns-2 : tie.Need-returns-2
 returns-2 c =

@@ -21,7 +21,8 @@ cast-k c = search needs
 
 placed-requires : tie.Need-placed-requires
 placed-requires c κs =
-    (c .before .before .before .before .before .before .pre .rows, used-lies (c .before .before .before .before .before .before .pre) _ (sym (c .before .before .before .headed .ensures) ∙ not-false _ (c .before .before .if1 .left)) (used _ (c .before .read .ensures)))
+    let lies = used-lies (c .before .before .before .before .before .before .pre) _ (sym (c .before .before .before .headed .ensures) ∙ not-false _ (c .before .before .if1 .left)) (used _ (c .before .read .ensures)) in
+    (c .before .before .before .before .before .before .pre .rows, search (lies, head-lies (c .before .before .before .before .before .before .pre)))
 
 returns-2 : tie.Need-returns-2
 returns-2 c =

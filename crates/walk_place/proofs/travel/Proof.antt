@@ -1,5 +1,5 @@
 -- The stored place is opened; then the letters are taken from it and the place that they lead to is stored. Assumes nothing.
-use Rattle.walk_place.proofs.Places.{refused-walks, ready, arrived-lies, arrived}
+use Rattle.walk_place.proofs.Places.{refused-walks, ready, arrived-lies, begun-lies, arrived}
 use borrow.Author.Needs.{needs}
 use Rattle.walk_place.proofs.travel.Statement.{statement}
 use Rattle.walk_place.proofs.travel.Tie as tie
@@ -14,7 +14,11 @@ run-requires : tie.Need-run-requires
 run-requires c κs = (ready (c .before .before .before .before .before .before .before .before .before .before .before .pre) (c .before .before .before .before .before .«open» .ensures .at _ _ (c .before .before .before .walked .given .1)), c .before .before .before .before .before .before .before .before .before .before .before .pre .answerable)
 
 store-requires : tie.Need-store-requires
-store-requires c κs = arrived-lies (c .before .before .before .before .before .before .before .before .before .before .before .before .before .before .before .before .before .pre) (c .before .before .before .before .before .before .before .before .before .before .before .«open» .ensures .at _ _ (c .before .before .before .before .before .before .before .before .before .walked .given .1)) (c .before .before .before .before .before .run .ensures)
+store-requires c κs =
+    let j = c .before .before .before .before .before .before .before .before .before .before .before .before .before .before .before .before .before .pre in
+    let o = c .before .before .before .before .before .before .before .before .before .before .before .«open» .ensures .at _ _ (c .before .before .before .before .before .before .before .before .before .walked .given .1) in
+    let x = c .before .before .before .before .before .run .ensures in
+    search (arrived-lies j o x, begun-lies j o x)
 
 enum-known-refusal : tie.Need-enum-known-refusal
 enum-known-refusal c = search needs
