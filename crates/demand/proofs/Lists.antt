@@ -7,12 +7,12 @@ use mathlib.Core.List.{List, [], _∷_, _++_, map, map-append}
 use Rattle.plan.specs.declared.Checked.{Checked}
 use Rattle.plan.specs.Check.{checked, rulesOf}
 use Rattle.forest.specs.Forest.{Forest, forest}
-use Rattle.forest.specs.Place.{Placed, placedForest}
+use Rattle.forest.specs.Place.{Cell, Placed, placedForest}
 use Rattle.forest.specs.Reference.{Path, labelAt, answers, pathAfter}
 use Rattle.forest.specs.Walk.{lettersOf, cellsIn, usedCells, placeAt, cellsOf, answerWord}
 use Rattle.forest.proofs.Steps.{Named}
 use Rattle.demand.specs.Calls.{Call, lent, walkOf, lefts, cursorAfterCalls}
-use Rattle.demand.specs.Demand.{turnedDown, refusals, fingerPath, fingerAnswers, walkAnswers, someAccepted, ClearPast, Above, SameButSixteen, Meets, Demand3}
+use Rattle.demand.specs.Demand.{turnedDown, refusals, fingerPath, fingerAnswers, walkAnswers, someAccepted, ClearPast, Above, SameButSixteen, laterWords, Meets, Demand3}
 use Rattle.demand.proofs.Walkable.{Walkable, Stands}
 use Rattle.demand.proofs.OneCall.{Came, one-call, named-after, same-move, place-short, stands-used}
 
@@ -70,13 +70,15 @@ module _ (s : List ℕ) (n start : ℕ) (first : List ℕ) (accepted : checked s
   unfolding Above placeAt cellsOf labelAt cellsIn
   above-stands a = record { named = Named.above; same-length = refl; head = a; cells = refl }
 
-  pub meets : (calls : List Call) → Above first → Meets n (forest (rulesOf s) start) (placedForest (rulesOf s) start) (turnedDown n first) calls (lefts walkOf s first calls) (cursorAfterCalls walkOf s first calls) (fingerPath (forest (rulesOf s) start) (turnedDown n first) calls [])
+  pub meets : (calls : List Call) → Above first → Meets n (forest (rulesOf s) start) (placedForest (rulesOf s) start) (turnedDown n first) calls (lefts walkOf s first calls) first (cursorAfterCalls walkOf s first calls) (fingerPath (forest (rulesOf s) start) (turnedDown n first) calls [])
+  unfolding Above laterWords
   meets calls a =
       record {
         refused = R .refused;
         answered = R .answered;
         used = stands-used W (R .stands);
         stored = ap (cellsIn (cursorAfterCalls walkOf s first calls)) (stands-used W (R .stands)) ∙ R .stands .cells;
+        later = ap (λ (c : Cell). (c .1, c .2, c .3)) (R .stands .head) ∙ sym (ap (λ (c : Cell). (c .1, c .2, c .3)) a);
         clear = R .clear;
         small = λ cs. place-short W (pathAfter g cs q) (named-after W cs q (R .stands .named));
         local = λ cs c e. subst (λ (x : Path). SameButSixteen (placeAt G (pathAfter g cs q)) (placeAt G x)) (sym (same-move W c (pathAfter g cs q))) (W .near (pathAfter g cs q) c (named-after W cs q (R .stands .named)) e);
