@@ -81,18 +81,23 @@ module _ {n : ℕ} {g : Forest ℕ} {G : Forest Placed} (W : Walkable n g G) whe
       let p = pathAfter g cs [] in
       Option·none-ne-some _ (sym e ∙ ap (pathOf G) (sym h) ∙ path-of-place G (W .distinct) p (named-after W cs [] Named.above))
 
-  -- "cells 1 to k lie in 16 × (n + 1) words" turns down no place that letters lead to
-  pub reached-lies : (cs : List Letter) → cellWords * (length (placeAt G (pathAfter g cs [])) + 1) ≤ cursorWords n
+  -- what letters lead to lies in the words that n rules need
+  short-reached : (cs : List Letter) → cellWords * (length (placeAt G (pathAfter g cs [])) + 1) ≤ cursorWords n
   unfolding cursorWords
-  reached-lies cs = let h = place-short W (pathAfter g cs []) (named-after W cs [] Named.above) in omega arith
+  short-reached cs = let h = place-short W (pathAfter g cs []) (named-after W cs [] Named.above) in omega arith
 
   long-unreached : (cursor : List ℕ) → ¬ (cellWords * (usedCells cursor + 1) ≤ cursorWords n) → Unreached g G (cellsIn cursor (usedCells cursor))
   unfolding Unreached
   long-unreached cursor long cs h =
       let k : length (placeAt G (pathAfter g cs [])) ≡ usedCells cursor = ap length h ∙ length-cellsIn cursor (usedCells cursor) in
-      long (subst (λ (m : ℕ). cellWords * (m + 1) ≤ cursorWords n) k (reached-lies cs))
+      long (subst (λ (m : ℕ). cellWords * (m + 1) ≤ cursorWords n) k (short-reached cs))
 
 -- ---- refusal 10
+
+-- that cells 1 to k must lie in 16 × (n + 1) words turns down no place of an accepted plan that letters lead to
+pub reached-lies : (s : List ℕ) (n start : ℕ) → checked s ≡ Checked.Accepted n start → (cs : List Letter)
+    → cellWords * (length (placeAt (placedForest (rulesOf s) start) (pathAfter (forest (rulesOf s) start) cs [])) + 1) ≤ cursorWords n
+reached-lies s n start accepted cs = short-reached (walkable s n start accepted) cs
 
 isAt : Begun → Bool
 isAt (Begun.refused r) = false

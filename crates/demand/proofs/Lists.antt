@@ -11,21 +11,21 @@ use Rattle.forest.specs.Place.{Cell, Placed, placedForest}
 use Rattle.forest.specs.Reference.{Path, labelAt, answers, pathAfter}
 use Rattle.forest.specs.Walk.{lettersOf, cellsIn, usedCells, placeAt, cellsOf, answerWord}
 use Rattle.forest.proofs.Steps.{Named}
-use Rattle.demand.specs.Calls.{Call, lent, walkOf, lefts, cursorAfterCalls}
-use Rattle.demand.specs.Demand.{turnedDown, refusals, fingerPath, fingerAnswers, walkAnswers, someAccepted, ClearPast, Above, SameButSixteen, laterWords, Meets, Demand3}
+use Rattle.demand.specs.Calls.{Call, Left, lent, walkOf, lefts, cursorAfterCalls}
+use Rattle.demand.specs.Demand.{turnedDown, isRefused, fingerPath, fingerAnswers, walkAnswers, someAccepted, ClearPast, Above, SameButSixteen, laterWords, Meets, Demand3}
 use Rattle.demand.proofs.Walkable.{Walkable, Stands}
 use Rattle.demand.proofs.OneCall.{Came, one-call, named-after, same-move, place-short, stands-used}
 
 module _ (s : List ℕ) (n start : ℕ) (first : List ℕ) (accepted : checked s ≡ Checked.Accepted n start) (W : Walkable n (forest (rulesOf s) start) (placedForest (rulesOf s) start)) where
   -- what the calls left, from a cursor at the node at p; was says whether an earlier call was accepted
   record Went (cursor : List ℕ) (p : Path) (was : Bool) (calls : List Call) : Type 0 where
-    refused : refusals (lefts walkOf s cursor calls) ≡ map (turnedDown n first) calls
+    refused : map (λ (l : Left). isRefused (l .answer)) (lefts walkOf s cursor calls) ≡ map (turnedDown n first) calls
     answered : walkAnswers calls (lefts walkOf s cursor calls) ≡ map answerWord (fingerAnswers (forest (rulesOf s) start) (turnedDown n first) calls p)
     stands : Stands (placedForest (rulesOf s) start) first (cursorAfterCalls walkOf s cursor calls) (fingerPath (forest (rulesOf s) start) (turnedDown n first) calls p)
     clear : (was || someAccepted (lefts walkOf s cursor calls)) ≡ true → ClearPast n (usedCells (cursorAfterCalls walkOf s cursor calls)) (cursorAfterCalls walkOf s cursor calls)
 
   none-went : (cursor : List ℕ) (p : Path) (was : Bool) → Stands (placedForest (rulesOf s) start) first cursor p → (was ≡ true → ClearPast n (usedCells cursor) cursor) → Went cursor p was []
-  unfolding lefts refusals walkAnswers fingerAnswers fingerPath cursorAfterCalls someAccepted
+  unfolding lefts walkAnswers fingerAnswers fingerPath cursorAfterCalls someAccepted
   none-went cursor p was S k = record { refused = refl; answered = refl; stands = S; clear = λ e. k (or-none was e) }
     where
       or-none : (b : Bool) → (b || false) ≡ true → b ≡ true
@@ -36,7 +36,7 @@ module _ (s : List ℕ) (n start : ℕ) (first : List ℕ) (accepted : checked s
       → Stands (placedForest (rulesOf s) start) first cursor p → (was ≡ true → ClearPast n (usedCells cursor) cursor)
       → ((x : List ℕ) (q : Path) (b : Bool) → Stands (placedForest (rulesOf s) start) first x q → (b ≡ true → ClearPast n (usedCells x) x) → Went x q b cs)
       → Went cursor p was (c ∷ cs)
-  unfolding lefts refusals walkAnswers fingerAnswers fingerPath cursorAfterCalls someAccepted
+  unfolding lefts walkAnswers fingerAnswers fingerPath cursorAfterCalls someAccepted
   more-went cursor p was c cs (Came.turned d r k) S clear rest =
       record {
         refused = ap₂ (λ (x : Bool) (xs : List Bool). x ∷ xs) (r ∙ sym d) (R .refused);

@@ -31,11 +31,6 @@ unfoldable pub isRefused : Walked → Bool
 isRefused Walked.Accepted = false
 isRefused (Walked.Refused r) = true
 
-unfoldable pub refusals : List Left → List Bool
-unfolding isRefused
-refusals [] = []
-refusals (l ∷ ls) = isRefused (l .answer) ∷ refusals ls
-
 -- "A call that 8 or 9 turns down gives no answers and leaves the path. Any other takes its letters in turn."
 unfoldable pub fingerPath : Forest ℕ → (Call → Bool) → List Call → Path → Path
 unfolding pathAfter lettersOf
@@ -93,7 +88,7 @@ laterWords cursor = ((cellAt cursor 0) .1, (cellAt cursor 0) .2, (cellAt cursor 
 -- turns down, ls is what the calls left, first the cursor before them and end the one after them, p the finger's path.
 pub record Meets (n : ℕ) (g : Forest ℕ) (G : Forest Placed) (down : Call → Bool) (calls : List Call) (ls : List Left) (first end : List ℕ) (p : Path) : Type 0 where
   -- "In the list a call is refused exactly when 8 or 9 says so."
-  pub refused : refusals ls ≡ map down calls
+  pub refused : map (λ (l : Left). isRefused (l .answer)) ls ≡ map down calls
   -- "equal the finger's answers in order, nowhere being the word that Letters gives for it"
   pub answered : walkAnswers calls ls ≡ map answerWord (fingerAnswers g down calls [])
   -- "After the list, k and cells 1 to k are those of the node at the finger's path, k being 0 for the empty path"
