@@ -6,4 +6,5 @@ pub mod Worthless
 pub mod Plans
 pub mod Prefixed
 pub mod FromAbove
+pub mod ByLetters
 pub mod Demand3

@@ -1,7 +1,7 @@
 -- One call of the walk on a cursor that stands at a node: refused exactly when 8 or 9 says so, and then nothing changes; else
 -- the answers are the finger's, and the cursor stands at the node at the finger's path, with zeros past its cells.
 -- Assumes nothing.
-use Prim.Native.Nat.{ℕ, _+_, _-_, _*_, _≤_}
+use Prim.Native.Nat.{ℕ, _+_, _*_, _≤_}
 use native.Mathlib.Omega.{arith}
 use mathlib.Core.Path.{_≡_, refl, sym, ap, _∙_, subst}
 use mathlib.Core.Bool.{Bool, true, false, cond, _&&_, and-eq-true-iff}
@@ -11,6 +11,7 @@ use lib.ListN.{length}
 use lib.Dec.{leb, eqb}
 use borrow.Author.Tests.{le-leb, leb-true}
 use Rattle.words.specs.Number.{wordCount}
+use Rattle.rule.specs.declared.Rule.{Rule}
 use Rattle.refusal.specs.declared.Refusal.{Refusal}
 use Rattle.plan.specs.declared.Checked.{Checked}
 use Rattle.record.specs.Record.{wordLength}
@@ -92,6 +93,11 @@ stored-stands {n} {G = G} W first cursor q N same enough =
       cells = stored-cells n (placeAt G q) cursor (place-room W q N) (place-fits W q N);
     }
 
+-- a call that is refused leaves the cursor, whatever its letters
+refused-keeps : (R : List Rule) (letters cursor : List ℕ) {b : Begun} {r : Refusal} → b ≡ Begun.refused r → cursorAfter R b letters cursor ≡ cursor
+unfolding cursorAfter
+refused-keeps R letters cursor e = rw e
+
 -- what a call comes to, from a cursor at the node at p
 pub data Came (s : List ℕ) (n : ℕ) (g : Forest ℕ) (G : Forest Placed) (first cursor : List ℕ) (p : Path) (c : Call) (l : Left) : Type 0 where
   turned : turnedDown n first c ≡ true → isRefused (l .answer) ≡ true → l .cursor ≡ cursor → Came s n g G first cursor p c l
@@ -115,7 +121,7 @@ module _ (s : List ℕ) (n start : ℕ) (first : List ℕ) (accepted : checked s
   call-turned : (cursor : List ℕ) (p : Path) (c : Call) (r : Refusal) → turnedDown n first c ≡ true → begun s (c .work) cursor (c .letters) (c .answers) ≡ Begun.refused r
       → Came s n (forest (rulesOf s) start) (placedForest (rulesOf s) start) first cursor p c (walkOf (lent s cursor c))
   unfolding walkOf lent isRefused
-  call-turned cursor p c r d b = Came.turned d (ap (λ (x : Begun). isRefused (walked x)) b) (ap (λ (x : Begun). cursorAfter (rulesOf s) x (c .letters) cursor) b)
+  call-turned cursor p c r d b = Came.turned d (ap (λ (x : Begun). isRefused (walked x)) b) (refused-keeps (rulesOf s) _ cursor b)
 
   -- what 8 lets pass is long enough
   lent-enough : (c : Call) → enoughLent (c .work) first (c .letters) (c .answers) n ≡ true → wordLength * cursorWords n ≤ length first

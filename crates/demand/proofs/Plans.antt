@@ -1,6 +1,6 @@
 -- The forest of an accepted plan is walkable: its rules are sound, so its nodes are the positions in an expression, each position
 -- has cells of its own, and a letter on positions is a letter on cells. Assumes nothing.
-use Prim.Native.Nat.{ℕ, _-_, _≤_}
+use Prim.Native.Nat.{ℕ, _≤_}
 use native.Mathlib.Omega.{arith}
 use mathlib.Core.Path.{_≡_}
 use mathlib.Core.List.{List}

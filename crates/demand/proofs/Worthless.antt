@@ -1,25 +1,29 @@
--- Demand 3 rules out each worthless walker of document 01: on the sample plan one call of one or two letters already breaks it, by
--- computation. Assumes nothing.
-use Prim.Native.Nat.{ℕ}
+-- Demand 3 rules out each worthless walker of document 01, and three more, so that every field of Meets that speaks of the walk shuts
+-- one out: on the sample plan one call of two letters already breaks it, by computation. The fields `small` and `local` speak of the
+-- forms of cells, which no walker makes: each shuts out a worthless form. A spread that says 11 before measuring isn't the
+-- definition's. Assumes nothing.
+use Prim.Native.Nat.{ℕ, _+_, _≤_}
 use native.Mathlib.Omega.{arith}
 use mathlib.Core.Path.{_≡_, refl, ap}
-use mathlib.Core.List.{List, [], _∷_}
+use mathlib.Core.Logic.{_≢_}
+use mathlib.Core.List.{List, [], _∷_, _++_}
 use mathlib.Core.Bool.{Bool, true, true≢false}
-use lib.ListN.{length, getD, take, replicate}
+use lib.ListN.{length, getD, take, drop, replicate}
 use Rattle.words.specs.Number.{number, bytes}
 use Rattle.refusal.specs.declared.Refusal.{Refusal}
+use Rattle.plan.specs.declared.Written.{Written}
 use Rattle.plan.specs.Check.{checked, rulesOf}
 use Rattle.words.specs.Front.{inFront}
 use Rattle.forest.specs.declared.Walked.{Walked}
-use Rattle.forest.specs.Forest.{forest}
-use Rattle.forest.specs.Place.{placedForest}
-use Rattle.forest.specs.Letter.{letterOf}
+use Rattle.forest.specs.Forest.{Forest, forest, relabel, weigh, text}
+use Rattle.forest.specs.Place.{Side, Cell, Cells, Placed, placedForest, firstCells}
+use Rattle.forest.specs.Letter.{Letter, letterOf, isRoot}
 use Rattle.forest.specs.Reference.{labelAt, answers, pathAfter}
-use Rattle.forest.specs.Outcome.{enoughWork}
+use Rattle.forest.specs.Outcome.{enoughWork, workJudged, textRoomed, spreadFrom, spread}
 use Rattle.forest.specs.Walk.{nowhere, cursorWords, enoughLent, andLetters, lettersOf, otherAt, firstOther, cellAt, cellsIn, usedCells, headed, sameCell, sameCells, firstOf, nodeWith, pathOf, stored, placeJudged, lettersJudged, begunFrom, begun, walked, cellsOf, placeAt, cellBytes, cellsBytes, padded, storedCursor, cursorAfter, answerWord, wordsBytes, answersAfter, walkedWork}
 use Rattle.forest.specs.Sample.{sample}
 use Rattle.demand.specs.Calls.{Lent, Left, Walk, Call, walkOf, lent, lefts, cursorAfterCalls}
-use Rattle.demand.specs.Demand.{turnedDown, isNone, isRefused, refusals, fingerPath, fingerAnswers, wordsFrom, walkAnswers, Above, Meets, Demand3}
+use Rattle.demand.specs.Demand.{turnedDown, isNone, isRefused, fingerPath, fingerAnswers, wordsFrom, walkAnswers, Above, someAccepted, ClearPast, SameButSixteen, laterWords, Meets, Demand3}
 
 -- some words, all alike, in front of a walk's answers
 alike : ℕ → ℕ → List ℕ → List ℕ
@@ -33,7 +37,7 @@ other l answers cursor = go (l .answer)
     go Walked.Accepted = record { answer = l .answer; work = l .work; cursor = cursor; answers = answers }
     go (Walked.Refused r) = l
 
--- "one that walks the first letter and repeats its label"
+-- "one that walks the first letter and repeats its label": shut out by `answered`
 firstOnly : Lent → Lent
 firstOnly l = record { plan = l .plan; work = l .work; cursor = l .cursor; letters = take 1 (l .letters); answers = l .answers }
 
@@ -41,21 +45,45 @@ pub repeats : Walk
 repeats l =
     other (walkOf l) (alike (length (l .letters)) (number 2 ((walkOf (firstOnly l)) .answers) 0) (l .answers)) ((walkOf (firstOnly l)) .cursor)
 
--- "one that answers as asked but writes a k of its own"
+-- "one that answers as asked but writes a k of its own": `used`
 pub ownCount : Walk
 ownCount l = other (walkOf l) ((walkOf l) .answers) (inFront (bytes 2 1) ((walkOf l) .cursor))
 
--- "one whose place never changes"
+-- "one whose place never changes": `used` and `stored`
 pub stays : Walk
 stays l = other (walkOf l) ((walkOf l) .answers) (l .cursor)
 
--- "one that says 65,535 to all; one that says 97 to all"
+-- "one that says 65,535 to all; one that says 97 to all": `answered`
 pub says : ℕ → Walk
 says v l = other (walkOf l) (alike (length (l .letters)) v (l .answers)) ((walkOf l) .cursor)
 
--- "one that refuses every plan with 3"
+-- "one that refuses every plan with 3": `refused`
 pub refuses : Walk
 refuses l = record { answer = Walked.Refused Refusal.Distance; work = l .work; cursor = l .cursor; answers = l .answers }
+
+-- a walk that leaves one byte of the cursor as v
+spoils : ℕ → ℕ → Walk
+spoils i v l = other (walkOf l) ((walkOf l) .answers) (take i ((walkOf l) .cursor) ++ (v ∷ drop (i + 1) ((walkOf l) .cursor)))
+
+-- one with right answers and k but a wrong cell, the row that cell 1 opens: `stored`
+pub wrongCell : Walk
+wrongCell = spoils 12 8
+
+-- one that leaves something past k, in the last word that it has to clear: `clear`
+pub junkPast : Walk
+junkPast = spoils 287 1
+
+-- one that changes a later word of cell 0: `later`
+pub laterWord : Walk
+laterWord = spoils 2 1
+
+-- a form of cells for the sample plan's nodes, each of m cells with its label
+pub alikeCells : ℕ → Forest Placed
+alikeCells m = relabel (λ (a : Placed). (a .0, replicate m (a .0, 0, 0, 0))) (placedForest (rulesOf sample) 7)
+
+-- "a spread that says 11 before measuring"
+pub roomFirst : List ℕ → List ℕ → List ℕ → Written
+roomFirst s work out = Written.Refused Refusal.Room
 
 -- a call of the letters a f on the sample plan, from above the forest
 call : Call
@@ -65,13 +93,28 @@ first : List ℕ
 first = replicate 288 0
 
 -- what demand 3 says of that call
-said : (w : Walk) → Demand3 w → Meets 8 (forest (rulesOf sample) 7) (placedForest (rulesOf sample) 7) (turnedDown 8 first) (call ∷ []) (lefts w sample first (call ∷ [])) (cursorAfterCalls w sample first (call ∷ [])) (fingerPath (forest (rulesOf sample) 7) (turnedDown 8 first) (call ∷ []) [])
+said : (w : Walk) → Demand3 w → Meets 8 (forest (rulesOf sample) 7) (placedForest (rulesOf sample) 7) (turnedDown 8 first) (call ∷ []) (lefts w sample first (call ∷ [])) first (cursorAfterCalls w sample first (call ∷ [])) (fingerPath (forest (rulesOf sample) 7) (turnedDown 8 first) (call ∷ []) [])
 unfolding Demand3 checked Above cellAt number first
 said w d = d sample 8 7 first (call ∷ []) refl refl
+
+-- what demand 3 would say of another form of cells, with no call made
+pub Formed : Forest Placed → Type 0
+Formed G = Meets 8 (forest (rulesOf sample) 7) G (turnedDown 8 first) [] [] first first []
 
 abbrev firstBool : List Bool → Bool
 firstBool [] = true
 firstBool (b ∷ bs) = b
+
+-- cell 1
+abbrev firstCell : Cells → Cell
+firstCell [] = (0, 0, 0, 0)
+firstCell (c ∷ []) = c
+firstCell (c ∷ d ∷ cs) = firstCell (d ∷ cs)
+
+-- the length that spread gives
+abbrev lengthGiven : Written → ℕ
+lengthGiven (Written.Length m) = m
+lengthGiven (Written.Refused r) = 0
 
 pub record Worthless : Type 0 where
   pub first-repeated : Demand3 repeats → ⊥
@@ -80,9 +123,16 @@ pub record Worthless : Type 0 where
   pub always-nowhere : Demand3 (says nowhere) → ⊥
   pub always-97 : Demand3 (says 97) → ⊥
   pub always-refused : Demand3 refuses → ⊥
+  pub wrong-cell : Demand3 wrongCell → ⊥
+  pub junk-past : Demand3 junkPast → ⊥
+  pub later-word : Demand3 laterWord → ⊥
+  -- forms of 25 cells, which n = 8 rules don't allow: `small`; forms of 17 that all change with a letter: `local`
+  pub long-form : Formed (alikeCells 25) → ⊥
+  pub moving-form : Formed (alikeCells 17) → ⊥
+  pub room-first : roomFirst ≢ spread
 
 pub worthless : Worthless
-unfolding repeats ownCount stays says refuses refusals cursorAfterCalls other alike firstOnly call first walkOf lent lefts fingerPath fingerAnswers walkAnswers wordsFrom isRefused turnedDown isNone checked rulesOf number bytes inFront forest placedForest letterOf labelAt answers pathAfter enoughWork cursorWords enoughLent andLetters lettersOf otherAt firstOther cellAt cellsIn usedCells headed sameCell sameCells firstOf nodeWith pathOf stored placeJudged lettersJudged begunFrom begun walked cellsOf placeAt cellBytes cellsBytes padded storedCursor cursorAfter answerWord wordsBytes answersAfter walkedWork
+unfolding Formed alikeCells relabel firstCells isRoot SameButSixteen repeats ownCount stays says refuses spoils wrongCell junkPast laterWord roomFirst weigh text workJudged textRoomed spreadFrom spread someAccepted ClearPast laterWords cursorAfterCalls other alike firstOnly call first walkOf lent lefts fingerPath fingerAnswers walkAnswers wordsFrom isRefused turnedDown isNone checked rulesOf number bytes inFront forest placedForest letterOf labelAt answers pathAfter enoughWork cursorWords enoughLent andLetters lettersOf otherAt firstOther cellAt cellsIn usedCells headed sameCell sameCells firstOf nodeWith pathOf stored placeJudged lettersJudged begunFrom begun walked cellsOf placeAt cellBytes cellsBytes padded storedCursor cursorAfter answerWord wordsBytes answersAfter walkedWork
 worthless =
     record {
       first-repeated = λ d. let e : _≡_ {A = ℕ} 99 97 = ap (λ (l : List ℕ). getD l 1 0) (said repeats d .answered) in omega arith;
@@ -91,4 +141,10 @@ worthless =
       always-nowhere = λ d. let e : _≡_ {A = ℕ} nowhere 99 = ap (λ (l : List ℕ). getD l 0 0) (said (says nowhere) d .answered) in omega arith;
       always-97 = λ d. let e : _≡_ {A = ℕ} 97 99 = ap (λ (l : List ℕ). getD l 0 0) (said (says 97) d .answered) in omega arith;
       always-refused = λ d. absurd (true≢false (ap (firstBool) (said refuses d .refused)));
+      wrong-cell = λ d. let e : _≡_ {A = ℕ} 8 7 = ap (λ (l : Cells). (firstCell l) .2) (said wrongCell d .stored) in omega arith;
+      junk-past = λ d. let e : _≡_ {A = ℕ} 1 0 = ap (λ (l : List ℕ). getD l 223 0) (said junkPast d .clear refl) in omega arith;
+      later-word = λ d. let e : _≡_ {A = ℕ} 1 0 = ap (λ (x : ℕ × ℕ × ℕ). x .0) (said laterWord d .later) in omega arith;
+      long-form = λ m. let e : 25 ≤ 24 = m .small (Letter.root Side.left ∷ []) in omega arith;
+      moving-form = λ m. let e : _≡_ {A = ℕ} 99 97 = ap (λ (l : Cells). (firstCell l) .0) (m .local (Letter.root Side.left ∷ []) (Letter.child Side.left) refl) in omega arith;
+      room-first = λ e. let h : _≡_ {A = ℕ} 0 33 = ap (λ (f : List ℕ → List ℕ → List ℕ → Written). lengthGiven (f sample (replicate 512 0) (replicate 33 0))) e in omega arith;
     }

@@ -31,11 +31,6 @@ unfoldable pub isRefused : Walked → Bool
 isRefused Walked.Accepted = false
 isRefused (Walked.Refused r) = true
 
-unfoldable pub refusals : List Left → List Bool
-unfolding isRefused
-refusals [] = []
-refusals (l ∷ ls) = isRefused (l .answer) ∷ refusals ls
-
 -- "A call that 8 or 9 turns down gives no answers and leaves the path. Any other takes its letters in turn."
 unfoldable pub fingerPath : Forest ℕ → (Call → Bool) → List Call → Path → Path
 unfolding pathAfter lettersOf
@@ -84,19 +79,27 @@ ClearPast n k cursor =
 unfoldable pub SameButSixteen : Cells → Cells → Type 0
 SameButSixteen cs ds = firstCells (min (length cs) (length ds) - 16) cs ≡ firstCells (min (length cs) (length ds) - 16) ds
 
+-- cell 0's words past k
+unfoldable pub laterWords : List ℕ → ℕ × ℕ × ℕ
+unfolding cellAt
+laterWords cursor = ((cellAt cursor 0) .1, (cellAt cursor 0) .2, (cellAt cursor 0) .3)
+
 -- What must hold of a list of calls: g is the walked rule's forest and G the same with places, down says which calls 8 or 9
--- turns down, ls is what the calls left and end the cursor after them, p the finger's path.
-pub record Meets (n : ℕ) (g : Forest ℕ) (G : Forest Placed) (down : Call → Bool) (calls : List Call) (ls : List Left) (end : List ℕ) (p : Path) : Type 0 where
+-- turns down, ls is what the calls left, first the cursor before them and end the one after them, p the finger's path.
+pub record Meets (n : ℕ) (g : Forest ℕ) (G : Forest Placed) (down : Call → Bool) (calls : List Call) (ls : List Left) (first end : List ℕ) (p : Path) : Type 0 where
   -- "In the list a call is refused exactly when 8 or 9 says so."
-  pub refused : refusals ls ≡ map down calls
+  pub refused : map (λ (l : Left). isRefused (l .answer)) ls ≡ map down calls
   -- "equal the finger's answers in order, nowhere being the word that Letters gives for it"
   pub answered : walkAnswers calls ls ≡ map answerWord (fingerAnswers g down calls [])
   -- "After the list, k and cells 1 to k are those of the node at the finger's path, k being 0 for the empty path"
   pub used : usedCells end ≡ length (placeAt G p)
   pub stored : cellsIn end (usedCells end) ≡ placeAt G p
+  -- "Cell 0 holds the number k of used cells, then three zeros": the later words are those of the first cursor
+  pub later : laterWords end ≡ laterWords first
   -- "if any call was accepted, cells past k, up to 16 × (n + 1) words, are zero"
   pub clear : someAccepted ls ≡ true → ClearPast n (usedCells end) end
-  -- at every point, some letters after the calls: "k is at most 3 × n"
+  -- at every key, some letters cs after the calls: "k is at most 3 × n". The letters of a next call up to a key are such letters, so
+  -- this and the next field speak of every place inside a call too
   pub small : (cs : List Letter) → length (placeAt G (pathAfter g cs p)) ≤ 3 * n
   -- "For a single letter other than a or z .. cells 1 to m − 16 are then the same before and after."
   pub local : (cs : List Letter) (c : Letter) → isRoot c ≡ false → SameButSixteen (placeAt G (pathAfter g cs p)) (placeAt G (moved g c (pathAfter g cs p)))
@@ -110,5 +113,6 @@ Demand3 w =
     → Above cursor
     → Meets n (forest (rulesOf plan) start) (placedForest (rulesOf plan) start) (turnedDown n cursor) calls
     (lefts w plan cursor calls)
+    cursor
     (cursorAfterCalls w plan cursor calls)
     (fingerPath (forest (rulesOf plan) start) (turnedDown n cursor) calls [])

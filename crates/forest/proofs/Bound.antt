@@ -13,7 +13,8 @@ use lib.Dec.{eqb}
 use borrow.Author.Tests.{eq-eqb}
 use Rattle.rule.specs.declared.Rule.{Rule}
 use Rattle.rule.specs.Sound.{Sound, Closed}
-use Rattle.forest.specs.Expression.{Expression, expression, ruleNumber, height}
+use Rattle.forest.specs.Expression.{Expression, expression, ruleNumber}
+use Rattle.forest.specs.Sizes.{height}
 use Rattle.forest.specs.Forest.{Forest, append}
 use Rattle.forest.specs.Place.{Cells, Side, Placed, cellRow, cellSpine, cellRun, rowOfNode, rowOfPart, isEmpty, representative, step, placed, placedOf, placedForest}
 use Rattle.forest.specs.Reference.{Path, labelAt}

@@ -12,7 +12,8 @@ use lib.ListN.{length, length-append}
 use lib.Dec.{eqb}
 use borrow.Author.Tests.{eq-eqb, ne-eqb, eqb-true, eqb-false}
 use Rattle.forest.specs.Expression.{Expression}
-use Rattle.forest.specs.Algebra.{Hedge, _·_, _⟨_⟩, value, holes}
+use Rattle.forest.specs.Algebra.{Hedge, _·_, _⟨_⟩, value}
+use Rattle.forest.specs.Sizes.{holes}
 use Rattle.forest.specs.Forest.{Forest, append, trees, relabel, count, weigh, one, levels, text}
 use Rattle.forest.specs.Good.{Sort, Good}
 use Rattle.forest.proofs.Values.{holes-concat, holes-⟨⟩, closed-⟨⟩, concat-⟨⟩, ⟨⟩-assoc, value-node, value-part, value-holes, OneTree, tree-value, spine-value}

@@ -1,13 +1,10 @@
--- Letters lead to every node: to its parent, then to the parent's first child, then along the siblings. So what no letters
--- lead to is what no node has. Assumes nothing.
+-- Letters lead to every node: to its parent, then to the parent's first child, then along the siblings. Assumes nothing.
 use Prim.Native.Nat.{ℕ, zero, suc}
 use mathlib.Core.Path.{_≡_, refl, _∙_, ap}
-use mathlib.Core.Logic.{_↔_, _≢_}
 use mathlib.Core.List.{List, [], _∷_, _++_}
 use mathlib.Core.Option.{some, Option·none-ne-some}
-use Rattle.forest.specs.Expression.{Expression}
 use Rattle.forest.specs.Forest.{Forest}
-use Rattle.forest.specs.Place.{Side, Cells, placedOf}
+use Rattle.forest.specs.Place.{Side}
 use Rattle.forest.specs.Letter.{Letter}
 use Rattle.forest.specs.Reference.{Path, later, from, below, top, childrenAt, labelAt, tried, answer, moved, pathAfter}
 use Rattle.forest.proofs.Steps.{moved-node, pathAfter-append}
@@ -74,17 +71,3 @@ module _ {A : Type 0} (g : Forest A) where
   letters-after (zero ∷ p) (node e) = absurd (Option·none-ne-some _ e)
   letters-after (suc i ∷ p) (node e) =
       pathAfter-append g (letters p) (along (toFirst p) i) [] ∙ ap (pathAfter g (along (toFirst p) i)) (letters-after p (parent-named (suc i) p e)) ∙ along-after i p e
-
-  pub reached : (p : Path) {a : A} → labelAt g p ≡ some a → (cs : List Letter) × (pathAfter g cs [] ≡ p)
-  reached p e = (letters p, letters-after p (node e))
-
-  -- no letters lead from above to a node of this sort exactly if there is none
-  pub unreached : (P : A → Type 0) → ((cs : List Letter) (a : A) → labelAt g (pathAfter g cs []) ≡ some a → ¬ P a) ↔ ((p : Path) (a : A) → labelAt g p ≡ some a → ¬ P a)
-  unreached P = (λ none p a e. none (letters p) a (ap (labelAt g) (letters-after p (node e)) ∙ e), λ none cs a e. none (pathAfter g cs []) a e)
-
-  pub unreached-label : (x : A) → ((cs : List Letter) → labelAt g (pathAfter g cs []) ≢ some x) ↔ ((p : Path) → labelAt g p ≢ some x)
-  unreached-label x = (λ none p e. none (letters p) (ap (labelAt g) (letters-after p (node e)) ∙ e), λ none cs e. none (pathAfter g cs []) e)
-
--- no letters lead from above to these cells exactly if no node has them
-pub unreached-cells : (w : Expression) (s : Cells) → ((cs : List Letter) (a : ℕ) → labelAt (placedOf w) (pathAfter (placedOf w) cs []) ≢ some (a, s)) ↔ ((p : Path) (a : ℕ) → labelAt (placedOf w) p ≢ some (a, s))
-unreached-cells w s = (λ none p a. (unreached-label (placedOf w) (a, s)) .0 (λ cs. none cs a) p, λ none cs a. (unreached-label (placedOf w) (a, s)) .1 (λ p. none p a) cs)

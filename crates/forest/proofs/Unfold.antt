@@ -12,7 +12,8 @@ use Rattle.rule.specs.declared.Rule.{Rule}
 use Rattle.rule.specs.Rule.{encode, every, sorts, closed, holed, tree, Names, node-one, pair-one, part-one, fill-one, pair-two, fill-two, part-two, join-one, join-two}
 use Rattle.rule.specs.Sound.{rule, kindIn, Sound, Closed}
 use Rattle.rule.proofs.Names.{T-left, T-right, every-named}
-use Rattle.forest.specs.Expression.{Expression, rhs, unfolded, expression, Unfolding, ruleNumber, height}
+use Rattle.forest.specs.Expression.{Expression, rhs, unfolded, expression, Unfolding, ruleNumber}
+use Rattle.forest.specs.Sizes.{height}
 use Rattle.forest.specs.Good.{Sort, Good, Known}
 
 -- a right-hand side asks for the named rules only

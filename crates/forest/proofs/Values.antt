@@ -10,7 +10,8 @@ use lib.ListN.{length}
 use Rattle.rule.specs.declared.Rule.{Rule}
 use Rattle.rule.specs.Sound.{Sound, Closed}
 use Rattle.forest.specs.Expression.{Expression, expression}
-use Rattle.forest.specs.Algebra.{Hedge, x, _·_, _⟨_⟩, single, value, holes}
+use Rattle.forest.specs.Algebra.{Hedge, x, _·_, _⟨_⟩, single, value}
+use Rattle.forest.specs.Sizes.{holes}
 use Rattle.forest.specs.Forest.{Forest, trees, forest}
 use Rattle.forest.specs.Good.{Sort, Good}
 use Rattle.forest.proofs.Unfold.{rule-good, closed-row}

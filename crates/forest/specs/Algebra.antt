@@ -1,5 +1,5 @@
 -- The forest algebra (document 003, section 2.3), operation by operation.
-use Prim.Native.Nat.{ℕ, suc, _+_}
+use Prim.Native.Nat.{ℕ}
 use Rattle.forest.specs.Expression.{Expression}
 
 infixr 60 _·_
@@ -41,9 +41,3 @@ value (Expression.node r a c) = single a ⟨ value c ⟩
 value (Expression.fill r b c) = value b ⟨ value c ⟩
 value (Expression.part r a b c) = single a ⟨ value b · (x · value c) ⟩
 value (Expression.join r b c) = value b ⟨ value c ⟩
-
--- how many holes a hedge has: none for a forest, one for a forest with a hole
-unfoldable pub holes : Hedge → ℕ
-holes ε = 0
-holes (hole f) = suc (holes f)
-holes (node a c f) = holes c + holes f

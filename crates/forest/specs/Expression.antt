@@ -1,11 +1,11 @@
 -- A rule as an expression over the forest algebra (document 003, section 2.1: a variable's right-hand side is applied until
 -- no variable is left). The rule's number is kept at each step.
-use Prim.Native.Nat.{ℕ, zero, suc, _<_, max}
+use Prim.Native.Nat.{ℕ, zero, suc, _<_}
 use mathlib.Core.Path.{_≡_}
 use mathlib.Core.List.{List}
 use lib.ListN.{length}
 use Rattle.rule.specs.declared.Rule.{Rule}
-use Rattle.rule.specs.Sound.{rule}
+use Rattle.rule.specs.Rule.{rule}
 
 -- document 003, section 2.3, the normal form: ε, BC, a⟨C⟩, B⟨C⟩ for closed rules; a⟨LxR⟩, B⟨C⟩ for holed ones
 pub data Expression : Type 0 where
@@ -49,12 +49,3 @@ ruleNumber (node r a c) = r
 ruleNumber (fill r b c) = r
 ruleNumber (part r a b c) = r
 ruleNumber (join r b c) = r
-
--- how deep right-hand sides are applied in an expression
-unfoldable pub height : Expression → ℕ
-height (empty r) = 0
-height (pair r b c) = suc (max (height b) (height c))
-height (node r a c) = suc (height c)
-height (fill r b c) = suc (max (height b) (height c))
-height (part r a b c) = suc (max (height b) (height c))
-height (join r b c) = suc (max (height b) (height c))

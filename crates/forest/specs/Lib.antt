@@ -1,5 +1,6 @@
 pub mod Expression
 pub mod Algebra
+pub mod Sizes
 pub mod Forest
 pub mod Place
 pub mod Letter

@@ -75,7 +75,7 @@ cellsIn s (suc k) = cellAt s (suc k) ∷ cellsIn s k
 unfoldable pub usedCells : List ℕ → ℕ
 usedCells s = (cellAt s 0) .0
 
--- cell 0 is in order, and cells 1 to k lie in the words that n rules need
+-- cell 0 is in order, and cells 1 to k lie in the words that n rules need, as those of every node do (demand/proofs/ByLetters)
 unfoldable pub headed : ℕ → List ℕ → Bool
 headed n s =
     eqb ((cellAt s 0) .1) 0 && (eqb ((cellAt s 0) .2) 0 && (eqb ((cellAt s 0) .3) 0 && leb (cellWords * (usedCells s + 1)) (cursorWords n)))

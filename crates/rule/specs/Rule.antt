@@ -2,6 +2,7 @@
 use Prim.Native.Nat.{ℕ}
 use mathlib.Core.Bool.{Bool, true, false, cond, _&&_, _||_}
 use mathlib.Core.List.{List, map}
+use lib.ListN.{getD}
 use lib.Dec.{leb, eqb}
 use Rattle.record.specs.declared.Record.{Record}
 use Rattle.rule.specs.declared.Rule.{Rule}
@@ -124,3 +125,7 @@ ruleOf Decoded.Malformed = Rule.Empty
 unfoldable pub rulesIn : List Record → List Rule
 unfolding decode ruleOf
 rulesIn ws = map (λ (w : Record). ruleOf (decode w)) ws
+
+-- the rule with a number, empty past the end
+unfoldable pub rule : List Rule → ℕ → Rule
+rule R r = getD R r Rule.Empty

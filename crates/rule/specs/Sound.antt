@@ -2,14 +2,11 @@
 -- are in range and of the right sort, and "a rule names only lower-numbered rules").
 use Prim.Native.Nat.{ℕ, _<_}
 use mathlib.Core.List.{List}
-use lib.ListN.{length, getD}
+use lib.ListN.{length}
 use lib.Dec.{T, ltb}
 use Rattle.rule.specs.declared.Rule.{Rule}
 use Rattle.rule.specs.Rule.{encode, every, sorts, closed, labelled}
-
--- the rule with a number, empty past the end
-unfoldable pub rule : List Rule → ℕ → Rule
-rule R r = getD R r Rule.Empty
+unfoldable pub use Rattle.rule.specs.Rule.{rule}
 
 -- the kind of the rule with a number
 unfoldable pub kindIn : List Rule → ℕ → ℕ

@@ -5,7 +5,8 @@ use native.Mathlib.Omega.{arith}
 use mathlib.Core.Path.{_≡_, sym, ap, _∙_}
 use mathlib.Core.List.{List, [], append-nil}
 use lib.ListN.{length}
-use Rattle.forest.specs.Expression.{Expression, expression, height}
+use Rattle.forest.specs.Expression.{Expression, expression}
+use Rattle.forest.specs.Sizes.{height}
 use Rattle.forest.proofs.Unfold.{height-expression}
 use Rattle.work_rows.specs.Rows.{Within}
 use Rattle.work_rows.proofs.Rows.{within-both, within-wider}

@@ -8,7 +8,8 @@ use lib.Dec.{eqb}
 use lib.ListN.{length}
 use borrow.Author.Tests.{eqb-true, eqb-false}
 use Rattle.rule.specs.declared.Rule.{Rule}
-use Rattle.forest.specs.Expression.{Expression, rhs, height}
+use Rattle.forest.specs.Expression.{Expression, rhs}
+use Rattle.forest.specs.Sizes.{height}
 use Rattle.rule.specs.Rule.{Names, pair-one, pair-two, node-one, fill-one, fill-two, part-one, part-two, join-one, join-two}
 use Rattle.count_passes.specs.Says.{before, after}
 use Rattle.spread_step.specs.declared.Step.{Step}

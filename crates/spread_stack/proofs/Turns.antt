@@ -9,7 +9,8 @@ use lib.Dec.{eqb}
 use lib.ListN.{length}
 use borrow.Author.Tests.{ne-eqb}
 use Rattle.rule.specs.declared.Rule.{Rule}
-use Rattle.forest.specs.Expression.{Expression, rhs, height}
+use Rattle.forest.specs.Expression.{Expression, rhs}
+use Rattle.forest.specs.Sizes.{height}
 use Rattle.rule.specs.Rule.{Names}
 use Rattle.count_passes.specs.Says.{closing, says}
 use Rattle.spread_step.specs.declared.Said.{Said}

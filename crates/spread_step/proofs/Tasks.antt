@@ -10,7 +10,8 @@ use lib.ListN.{length}
 use borrow.Author.Tests.{eqb-true, ne-eqb}
 use Rattle.rule.specs.declared.Rule.{Rule}
 use Rattle.rule.specs.Sound.{rule, Sound}
-use Rattle.forest.specs.Expression.{Expression, rhs, expression, height}
+use Rattle.forest.specs.Expression.{Expression, rhs, expression}
+use Rattle.forest.specs.Sizes.{height}
 use Rattle.forest.proofs.Unfold.{by-rank, unfolding-equation}
 use Rattle.rule.specs.Rule.{Names, pair-one, pair-two}
 use Rattle.count_passes.specs.Says.{whole, closing, says}

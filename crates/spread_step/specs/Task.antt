@@ -4,7 +4,8 @@ use mathlib.Core.Bool.{cond}
 use mathlib.Core.List.{List, [], _∷_}
 use lib.Dec.{eqb}
 use Rattle.rule.specs.declared.Rule.{Rule}
-use Rattle.forest.specs.Expression.{Expression, height}
+use Rattle.forest.specs.Expression.{Expression}
+use Rattle.forest.specs.Sizes.{height}
 use Rattle.count_passes.specs.Says.{whole, closing, says}
 
 -- the word of a task is 4 × rule + part; the fourth part is the byte that closes the rule's node
