@@ -14,7 +14,7 @@ use Rattle.forest.specs.Letter.{letterOf}
 use Rattle.forest.specs.Reference.{labelAt, answers, pathAfter}
 use Rattle.forest.specs.Place.{placedForest}
 use Rattle.forest.specs.Forest.{forest}
-use Rattle.forest.specs.Walk.{cursorWords, enoughLent, andLetters, lettersOf, otherAt, firstOther, cellAt, cellsIn, usedCells, headed, sameCell, sameCells, firstOf, nodeWith, pathOf, stored, placeJudged, lettersJudged, begunFrom, begun, walked, cellsOf, placeAt, cellBytes, cellsBytes, padded, storedCursor, cursorAfter, answerWord, wordsBytes, answersAfter, walkedWork}
+use Rattle.forest.specs.Walk.{cursorWords, enoughLent, andLetters, lettersOf, otherAt, firstOther, cellAt, cellsIn, usedCells, headed, sameCell, sameCells, firstOf, nodeWith, pathOf, stored, placeJudged, lettersJudged, begunFrom, begun, walked, cellsOf, placeAt, cellBytes, cellsBytes, padded, storedCursor, cursorAfter, answerWord, answersBytes, answersAfter, walkedWork}
 
 -- one empty rule, start 0
 abbrev pub empty : List ℕ
@@ -33,5 +33,5 @@ pub record Rows : Type 0 where
   pub nowhere-all : take 4 (answered empty (97 ∷ 122 ∷ [])) ≡ 255 ∷ 255 ∷ 255 ∷ 255 ∷ []
 
 pub rows : Rows
-unfolding inFront rulesOf checked bytes number enoughWork letterOf labelAt answers pathAfter placedForest forest cursorWords enoughLent andLetters lettersOf otherAt firstOther cellAt cellsIn usedCells headed sameCell sameCells firstOf nodeWith pathOf stored placeJudged lettersJudged begunFrom begun walked cellsOf placeAt cellBytes cellsBytes padded storedCursor cursorAfter answerWord wordsBytes answersAfter walkedWork
+unfolding inFront rulesOf checked bytes number enoughWork letterOf labelAt answers pathAfter placedForest forest cursorWords enoughLent andLetters lettersOf otherAt firstOther cellAt cellsIn usedCells headed sameCell sameCells firstOf nodeWith pathOf stored placeJudged lettersJudged begunFrom begun walked cellsOf placeAt cellBytes cellsBytes padded storedCursor cursorAfter answerWord answersBytes answersAfter walkedWork
 rows = record { answers = refl; cells-1 = refl; cells-7 = refl; cells-8 = refl; nowhere-all = refl }

@@ -19,7 +19,7 @@ use Rattle.forest.specs.Reference.{answers}
 use Rattle.forest.specs.Outcome.{enoughWork}
 use Rattle.forest.specs.Walk.{cursorWords, enoughLent, lettersOf, firstOther, cellAt, Begun, lettersJudged, begun, walked, answerWord}
 use Rattle.demand.specs.Calls.{Call, Left, lent, walkOf}
-use Rattle.demand.specs.Demand.{Above, isRefused, wordsFrom}
+use Rattle.demand.specs.Demand.{Above, isRefused, answerWords}
 use Rattle.demand.proofs.Walkable.{Stands}
 use Rattle.demand.proofs.OneCall.{Came, begins, one-call}
 use Rattle.demand.proofs.Lists.{above-stands}
@@ -70,11 +70,11 @@ module _ (s work cursor letters given : List ℕ) (n start : ℕ) (accepted : ch
   unfolding walkOf walked lettersJudged
   above-refused i e = rw (begins-above, e)
 
-  pub above-answers : firstOther letters 0 ≡ none → wordsFrom (length letters) (left .answers) 0 ≡ map answerWord (answers (forest (rulesOf s) start) (lettersOf letters) [])
+  pub above-answers : firstOther letters 0 ≡ none → answerWords (length letters) (left .answers) 0 ≡ map answerWord (answers (forest (rulesOf s) start) (lettersOf letters) [])
   unfolding lent isRefused
   above-answers e = go (one-call s n start cursor accepted (walkable s n start accepted) cursor [] stands call)
     where
       go : Came s n (forest (rulesOf s) start) (placedForest (rulesOf s) start) cursor cursor [] call left
-          → wordsFrom (length letters) (left .answers) 0 ≡ map answerWord (answers (forest (rulesOf s) start) (lettersOf letters) [])
+          → answerWords (length letters) (left .answers) 0 ≡ map answerWord (answers (forest (rulesOf s) start) (lettersOf letters) [])
       go (Came.turned d r k) = absurd (false≢true (sym (ap isRefused (above-accepted e)) ∙ r))
       go (Came.went d r t k w) = w

@@ -19,7 +19,7 @@ use Rattle.plan.specs.Check.{checked, rulesOf}
 use Rattle.forest.specs.Forest.{Forest, forest}
 use Rattle.forest.specs.Place.{Cell, Placed, placedForest}
 use Rattle.forest.specs.Reference.{Path, labelAt, moved, answers, pathAfter}
-use Rattle.forest.specs.Walk.{cellLength, cellWords, cursorWords, enoughLent, lettersOf, firstOther, cellsIn, usedCells, headed, pathOf, Begun, stored, placeJudged, lettersJudged, begunFrom, begun, walked, placeAt, cellsOf, storedCursor, cursorAfter, answerWord, answersAfter, wordsBytes}
+use Rattle.forest.specs.Walk.{cellLength, cellWords, cursorWords, enoughLent, lettersOf, firstOther, cellsIn, usedCells, headed, pathOf, Begun, stored, placeJudged, lettersJudged, begunFrom, begun, walked, placeAt, cellsOf, storedCursor, cursorAfter, answerWord, answersAfter, answersBytes}
 use Rattle.forest.specs.Letter.{Letter}
 use Rattle.forest.proofs.Forget.{label}
 use Rattle.forest.proofs.Relabel.{pathAfter-relabel, moved-relabel}
@@ -29,7 +29,7 @@ use Rattle.forest.specs.Position.{Named}
 use Rattle.forest.proofs.Stored.{AllFitting, stored-length, stored-head, stored-cells, stored-clear}
 use Rattle.demand.specs.Calls.{Lent, Left, Call, lent, walkOf}
 use Rattle.forest.specs.Outcome.{enoughWork}
-use Rattle.demand.specs.Demand.{turnedDown, isNone, isRefused, wordsFrom, ClearPast}
+use Rattle.demand.specs.Demand.{turnedDown, isNone, isRefused, answerWords, ClearPast}
 use Rattle.words.specs.Front.{inFront}
 use Rattle.demand.proofs.Words.{words-in-front, length-answers, length-letters, length-words, answers-fit}
 use Rattle.demand.proofs.Walkable.{Walkable, Stands}
@@ -103,7 +103,7 @@ pub data Came (s : List ℕ) (n : ℕ) (g : Forest ℕ) (G : Forest Placed) (fir
   turned : turnedDown n first c ≡ true → isRefused (l .answer) ≡ true → l .cursor ≡ cursor → Came s n g G first cursor p c l
   went : turnedDown n first c ≡ false → isRefused (l .answer) ≡ false → Stands G first (l .cursor) (pathAfter g (lettersOf (c .letters)) p)
       → ClearPast n (length (placeAt G (pathAfter g (lettersOf (c .letters)) p))) (l .cursor)
-      → wordsFrom (length (c .letters)) (l .answers) 0 ≡ map answerWord (answers g (lettersOf (c .letters)) p)
+      → answerWords (length (c .letters)) (l .answers) 0 ≡ map answerWord (answers g (lettersOf (c .letters)) p)
       → Came s n g G first cursor p c l
 
 module _ (s : List ℕ) (n start : ℕ) (first : List ℕ) (accepted : checked s ≡ Checked.Accepted n start) (W : Walkable n (forest (rulesOf s) start) (placedForest (rulesOf s) start)) where
@@ -141,7 +141,7 @@ module _ (s : List ℕ) (n start : ℕ) (first : List ℕ) (accepted : checked s
       (ap (λ (x : Begun). isRefused (walked x)) b)
       (subst (λ (x : List ℕ). Stands G first x q) (sym new) (stored-stands W first cursor q N (S .same-length) (lent-enough c e)))
       (subst (λ (x : List ℕ). ClearPast n (length (placeAt G q)) x) (sym new) (stored-clear n (placeAt G q) cursor (place-room W q N)))
-      (ap (λ (x : List ℕ). wordsFrom (length (c .letters)) x 0) (ap (λ (x : Begun). answersAfter (rulesOf s) x (c .letters) (c .answers)) b) ∙ words)
+      (ap (λ (x : List ℕ). answerWords (length (c .letters)) x 0) (ap (λ (x : Begun). answersAfter (rulesOf s) x (c .letters) (c .answers)) b) ∙ words)
     where
       G : Forest Placed
       G = placedForest (rulesOf s) start
@@ -161,9 +161,9 @@ module _ (s : List ℕ) (n start : ℕ) (first : List ℕ) (accepted : checked s
       count : length replies ≡ length (c .letters)
       count = length-words answerWord (answers (forest (rulesOf s) start) (lettersOf (c .letters)) p) ∙ length-answers (forest (rulesOf s) start) (lettersOf (c .letters)) p ∙ length-letters (c .letters) 0 f
 
-      words : wordsFrom (length (c .letters)) (inFront (wordsBytes replies) (c .answers)) 0 ≡ replies
+      words : answerWords (length (c .letters)) (inFront (answersBytes replies) (c .answers)) 0 ≡ replies
       words =
-          ap (λ (m : ℕ). wordsFrom m (inFront (wordsBytes replies) (c .answers)) 0) (sym count)
+          ap (λ (m : ℕ). answerWords m (inFront (answersBytes replies) (c .answers)) 0) (sym count)
           ∙ words-in-front replies (c .answers) (answers-fit (forest (rulesOf s) start) (W .labels) (lettersOf (c .letters)) p)
 
   -- every call is one or the other

@@ -13,9 +13,9 @@ use Rattle.words.specs.Front.{inFront}
 use Rattle.forest.specs.Forest.{Forest}
 use Rattle.forest.specs.Letter.{Letter, letterOf}
 use Rattle.forest.specs.Reference.{Path, labelAt, answer, moved, answers}
-use Rattle.forest.specs.Walk.{lettersOf, firstOther, andLetters, otherAt, wordsBytes, answerWord}
+use Rattle.forest.specs.Walk.{lettersOf, firstOther, andLetters, otherAt, answersBytes, answerWord}
 use Rattle.forest.proofs.Steps.{answer-label}
-use Rattle.demand.specs.Demand.{wordsFrom}
+use Rattle.demand.specs.Demand.{answerWords}
 
 -- every word fits two bytes
 abbrev pub AllWords : List ℕ → Type 0
@@ -23,29 +23,29 @@ AllWords [] = Unit {0}
 AllWords (v ∷ vs) = (v < 65536) × AllWords vs
 
 -- words read one by one
-pub words-more : (m : ℕ) (s : List ℕ) (at : ℕ) → wordsFrom (suc m) s at ≡ number wordLength s at ∷ wordsFrom m s (at + wordLength)
-unfolding wordsFrom
+pub words-more : (m : ℕ) (s : List ℕ) (at : ℕ) → answerWords (suc m) s at ≡ number wordLength s at ∷ answerWords m s (at + wordLength)
+unfolding answerWords
 words-more m s at = refl
 
 -- words read behind p
-words-behind : (vs p rest : List ℕ) (at : ℕ) → length p ≡ at → AllWords vs → wordsFrom (length vs) (p ++ (wordsBytes vs ++ rest)) at ≡ vs
-unfolding wordsFrom wordsBytes
+words-behind : (vs p rest : List ℕ) (at : ℕ) → length p ≡ at → AllWords vs → answerWords (length vs) (p ++ (answersBytes vs ++ rest)) at ≡ vs
+unfolding answerWords answersBytes
 words-behind [] p rest at e f = refl
 words-behind (v ∷ vs) p rest at e f =
     ap₂ (λ (x : ℕ) (xs : List ℕ). x ∷ xs)
-    (ap (λ (l : List ℕ). number 2 l at) first ∙ number-bytes 2 v p (wordsBytes vs ++ rest) at e (f .0))
-    (ap (λ (l : List ℕ). wordsFrom (length vs) l (at + 2)) later
+    (ap (λ (l : List ℕ). number 2 l at) first ∙ number-bytes 2 v p (answersBytes vs ++ rest) at e (f .0))
+    (ap (λ (l : List ℕ). answerWords (length vs) l (at + 2)) later
     ∙ words-behind vs (p ++ bytes 2 v) rest (at + 2) (length-append p (bytes 2 v) ∙ omega (arith, length-bytes 2 v)) (f .1))
   where
-    first : p ++ ((bytes 2 v ++ wordsBytes vs) ++ rest) ≡ p ++ (bytes 2 v ++ (wordsBytes vs ++ rest))
+    first : p ++ ((bytes 2 v ++ answersBytes vs) ++ rest) ≡ p ++ (bytes 2 v ++ (answersBytes vs ++ rest))
     first = simp append-assoc
 
-    later : p ++ ((bytes 2 v ++ wordsBytes vs) ++ rest) ≡ (p ++ bytes 2 v) ++ (wordsBytes vs ++ rest)
+    later : p ++ ((bytes 2 v ++ answersBytes vs) ++ rest) ≡ (p ++ bytes 2 v) ++ (answersBytes vs ++ rest)
     later = simp append-assoc
 
-pub words-in-front : (vs given : List ℕ) → AllWords vs → wordsFrom (length vs) (inFront (wordsBytes vs) given) 0 ≡ vs
+pub words-in-front : (vs given : List ℕ) → AllWords vs → answerWords (length vs) (inFront (answersBytes vs) given) 0 ≡ vs
 unfolding inFront
-words-in-front vs given f = words-behind vs [] (drop (length (wordsBytes vs)) given) 0 refl f
+words-in-front vs given f = words-behind vs [] (drop (length (answersBytes vs)) given) 0 refl f
 
 -- one answer a letter
 pub length-answers : {A : Type 0} (g : Forest A) (cs : List Letter) (p : Path) → length (answers g cs p) ≡ length cs

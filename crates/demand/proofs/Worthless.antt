@@ -20,14 +20,14 @@ use Rattle.forest.specs.Place.{Side, Cell, Cells, Placed, placedForest, firstCe
 use Rattle.forest.specs.Letter.{Letter, letterOf, isRoot}
 use Rattle.forest.specs.Reference.{labelAt, answers, pathAfter}
 use Rattle.forest.specs.Outcome.{enoughWork, workJudged, textRoomed, spreadFrom, spread}
-use Rattle.forest.specs.Walk.{nowhere, cursorWords, enoughLent, andLetters, lettersOf, otherAt, firstOther, cellAt, cellsIn, usedCells, headed, sameCell, sameCells, firstOf, nodeWith, pathOf, stored, placeJudged, lettersJudged, begunFrom, begun, walked, cellsOf, placeAt, cellBytes, cellsBytes, padded, storedCursor, cursorAfter, answerWord, wordsBytes, answersAfter, walkedWork}
+use Rattle.forest.specs.Walk.{nowhere, cursorWords, enoughLent, andLetters, lettersOf, otherAt, firstOther, cellAt, cellsIn, usedCells, headed, sameCell, sameCells, firstOf, nodeWith, pathOf, stored, placeJudged, lettersJudged, begunFrom, begun, walked, cellsOf, placeAt, cellBytes, cellsBytes, padded, storedCursor, cursorAfter, answerWord, answersBytes, answersAfter, walkedWork}
 use Rattle.forest.specs.Sample.{sample}
 use Rattle.demand.specs.Calls.{Lent, Left, Walk, Call, walkOf, lent, lefts, cursorAfterCalls}
-use Rattle.demand.specs.Demand.{turnedDown, isNone, isRefused, fingerPath, fingerAnswers, wordsFrom, walkAnswers, Above, someAccepted, ClearPast, SameButSixteen, laterWords, Meets, Demand3}
+use Rattle.demand.specs.Demand.{turnedDown, isNone, isRefused, fingerPath, fingerAnswers, answerWords, walkAnswers, Above, someAccepted, ClearPast, SameButSixteen, laterWords, Meets, Demand3}
 
 -- some words, all alike, in front of a walk's answers
 alike : ℕ → ℕ → List ℕ → List ℕ
-alike m v given = inFront (wordsBytes (replicate m v)) given
+alike m v given = inFront (answersBytes (replicate m v)) given
 
 -- a walk with other answers and another cursor, where it accepts
 other : Left → List ℕ → List ℕ → Left
@@ -132,7 +132,7 @@ pub record Worthless : Type 0 where
   pub room-first : roomFirst ≢ spread
 
 pub worthless : Worthless
-unfolding Formed alikeCells relabel firstCells isRoot SameButSixteen repeats ownCount stays says refuses spoils wrongCell junkPast laterWord roomFirst weigh text workJudged textRoomed spreadFrom spread someAccepted ClearPast laterWords cursorAfterCalls other alike firstOnly call first walkOf lent lefts fingerPath fingerAnswers walkAnswers wordsFrom isRefused turnedDown isNone checked rulesOf number bytes inFront forest placedForest letterOf labelAt answers pathAfter enoughWork cursorWords enoughLent andLetters lettersOf otherAt firstOther cellAt cellsIn usedCells headed sameCell sameCells firstOf nodeWith pathOf stored placeJudged lettersJudged begunFrom begun walked cellsOf placeAt cellBytes cellsBytes padded storedCursor cursorAfter answerWord wordsBytes answersAfter walkedWork
+unfolding Formed alikeCells relabel firstCells isRoot SameButSixteen repeats ownCount stays says refuses spoils wrongCell junkPast laterWord roomFirst weigh text workJudged textRoomed spreadFrom spread someAccepted ClearPast laterWords cursorAfterCalls other alike firstOnly call first walkOf lent lefts fingerPath fingerAnswers walkAnswers answerWords isRefused turnedDown isNone checked rulesOf number bytes inFront forest placedForest letterOf labelAt answers pathAfter enoughWork cursorWords enoughLent andLetters lettersOf otherAt firstOther cellAt cellsIn usedCells headed sameCell sameCells firstOf nodeWith pathOf stored placeJudged lettersJudged begunFrom begun walked cellsOf placeAt cellBytes cellsBytes padded storedCursor cursorAfter answerWord answersBytes answersAfter walkedWork
 worthless =
     record {
       first-repeated = λ d. let e : _≡_ {A = ℕ} 99 97 = ap (λ (l : List ℕ). getD l 1 0) (said repeats d .answered) in omega arith;

@@ -15,7 +15,7 @@ use Rattle.forest.specs.Forest.{Forest, forest}
 use Rattle.forest.specs.Place.{Cells, Placed, placedForest, firstCells}
 use Rattle.forest.specs.Letter.{Letter, isRoot}
 use Rattle.forest.specs.Reference.{Path, moved, answers, pathAfter}
-use Rattle.forest.specs.Walk.{cellLength, cursorWords, enoughLent, firstOther, lettersOf, cellAt, cellsIn, usedCells, placeAt, answerWord}
+use Rattle.forest.specs.Walk.{answerLength, cellLength, cursorWords, enoughLent, firstOther, lettersOf, cellAt, cellsIn, usedCells, placeAt, answerWord}
 use Rattle.demand.specs.Calls.{Walk, Call, Left, lefts, cursorAfterCalls}
 
 unfoldable pub isNone : Option ℕ → Bool
@@ -44,18 +44,18 @@ fingerAnswers g down (c ∷ cs) p =
     cond (down c) (fingerAnswers g down cs p)
     (answers g (lettersOf (c .letters)) p ++ fingerAnswers g down cs (pathAfter g (lettersOf (c .letters)) p))
 
--- m words from an offset on
-unfoldable pub wordsFrom : ℕ → List ℕ → ℕ → List ℕ
+-- m words of answers from an offset on
+unfoldable pub answerWords : ℕ → List ℕ → ℕ → List ℕ
 unfolding number
-wordsFrom zero s at = []
-wordsFrom (suc m) s at = number wordLength s at ∷ wordsFrom m s (at + wordLength)
+answerWords zero s at = []
+answerWords (suc m) s at = number answerLength s at ∷ answerWords m s (at + answerLength)
 
 -- "The first words of answers, one for each letter, as each accepted call returned them"
 unfoldable pub walkAnswers : List Call → List Left → List ℕ
-unfolding wordsFrom isRefused
+unfolding answerWords isRefused
 walkAnswers [] ls = []
 walkAnswers (c ∷ cs) [] = []
-walkAnswers (c ∷ cs) (l ∷ ls) = cond (isRefused (l .answer)) (walkAnswers cs ls) (wordsFrom (length (c .letters)) (l .answers) 0 ++ walkAnswers cs ls)
+walkAnswers (c ∷ cs) (l ∷ ls) = cond (isRefused (l .answer)) (walkAnswers cs ls) (answerWords (length (c .letters)) (l .answers) 0 ++ walkAnswers cs ls)
 
 -- "Above the forest means k = 0 in a cell 0 that 10 doesn't refuse."
 unfoldable pub Above : List ℕ → Type 0

@@ -22,7 +22,7 @@ use Rattle.forest.specs.Sample.{sample}
 use Rattle.forest.specs.Reference.{labelAt, answers, pathAfter}
 use Rattle.forest.specs.Outcome.{measured, spread, spreadOutput, enoughWork}
 use Rattle.forest.specs.Letter.{letterOf}
-use Rattle.forest.specs.Walk.{nowhere, cursorWords, enoughLent, andLetters, lettersOf, otherAt, firstOther, cellAt, cellsIn, usedCells, headed, sameCell, sameCells, firstOf, nodeWith, pathOf, stored, placeJudged, lettersJudged, begunFrom, begun, walked, cellsOf, placeAt, cellBytes, cellsBytes, padded, storedCursor, cursorAfter, answerWord, wordsBytes, answersAfter, walkedWork}
+use Rattle.forest.specs.Walk.{nowhere, cursorWords, enoughLent, andLetters, lettersOf, otherAt, firstOther, cellAt, cellsIn, usedCells, headed, sameCell, sameCells, firstOf, nodeWith, pathOf, stored, placeJudged, lettersJudged, begunFrom, begun, walked, cellsOf, placeAt, cellBytes, cellsBytes, padded, storedCursor, cursorAfter, answerWord, answersBytes, answersAfter, walkedWork}
 
 -- a plan's bytes from its rules and start
 abbrev plan : List Rule → ℕ → List ℕ
@@ -85,7 +85,7 @@ chain start =
 
 pub record Starred : Type 0 where
   -- ★ the answers to afnnfnnnnununnn
-  pub answers : answered sample (first ∷ child ∷ next ∷ next ∷ child ∷ next ∷ next ∷ next ∷ next ∷ up ∷ next ∷ up ∷ next ∷ next ∷ next ∷ []) ≡ wordsBytes (99 ∷ 97 ∷ 98 ∷ 99 ∷ 97 ∷ 98 ∷ 97 ∷ 98 ∷ nowhere ∷ 99 ∷ 98 ∷ 99 ∷ 97 ∷ 98 ∷ nowhere ∷ [])
+  pub answers : answered sample (first ∷ child ∷ next ∷ next ∷ child ∷ next ∷ next ∷ next ∷ next ∷ up ∷ next ∷ up ∷ next ∷ next ∷ next ∷ []) ≡ answersBytes (99 ∷ 97 ∷ 98 ∷ 99 ∷ 97 ∷ 98 ∷ 97 ∷ 98 ∷ nowhere ∷ 99 ∷ 98 ∷ 99 ∷ 97 ∷ 98 ∷ nowhere ∷ [])
   -- ★ spread text (c(a)(b)(c(a)(b)(a)(b))(b))(a)(b), 33 bytes
   pub text : spreadOutput sample work (replicate 33 0) ≡ 40 ∷ 99 ∷ 40 ∷ 97 ∷ 41 ∷ 40 ∷ 98 ∷ 41 ∷ 40 ∷ 99 ∷ 40 ∷ 97 ∷ 41 ∷ 40 ∷ 98 ∷ 41 ∷ 40 ∷ 97 ∷ 41 ∷ 40 ∷ 98 ∷ 41 ∷ 41 ∷ 40 ∷ 98 ∷ 41 ∷ 41 ∷ 40 ∷ 97 ∷ 41 ∷ 40 ∷ 98 ∷ 41 ∷ []
   pub text-length : spread sample work (replicate 33 0) ≡ Written.Length 33
@@ -97,7 +97,7 @@ pub record Starred : Type 0 where
   pub cells-7 : cellsAfter sample seven ≡ (1, 0, 7, 0) ∷ (3, 7, 6, 0) ∷ (2, 6, 0, 0) ∷ (4, 5, 4, 0) ∷ (2, 1, 0, 0) ∷ []
   pub cells-8 : cellsAfter sample (first ∷ child ∷ next ∷ next ∷ child ∷ next ∷ next ∷ next ∷ []) ≡ (1, 0, 7, 0) ∷ (3, 7, 6, 0) ∷ (2, 6, 0, 0) ∷ (4, 5, 4, 0) ∷ (1, 2, 2, 0) ∷ (2, 2, 0, 0) ∷ []
   -- ★ one empty rule: a and z nowhere
-  pub empty : answered (plan (Rule.Empty ∷ []) 0) (first ∷ last ∷ []) ≡ wordsBytes (nowhere ∷ nowhere ∷ [])
+  pub empty : answered (plan (Rule.Empty ∷ []) 0) (first ∷ last ∷ []) ≡ answersBytes (nowhere ∷ nowhere ∷ [])
   -- ★ 10 bytes, right mark, n = 0: 2
   pub no-rules : checked (0 ∷ 0 ∷ 0 ∷ 0 ∷ 0 ∷ 0 ∷ 0 ∷ 0 ∷ 109 ∷ 112 ∷ []) ≡ Checked.Refused Refusal.Count
   -- ★ rule 0 = pair 0 0: 5 at 0
@@ -114,7 +114,7 @@ pub record Starred : Type 0 where
   pub skipped : cellsAfter one-sided (first ∷ []) ≡ (1, 0, 4, 0) ∷ (3, 4, 1, 0) ∷ (2, 1, 0, 0) ∷ []
   pub skipped-last : cellsAfter one-sided (last ∷ []) ≡ (1, 0, 4, 0) ∷ (4, 4, 1, 0) ∷ (2, 1, 0, 0) ∷ []
   -- an empty L and an empty R with a hole between: the hole's tree is the child
-  pub hole-only : answered (chain 3) (first ∷ child ∷ child ∷ []) ≡ wordsBytes (98 ∷ 97 ∷ nowhere ∷ [])
+  pub hole-only : answered (chain 3) (first ∷ child ∷ child ∷ []) ≡ answersBytes (98 ∷ 97 ∷ nowhere ∷ [])
   pub hole-cells : cellsAfter (chain 3) (first ∷ child ∷ []) ≡ (1, 0, 3, 0) ∷ (2, 3, 0, 0) ∷ (2, 1, 0, 0) ∷ []
   -- a chain of kind 3 rules: each C opens a spine of its own
   pub chained : cellsAfter (chain 4) (first ∷ child ∷ child ∷ []) ≡ (1, 0, 4, 0) ∷ (2, 4, 0, 0) ∷ (2, 3, 0, 0) ∷ (2, 1, 0, 0) ∷ []
@@ -122,7 +122,7 @@ pub record Starred : Type 0 where
   pub continued : cellsAfter (chain 6) (first ∷ child ∷ child ∷ []) ≡ (1, 0, 6, 0) ∷ (2, 6, 0, 0) ∷ (4, 5, 2, 0) ∷ (2, 4, 0, 0) ∷ []
 
 pub starred : Starred
-unfolding planBytes encode rulesOf checked bytes number spread spreadOutput measured enoughWork inFront letterOf labelAt answers pathAfter placedForest forest cursorWords enoughLent andLetters lettersOf otherAt firstOther cellAt cellsIn usedCells headed sameCell sameCells firstOf nodeWith pathOf stored placeJudged lettersJudged begunFrom begun walked cellsOf placeAt cellBytes cellsBytes padded storedCursor cursorAfter answerWord wordsBytes answersAfter walkedWork
+unfolding planBytes encode rulesOf checked bytes number spread spreadOutput measured enoughWork inFront letterOf labelAt answers pathAfter placedForest forest cursorWords enoughLent andLetters lettersOf otherAt firstOther cellAt cellsIn usedCells headed sameCell sameCells firstOf nodeWith pathOf stored placeJudged lettersJudged begunFrom begun walked cellsOf placeAt cellBytes cellsBytes padded storedCursor cursorAfter answerWord answersBytes answersAfter walkedWork
 starred =
     record {
       answers = refl;

@@ -1,5 +1,5 @@
 -- What walk answers and leaves, from what is lent (document 01, "Walk" and "Letters").
-use Prim.Native.Nat.{ℕ, zero, suc, _+_, _-_, _*_}
+use Prim.Native.Nat.{ℕ, zero, suc, _+_, _-_, _*_, _/_}
 use mathlib.Core.Bool.{Bool, true, false, cond, _&&_}
 use mathlib.Core.List.{List, [], _∷_, _++_, map}
 use mathlib.Core.Option.{Option, none, some}
@@ -30,12 +30,19 @@ cellLength = cellWords * wordLength
 unfoldable pub cursorWords : ℕ → ℕ
 cursorWords n = 16 * (n + 1)
 
+-- "Each letter gives one word in answers": the bytes of an answer, and how many a slice has room for
+abbrev pub answerLength : ℕ
+answerLength = wordLength
+
+abbrev pub answerCount : List ℕ → ℕ
+answerCount given = length given / answerLength
+
 -- "8: work below 32 × n words, cursor below 16 × (n + 1) words, or fewer answers than letters"
 abbrev pub enoughCursor : ℕ → List ℕ → Bool
 enoughCursor n cursor = leb (cursorWords n) (wordCount cursor)
 
 abbrev pub enoughAnswers : List ℕ → List ℕ → Bool
-enoughAnswers letters given = leb (length letters) (wordCount given)
+enoughAnswers letters given = leb (length letters) (answerCount given)
 
 unfoldable pub enoughLent : List ℕ → List ℕ → List ℕ → List ℕ → ℕ → Bool
 enoughLent work cursor letters given n = enoughWork n work && (enoughCursor n cursor && enoughAnswers letters given)
@@ -174,14 +181,14 @@ unfoldable pub answerWord : Option ℕ → ℕ
 answerWord none = nowhere
 answerWord (some a) = a
 
-unfoldable pub wordsBytes : List ℕ → List ℕ
-wordsBytes [] = []
-wordsBytes (v ∷ vs) = bytes wordLength v ++ wordsBytes vs
+unfoldable pub answersBytes : List ℕ → List ℕ
+answersBytes [] = []
+answersBytes (v ∷ vs) = bytes answerLength v ++ answersBytes vs
 
 -- "Each letter gives one word in answers", "answers past the letters are as they were"
 unfoldable pub answersAfter : List Rule → Begun → List ℕ → List ℕ → List ℕ
 answersAfter R (refused r) letters given = given
-answersAfter R (at n r p) letters given = inFront (wordsBytes (map answerWord (answers (forest R r) (lettersOf letters) p))) given
+answersAfter R (at n r p) letters given = inFront (answersBytes (map answerWord (answers (forest R r) (lettersOf letters) p))) given
 
 -- "Past 8 .. the first 32 × n words of work end as zeros"
 unfoldable pub walkedWork : List ℕ → List ℕ → List ℕ → List ℕ → List ℕ → List ℕ

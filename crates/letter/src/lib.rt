@@ -18,6 +18,9 @@ pub enum Letter {
 impl Letter {
     // The answer to a letter that leads nowhere.
     pub const NOWHERE: u32 = 65535;
+
+    // Bytes of an answer.
+    pub const ANSWER_LENGTH: usize = 2;
 }
 
 // What a byte is: a letter, or something else.

@@ -12,7 +12,7 @@ use Rattle.words.specs.Number.{bytes, put}
 use Rattle.words.proofs.Laws.{put-split, length-put, length-bytes}
 use Rattle.words.specs.Front.{inFront}
 use Rattle.forest.specs.Letter.{Letter, letterOf}
-use Rattle.forest.specs.Walk.{cellLength, cellsIn, andLetters, lettersOf, wordsBytes, answerWord}
+use Rattle.forest.specs.Walk.{cellLength, cellsIn, andLetters, lettersOf, answersBytes, answerWord}
 use Rattle.model.specs.Model.{Node}
 use Rattle.model.specs.Walk.{answer, answers, after}
 use Rattle.work_rows.specs.Rows.{Within}
@@ -25,47 +25,47 @@ use Rattle.letter_moves.specs.Standing.{Stands, Stepped}
 use Rattle.letter_run.specs.Ran.{Ran, Answerable}
 use Rattle.letter_moves.proofs.Stands.{stands-few, stands-after}
 
-pub length-wordsBytes : (vs : List ℕ) → length (wordsBytes vs) ≡ 2 * length vs
-unfolding wordsBytes
-length-wordsBytes [] = refl
-length-wordsBytes (v ∷ vs) = length-append (bytes 2 v) (wordsBytes vs) ∙ omega (arith, length-bytes 2 v, length-wordsBytes vs)
+pub length-answersBytes : (vs : List ℕ) → length (answersBytes vs) ≡ 2 * length vs
+unfolding answersBytes
+length-answersBytes [] = refl
+length-answersBytes (v ∷ vs) = length-append (bytes 2 v) (answersBytes vs) ∙ omega (arith, length-bytes 2 v, length-answersBytes vs)
 
-wordsBytes-more : (vs : List ℕ) (v : ℕ) → wordsBytes (vs ++ (v ∷ [])) ≡ wordsBytes vs ++ bytes 2 v
-unfolding wordsBytes bytes
-wordsBytes-more [] v = refl
-wordsBytes-more (x ∷ vs) v = ap (λ (l : List ℕ). bytes 2 x ++ l) (wordsBytes-more vs v)
+answersBytes-more : (vs : List ℕ) (v : ℕ) → answersBytes (vs ++ (v ∷ [])) ≡ answersBytes vs ++ bytes 2 v
+unfolding answersBytes bytes
+answersBytes-more [] v = refl
+answersBytes-more (x ∷ vs) v = ap (λ (l : List ℕ). bytes 2 x ++ l) (answersBytes-more vs v)
 
 -- no word at the front, and one word more
-in-front-none : (given : List ℕ) → inFront (wordsBytes []) given ≡ given
-unfolding inFront wordsBytes
+in-front-none : (given : List ℕ) → inFront (answersBytes []) given ≡ given
+unfolding inFront answersBytes
 in-front-none given = refl
 
 in-front-more : (vs : List ℕ) (v : ℕ) (given : List ℕ) (at : ℕ) → 2 * length vs ≡ at → at + 2 ≤ length given
-    → put 2 (inFront (wordsBytes vs) given) at v ≡ inFront (wordsBytes (vs ++ (v ∷ []))) given
+    → put 2 (inFront (answersBytes vs) given) at v ≡ inFront (answersBytes (vs ++ (v ∷ []))) given
 unfolding inFront
 in-front-more vs v given at e room =
-    put-split 2 (wordsBytes vs ++ drop (length (wordsBytes vs)) given) at v enough
+    put-split 2 (answersBytes vs ++ drop (length (answersBytes vs)) given) at v enough
     ∙ ap₂ (λ (x y : List ℕ). x ++ (bytes 2 v ++ y)) front back
-    ∙ sym (append-assoc (wordsBytes vs) (bytes 2 v) (drop (at + 2) given))
-    ∙ sym (ap₂ (λ (x : List ℕ) (k : ℕ). x ++ drop k given) (wordsBytes-more vs v) longer)
+    ∙ sym (append-assoc (answersBytes vs) (bytes 2 v) (drop (at + 2) given))
+    ∙ sym (ap₂ (λ (x : List ℕ) (k : ℕ). x ++ drop k given) (answersBytes-more vs v) longer)
   where
-    whole : length (wordsBytes vs) ≡ at
-    whole = length-wordsBytes vs ∙ e
+    whole : length (answersBytes vs) ≡ at
+    whole = length-answersBytes vs ∙ e
 
-    enough : at + 2 ≤ length (wordsBytes vs ++ drop (length (wordsBytes vs)) given)
+    enough : at + 2 ≤ length (answersBytes vs ++ drop (length (answersBytes vs)) given)
     enough = simp (length-append, length-drop) (omega (arith, whole))
 
-    front : take at (wordsBytes vs ++ drop (length (wordsBytes vs)) given) ≡ wordsBytes vs
-    front = take-at (wordsBytes vs) (drop (length (wordsBytes vs)) given) at whole
+    front : take at (answersBytes vs ++ drop (length (answersBytes vs)) given) ≡ answersBytes vs
+    front = take-at (answersBytes vs) (drop (length (answersBytes vs)) given) at whole
 
-    back : drop (at + 2) (wordsBytes vs ++ drop (length (wordsBytes vs)) given) ≡ drop (at + 2) given
+    back : drop (at + 2) (answersBytes vs ++ drop (length (answersBytes vs)) given) ≡ drop (at + 2) given
     back =
-        sym (drop-drop 2 at (wordsBytes vs ++ drop (length (wordsBytes vs)) given))
-        ∙ ap (drop 2) (drop-at (wordsBytes vs) (drop (length (wordsBytes vs)) given) at whole ∙ ap (λ (k : ℕ). drop k given) whole)
+        sym (drop-drop 2 at (answersBytes vs ++ drop (length (answersBytes vs)) given))
+        ∙ ap (drop 2) (drop-at (answersBytes vs) (drop (length (answersBytes vs)) given) at whole ∙ ap (λ (k : ℕ). drop k given) whole)
         ∙ drop-drop 2 at given
 
-    longer : length (wordsBytes (vs ++ (v ∷ []))) ≡ at + 2
-    longer = length-wordsBytes (vs ++ (v ∷ [])) ∙ omega (arith, length-append vs (v ∷ []))
+    longer : length (answersBytes (vs ++ (v ∷ []))) ≡ at + 2
+    longer = length-answersBytes (vs ++ (v ∷ [])) ∙ omega (arith, length-append vs (v ∷ []))
 
 -- the letters from an offset on
 letters-none : (letters : List ℕ) (i : ℕ) → length letters ≤ i → lettersOf (drop i letters) ≡ []
@@ -86,7 +86,7 @@ pub record Partway (r : ℕ) (t letters : List ℕ) (h₀ : Standing) (s₀ give
   pub done : List ℕ
   pub count : length done ≡ i
   pub room : length given ≡ length given₀
-  pub written : given ≡ inFront (wordsBytes done) given₀
+  pub written : given ≡ inFront (answersBytes done) given₀
   pub left : done ++ map answerWord (answers (factsIn t) r (lettersOf (drop i letters)) (h .rule, cellsIn s (h .used))) ≡ map answerWord (answers (factsIn t) r (lettersOf letters) (h₀ .rule, cellsIn s₀ (h₀ .used)))
   pub leads : after (factsIn t) r (lettersOf (drop i letters)) (h .rule, cellsIn s (h .used)) ≡ after (factsIn t) r (lettersOf letters) (h₀ .rule, cellsIn s₀ (h₀ .used))
   pub within : Within cellLength (placeLength (rowCount t)) s₀ s
@@ -113,7 +113,7 @@ module _ {r : ℕ} {t letters s₀ given₀ : List ℕ} {h₀ : Standing} where
         let words : P .done ≡ map answerWord (answers (factsIn t) r (lettersOf letters) (h₀ .rule, cellsIn s₀ (h₀ .used))) = sym (append-nil (P .done)) ∙ (rw e at (P .left)) in
         record {
           cells = ap (λ (n : Node). n .1) (rw e at (P .leads));
-          answered = P .written ∙ ap (λ (ws : List ℕ). inFront (wordsBytes ws) given₀) words;
+          answered = P .written ∙ ap (λ (ws : List ℕ). inFront (answersBytes ws) given₀) words;
           within = P .within;
           few = stands-few (P .stands);
         }

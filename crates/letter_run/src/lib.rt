@@ -1,4 +1,5 @@
 // A string of letters from a place (document 01, "Letters").
+use letter::Letter;
 use letter::Read;
 use letter::letter_of;
 use letter_arrival::Standing;
@@ -24,7 +25,7 @@ pub fn run(
             return at.used;
         };
         let landing = letter_step::step(rows, cursor, at, r, letter);
-        words::write16(answers, 2 * i, landing.answer as u16);
+        words::write16(answers, Letter::ANSWER_LENGTH * i, landing.answer as u16);
         at = landing.at;
         i += 1;
     }

@@ -13,7 +13,7 @@ use Rattle.forest.specs.Expression.{expression, ruleNumber}
 use Rattle.forest.specs.Forest.{Forest, forest, relabel}
 use Rattle.forest.specs.Place.{Cells, placedOf, placedForest}
 use Rattle.forest.specs.Reference.{Path, labelAt, answers, pathAfter}
-use Rattle.forest.specs.Walk.{cellAt, cellsIn, usedCells, headed, pathOf, Begun, stored, placeJudged, lettersOf, placeAt, storedCursor, cursorAfter, answerWord, wordsBytes, answersAfter}
+use Rattle.forest.specs.Walk.{cellAt, cellsIn, usedCells, headed, pathOf, Begun, stored, placeJudged, lettersOf, placeAt, storedCursor, cursorAfter, answerWord, answersBytes, answersAfter}
 use Rattle.forest.proofs.Unfold.{ruleNumber-expression}
 use Rattle.forest.proofs.Forget.{label, placedForest-forgets}
 use Rattle.forest.specs.Position.{locatedOf, Named}
@@ -85,10 +85,10 @@ module _ {R : List Rule} {rank : ℕ → ℕ} (S : Sound R rank) {r : ℕ} (C : 
   labels-forest = placedForest-forgets R r
 
   pub answers-left : (n : ℕ) (p : Path) (x : Node) → Stood R r p x → (letters given : List ℕ)
-      → answersAfter R (Begun.at n r p) letters given ≡ inFront (wordsBytes (map answerWord (model.answers (factsOf R) r (lettersOf letters) x))) given
+      → answersAfter R (Begun.at n r p) letters given ≡ inFront (answersBytes (map answerWord (model.answers (factsOf R) r (lettersOf letters) x))) given
   unfolding answersAfter
   answers-left n p x s letters given =
-      ap (λ (xs : List (Option ℕ)). inFront (wordsBytes (map answerWord xs)) given)
+      ap (λ (xs : List (Option ℕ)). inFront (answersBytes (map answerWord xs)) given)
       (ap (λ (g : Forest ℕ). answers g (lettersOf letters) p) (sym labels-forest)
       ∙ call-answers (expression R r) (good S C (factsOf R) (λ k l. facts-agree R k)) (factsOf R) (fit S C (factsOf R) (λ k l. facts-agree R k)) (lettersOf letters) p x (s .named) (s .same)
       ∙ ap (λ (k : ℕ). model.answers (factsOf R) k (lettersOf letters) x) numbered)

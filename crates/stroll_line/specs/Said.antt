@@ -5,7 +5,7 @@ use mathlib.Core.List.{List, map}
 use mathlib.Core.Option.{Option, none, some}
 use lib.Dec.{eqb}
 use Rattle.forest.specs.Walk.{nowhere}
-use Rattle.demand.specs.Demand.{wordsFrom}
+use Rattle.demand.specs.Demand.{answerWords}
 
 -- the answer that a word of answers says
 unfoldable pub answerOf : ℕ → Option ℕ
@@ -13,4 +13,4 @@ answerOf w = cond (eqb w nowhere) none (some w)
 
 -- the answers in m words from an offset on
 unfoldable pub answersFrom : ℕ → List ℕ → ℕ → List (Option ℕ)
-answersFrom m s at = map answerOf (wordsFrom m s at)
+answersFrom m s at = map answerOf (answerWords m s at)

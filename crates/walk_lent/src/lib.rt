@@ -1,4 +1,5 @@
 // What a walk is lent, tested: enough of each slice (8), and no byte that is no letter (9).
+use letter::Letter;
 use letter::Read;
 use place_cells::Cell;
 ghost use mathlib.Core.Path.{_≡_};
@@ -36,7 +37,7 @@ pub fn enough_cursor(cursor: &[u8], n: u16) -> bool
 fn enough_answers(letters: &[u8], answers: &[u8]) -> bool
     ensures { λ b. ⌜ b ≡ enoughAnswers (now (letters .entry)) (now (answers .entry)) ⌝ }
 {
-    letters.len() <= words::word_count(answers)
+    letters.len() <= answers.len() / Letter::ANSWER_LENGTH
 }
 
 // Whether n rules have enough of work and cursor, and each letter a word of answers.

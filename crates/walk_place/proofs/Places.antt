@@ -10,7 +10,7 @@ use Rattle.refusal.specs.declared.Refusal.{Refusal}
 use Rattle.words.specs.Front.{inFront}
 use Rattle.forest.specs.declared.Walked.{Walked}
 use Rattle.forest.specs.Place.{Cells}
-use Rattle.forest.specs.Walk.{cellLength, cursorWords, cellsIn, Begun, placeJudged, walked, storedCursor, cursorAfter, answersAfter, lettersOf, answerWord, wordsBytes}
+use Rattle.forest.specs.Walk.{cellLength, cursorWords, cellsIn, Begun, placeJudged, walked, storedCursor, cursorAfter, answersAfter, lettersOf, answerWord, answersBytes}
 use Rattle.forest.proofs.Stored.{stored-parts}
 use Rattle.model.specs.Facts.{Facts, factsOf}
 use Rattle.model.specs.Walk.{answers, after}
@@ -84,7 +84,7 @@ module _ {start n : ℕ} {t s letters given : List ℕ} (J : Travels start n t s
             ∙ ap (λ (b : Begun). cursorAfter (rulesKept t) b letters s) (sym (O .begun));
         answers-left =
             x .answered
-            ∙ ap (λ (F : Facts). inFront (wordsBytes (map answerWord (answers F r (lettersOf letters) (h .rule, cellsIn s (h .used))))) given) (T .facts-are)
+            ∙ ap (λ (F : Facts). inFront (answersBytes (map answerWord (answers F r (lettersOf letters) (h .rule, cellsIn s (h .used))))) given) (T .facts-are)
             ∙ sym (answers-left (T .sound) (T .closed) n (O .path) (h .rule, cellsIn s (h .used)) (O .stood) letters given)
             ∙ ap (λ (b : Begun). answersAfter (rulesKept t) b letters given) (sym (O .begun));
       }
