@@ -54,6 +54,7 @@ objdump -dr --no-show-raw-insn "$build/all.o" | awk '
     function hex(s,    v) { for (s = tolower(s); s != ""; s = substr(s, 2)) v = 16 * v + index("0123456789abcdef", substr(s, 1, 1)) - 1; return v }
     /^[0-9a-f]+ <.*>:$/ { f = $2; gsub(/^<|>:$/, "", f) }
     $2 == "push" { frame[f] += 8 }
+    $3 ~ /,%rsp$/ && ($2 !~ /^(sub|add)$/ || $3 !~ /^\$0x/) { print "a frame of no fixed length in " f > "/dev/stderr"; exit 1 }
     $2 == "sub" && $3 ~ /,%rsp$/ { sub(/^\$0x/, "", $3); sub(/,.*/, "", $3); frame[f] += hex($3) }
     $2 == "call" && $3 ~ /^\*/ { print "a call through a pointer in " f > "/dev/stderr"; exit 1 }
     match($0, /-0x[0-9a-f]+\(%rsp/) { d = hex(substr($0, RSTART + 3, RLENGTH - 8)); if (d > below[f]) below[f] = d }
