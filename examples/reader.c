@@ -8,11 +8,11 @@
 #include <ctype.h>
 #include <stdio.h>
 
-enum { MAX_RULES = 1024, MAX_PLAN = 16384, NOWHERE = 65535 };
+enum { MOST_PLAN = 16384 }; /* with its cover */
 
-static uint8_t plan[MAX_PLAN + 1];
-static uint8_t work[64 * MAX_RULES];
-static uint8_t cursor[32 * (MAX_RULES + 1)]; /* zeros: above the forest */
+static uint8_t plan[MOST_PLAN + 1];
+static uint8_t work[MEALPLAN_WORK_BYTES(MEALPLAN_MOST_RULES)];
+static uint8_t cursor[MEALPLAN_CURSOR_BYTES(MEALPLAN_MOST_RULES)]; /* zeros: above the forest */
 static size_t plan_len;
 
 static int refused(uint32_t number, uint64_t position) {
@@ -27,7 +27,7 @@ static int read_plan(const char *name) {
         plan_len = fread(plan, 1, sizeof plan, file);
         fclose(file);
     }
-    return plan_len > MAX_PLAN ? refused(8, 0) : 0;
+    return plan_len > MOST_PLAN ? refused(MEALPLAN_LENT, 0) : 0;
 }
 
 /* Says how large the plan is. */
@@ -38,7 +38,7 @@ static int greet(void) {
     if (number) return refused(number, position);
     printf("%u rules, start %u: ", n, start);
     number = plan_measure(plan, plan_len, work, sizeof work, &trees, &entries, &levels, &position);
-    if (number == 11) return printf("more than 2^64 - 1 entries\n"), 0;
+    if (number == MEALPLAN_ROOM) return printf("more than 2^64 - 1 entries\n"), 0;
     if (number) return refused(number, position);
     printf("%llu trees, %llu entries, %llu levels\n", (unsigned long long)trees, (unsigned long long)entries,
            (unsigned long long)levels);
@@ -46,24 +46,24 @@ static int greet(void) {
 }
 
 /* Shows the label that a key led to. */
-static void show(int key, unsigned label) {
-    if (label == NOWHERE)
+static void show(int key, uint32_t label) {
+    if (label == MEALPLAN_NOWHERE)
         printf("%c  nowhere\n", key);
-    else if (isprint((int)label))
-        printf("%c  %u %c\n", key, label, (int)label);
+    else if (label < 256 && isprint((int)label))
+        printf("%c  %u %c\n", key, (unsigned)label, (int)label);
     else
-        printf("%c  %u\n", key, label);
+        printf("%c  %u\n", key, (unsigned)label);
 }
 
 /* One key is one call: the place is in the cursor between calls, and nowhere else. */
 static int press(int key) {
-    uint8_t letter = (uint8_t)key, answer[2];
+    uint8_t letter = (uint8_t)key, answers[MEALPLAN_ANSWERS_BYTES(1)];
     uint64_t position;
-    uint32_t number = plan_walk(plan, plan_len, work, sizeof work, cursor, sizeof cursor, &letter, 1, answer,
-                                sizeof answer, &position);
-    if (number == 9) return printf("%c  no such key\n", isprint(key) ? key : '?'), 0;
+    uint32_t number = plan_walk(plan, plan_len, work, sizeof work, cursor, sizeof cursor, &letter, 1, answers,
+                                sizeof answers, &position);
+    if (number == MEALPLAN_LETTER) return printf("%c  no such key\n", isprint(key) ? key : '?'), 0;
     if (number) return refused(number, position);
-    show(key, answer[0] | (unsigned)answer[1] << 8);
+    show(key, MEALPLAN_ANSWER(answers, 0));
     return 0;
 }
 
@@ -74,7 +74,7 @@ int main(int argc, char **argv) {
         if (isspace(key)) continue;
         if (press(key)) return 1;
     }
-    /* The place could be kept in a file now: the used cells are the first 8 * (k + 1) bytes. */
-    printf("stopped with %u cells\n", (unsigned)(cursor[0] | cursor[1] << 8));
+    /* The place could be kept in a file now: it is the first MEALPLAN_PLACE_BYTES(cursor) bytes. */
+    printf("stopped with %u cells\n", (unsigned)MEALPLAN_CELLS(cursor));
     return 0;
 }

@@ -1,79 +1,144 @@
 /* The meal plan walker, for C.
 
-   Every slice is a pointer and a length in bytes. A pointer is never null, also
-   where the length is 0. A slice that is written (out, work, cursor, answers)
-   lies apart from every other slice and number of the call, and until the call
-   returns nobody else reads or writes it; slices that are only read may overlap.
-   The caller owns all memory; nothing is kept between calls, nothing is
-   allocated, and nothing beyond the lengths given is read or written.
+   Slices. Every slice is a pointer and a length in bytes. A pointer is never null,
+   also where the length is 0. A slice that is written (out, work, cursor, answers)
+   lies apart from every other slice of the call, and until the call returns nobody
+   else reads or writes it. Slices that are only read (plan, words, letters) may
+   overlap each other, and until the call returns nobody writes them either. Words
+   of 16 bits are two bytes, low first; an odd last byte isn't counted.
 
-   16-bit words are two bytes, low first; an odd last byte isn't counted.
+   Numbers. The numbers behind pointers lie apart from each other and from all
+   slices, are aligned as C has it, and are the call's alone until it returns.
 
-   Each function returns 0 when it accepts, else the refusal's number (1 to 11).
-   *position is the refusal's position: the rule for 4 to 6, the letter's place
-   for 9, and else 0; it is 0 when accepted. The other numbers are written only
-   when accepted. */
+   Calls. The caller owns all memory; nothing beyond the lengths given is read or
+   written. Nothing is kept between calls: there are no globals and nothing is
+   allocated. So calls are re-entrant: any number may run at a time, each on written
+   slices and numbers of its own.
+
+   Results. Each function returns 0 when it accepts, else the refusal's number, and
+   tests in the order in which the refusals stand in its comment. *position is the
+   rule for 4 to 6, the letter's place for 9, and else 0; it is 0 when accepted. The
+   other numbers are written only when accepted.
+
+   The library is for x86-64, where size_t has 64 bits. What it takes of a device is
+   at the end of this file. */
 #ifndef MEALPLAN_H
 #define MEALPLAN_H
 
 #include <stddef.h>
 #include <stdint.h>
 
+#if defined SIZE_MAX && SIZE_MAX < 0xffffffffffffffff
+#error "libmealplan is proved and compiled for a size_t of 64 bits"
+#endif
+
 #ifdef __cplusplus
 extern "C" {
 #endif
 
-/* Check a plan. Accepted: *n is the number of rules, *start the start rule. */
+/* Limits and lengths in bytes, for n rules, m letters and so many nodes. Each is
+   the least that is accepted; tests/interface.c holds them to the library. */
+#define MEALPLAN_MOST_RULES 1024u                         /* rules of a plan */
+#define MEALPLAN_PLAN_BYTES(n) ((size_t)8 * (n) + 10)     /* a plan without cover: out of plan_seal */
+#define MEALPLAN_WORDS_BYTES(n) ((size_t)8 * (n))         /* its rule words: out of plan_unseal */
+#define MEALPLAN_WORK_BYTES(n) ((size_t)64 * (n))         /* work of measure, spread and walk */
+#define MEALPLAN_CURSOR_BYTES(n) ((size_t)32 * (n) + 32)  /* the cursor */
+#define MEALPLAN_ANSWERS_BYTES(m) ((size_t)2 * (m))       /* answers to m letters */
+#define MEALPLAN_TEXT_BYTES(nodes) ((size_t)3 * (nodes))  /* the text: out of plan_spread */
+
+/* Answer number i of answers, from 0: a label, or nowhere. */
+#define MEALPLAN_ANSWER(answers, i) ((uint32_t)(answers)[2 * (i)] | (uint32_t)(answers)[2 * (i) + 1] << 8)
+#define MEALPLAN_NOWHERE 65535u
+
+/* The used cells of a cursor, and the bytes at its front that hold the place: these
+   alone have to be stored. Whatever stands behind them isn't looked at. */
+#define MEALPLAN_CELLS(cursor) ((size_t)((cursor)[0] | (cursor)[1] << 8))
+#define MEALPLAN_PLACE_BYTES(cursor) (8 * (MEALPLAN_CELLS(cursor) + 1))
+
+/* The refusals. */
+enum mealplan_refusal {
+    MEALPLAN_ACCEPTED = 0,
+    MEALPLAN_MAGIC = 1,      /* fewer than 10 bytes, or a wrong mark */
+    MEALPLAN_COUNT = 2,      /* n is 0 or above 1,024; the words aren't four to a rule */
+    MEALPLAN_DISTANCE = 3,   /* the distance isn't 8 * n or goes back before the first byte */
+    MEALPLAN_MALFORMED = 4,  /* kind above 5, label above 255, unused word not 0 */
+    MEALPLAN_NOT_LOWER = 5,  /* names a rule not lower */
+    MEALPLAN_WRONG_SORT = 6, /* names one of the wrong sort */
+    MEALPLAN_START = 7,      /* start isn't below n or isn't closed */
+    MEALPLAN_LENT = 8,       /* work or cursor too short, or fewer answers than letters */
+    MEALPLAN_LETTER = 9,     /* a byte outside a z f l n p u s */
+    MEALPLAN_PLACE = 10,     /* no letters lead from a place above this forest to these
+                                used cells, or cell 0 has a nonzero later word */
+    MEALPLAN_ROOM = 11       /* output too short; over 2^64 - 1 nodes */
+};
+
+/* Check a plan: 1 to 7. Accepted: *n is the number of rules, *start the start rule. */
 uint32_t plan_check(const uint8_t *plan, size_t plan_len,
                     uint16_t *n, uint16_t *start, uint64_t *position);
 
-/* Seal rule words, four to a rule, as a plan without cover at the front of out,
-   which needs 8 bytes a rule and 10 more. Accepted: *written is the plan's
-   length and later bytes of out stay. Refused: out is untouched. */
+/* Seal rule words, four to a rule, as a plan without cover at the front of out: 2,
+   4 to 7, 11. Accepted: *written is the plan's length and later bytes of out stay.
+   Refused: out is untouched. */
 uint32_t plan_seal(const uint8_t *words, size_t words_len, uint16_t start,
                    uint8_t *out, size_t out_len,
                    uint64_t *written, uint64_t *position);
 
-/* Unseal a plan: its rule words at the front of out, which needs four words a
-   rule. Accepted: *n and *start as plan_check gives them, and later words stay.
-   Refused: out is untouched. */
+/* Unseal a plan, its rule words at the front of out: 1 to 7, 11. Accepted: *n and
+   *start as plan_check gives them, and later words stay. Refused: out is untouched. */
 uint32_t plan_unseal(const uint8_t *plan, size_t plan_len,
                      uint8_t *out, size_t out_len,
                      uint16_t *n, uint16_t *start, uint64_t *position);
 
-/* Measure a plan's forest: *trees, *entries (all nodes) and *levels; 11 if it
-   has more than 2^64 - 1 nodes. work needs 64 bytes a rule; unless the plan or
-   work itself is refused (1 to 8), its first 64 bytes a rule end as zeros, and
-   the bytes past them never change. */
+/* Measure a plan's forest, *trees, *entries (all nodes) and *levels: 1 to 8, and 11
+   if it has more than 2^64 - 1 nodes. Unless 1 to 8 refuses, the needed bytes of
+   work end as zeros; those past them never change. */
 uint32_t plan_measure(const uint8_t *plan, size_t plan_len,
                       uint8_t *work, size_t work_len,
                       uint64_t *trees, uint64_t *entries, uint64_t *levels,
                       uint64_t *position);
 
-/* Spread a plan's forest as text: "(", the label, the children, ")" for each node
-   in reading order, at the front of out, which needs 3 bytes a node, else 11.
-   work as for plan_measure. Accepted: *written is the text's length and later
-   bytes of out stay. Refused: out is untouched. */
+/* Spread a plan's forest as text, "(", the label, the children, ")" for each node in
+   reading order, at the front of out: 1 to 8, 11. work as for plan_measure.
+   Accepted: *written is the text's length and later bytes of out stay. Refused: out
+   is untouched. */
 uint32_t plan_spread(const uint8_t *plan, size_t plan_len,
                      uint8_t *work, size_t work_len,
                      uint8_t *out, size_t out_len,
                      uint64_t *written, uint64_t *position);
 
-/* Walk from the place in cursor, a letter at a time: a, z to the root of the first,
-   last tree; f, l to the first, last child; n, p to the next, previous sibling; u to
-   the parent; s stays. Each letter gives a word of answers: the label of the node
-   arrived at, or 65535 for nowhere, and then the place is kept. A cursor whose first
-   8 bytes are 0 is above the forest, from where only a and z lead. work as for
-   plan_measure; cursor needs 32 bytes a rule and 32 more, answers 2 bytes a letter,
-   else 8. Accepted: cursor holds the new place and, as far as it is needed, zeros
-   after it; its later bytes and those of answers stay. Refused (9 for a byte that is
-   no letter, 10 for cells that are no place): cursor and answers are untouched. */
+/* Walk from the place in cursor, a letter at a time: 1 to 10. a, z: to the root of the
+   first, last tree; f, l: first, last child; n, p: next, previous sibling; u: parent;
+   s: stay. Each letter gives an answer: the label of the node arrived at, or nowhere,
+   and then the place is kept. A cursor whose first 8 bytes are 0 is above the forest,
+   from where only a and z lead. work as for plan_measure. Accepted: cursor holds the
+   new place and, in the needed bytes, zeros after it; its later bytes and those of
+   answers stay. Refused: cursor and answers are untouched. */
 uint32_t plan_walk(const uint8_t *plan, size_t plan_len,
                    uint8_t *work, size_t work_len,
                    uint8_t *cursor, size_t cursor_len,
                    const uint8_t *letters, size_t letters_len,
                    uint8_t *answers, size_t answers_len,
                    uint64_t *position);
+
+/* What the library takes of a device, in bytes, at most; tests/stack.sh measures it.
+
+   Code with its constants, of all six functions, and of plan_check and plan_walk
+   alone where the linker drops what isn't used (--gc-sections). There are no data and
+   no bss, and the one function that the library calls is memset. */
+#define MEALPLAN_CODE_BYTES 16384
+#define MEALPLAN_CODE_BYTES_CHECK_WALK 10240
+
+/* Stack, whatever the plan: the deepest chain of calls (there is no recursion) with
+   the return address, without the arguments that the caller puts on the stack and
+   without what memset takes beyond its own return address. The code uses the red zone
+   of the x86-64 ABI: an interrupt on the same stack leaves 128 bytes below the stack
+   pointer alone. */
+#define MEALPLAN_STACK_CHECK 256
+#define MEALPLAN_STACK_SEAL 256
+#define MEALPLAN_STACK_UNSEAL 256
+#define MEALPLAN_STACK_MEASURE 384
+#define MEALPLAN_STACK_SPREAD 384
+#define MEALPLAN_STACK_WALK 1024
 
 #ifdef __cplusplus
 }

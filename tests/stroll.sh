@@ -82,5 +82,31 @@ for tool in bash env dirname readlink mktemp rm cat find; do ln -s "$(command -v
 holds "no kit" 1 '' env PATH="$room/tools" "$room/unbuilt/stroll" "$sample" a
 says "the Rattle kit (rt) is not installed"
 
+# with a kit that proves, of three crates the two that stroll needs, and then with one that refuses
+printf 'words: # bytes\nother: words\nstroll: words io # the program\n' >"$room/unbuilt/crates.txt"
+cat >"$room/tools/rt" <<'END'
+#!/bin/sh
+echo 'rt: words proved (unchanged since it was last proved)'
+echo 'rt: stroll proved (1 s)'
+echo 'rt: stroll ran, and wrote what its file has'
+echo 'rt: ok, 2 crates proved'
+mkdir -p target/bin target/stamp
+printf '#!/bin/sh\necho walked\n' >target/bin/stroll
+chmod +x target/bin/stroll
+END
+chmod +x "$room/tools/rt"
+for tool in sh tee touch mkdir chmod; do ln -s "$(command -v $tool)" "$room/tools/$tool"; done
+holds "a kit that proves" 0 'walked\n' env PATH="$room/tools" "$room/unbuilt/stroll" "$sample" a
+says "stroll: 1 of 2 crates"
+says "stroll: 2 of 2 crates"
+[ "$(grep -c crates "$room/said")" -eq 2 ] || { echo "stroll says more of crates"; cat "$room/said"; exit 1; }
+holds "built already" 0 'walked\n' env PATH="$room/tools" "$room/unbuilt/stroll" "$sample" a
+[ ! -s "$room/said" ] || { echo "stroll proves what it has proved"; exit 1; }
+printf '#!/bin/sh\necho "rt: words NOT PROVED: it is not proved"\nexit 1\n' >"$room/tools/rt"
+rm -r "$room/unbuilt/target"
+holds "a kit that refuses" 1 '' env PATH="$room/tools" "$room/unbuilt/stroll" "$sample" a
+says "rt: words NOT PROVED"
+says "the program was not built"
+
 left=$(find "$room/tmp" "$room/folder" -mindepth 1)
 [ -z "$left" ] || { echo "stroll left behind: $left"; exit 1; }

@@ -1,72 +1,89 @@
-// Every case of document 01 ("One sample plan"), a line each: a function's contract names what comes of it, and `expect`, here or in the
-// crate held, holds it to that. Further cases, for each of document 01's sentences on the operations, stand in tests/cases.txt with what
-// it says of them; the Rust tests run them through the C interface.
-use case_report::words_are;
-use check::expect;
-use check::same;
-use forest_cases::forest_cases;
-use format_cases::rule_cases;
-use format_cases::sample_cases;
-use format_cases::trailer_cases;
+// Runs every case of document 01, "One sample plan", on the library, and prints a line for each: "ok" and what came, or "FAILED", what came
+// and what document 01 gives. The file stdout holds the lines as they are to be, so a case that fails fails the gate.
+use runs::answers;
+use runs::cells;
+use runs::check;
+use runs::check_empty;
+use runs::measure;
+use runs::seal;
+use runs::spread;
+use runs::stroll;
 
-mod walks;
+mod runs;
+mod text;
 
-// The answers to document 01's letters, and those on one empty rule.
-fn answer_cases() {
-    words_are(
-        b"the answers to afnnfnnnnununnn:",
-        &walks::answers(&sample::bytes(), b"afnnfnnnnununnn"),
-        b"\x63\x00\x61\x00\x62\x00\x63\x00\x61\x00\x62\x00\x61\x00\x62\x00\xff\xff\x63\x00\x62\x00\x63\x00\x61\x00\x62\x00\xff\xff",
+// The plans of cases: rules of four words, then n, start, distance and mark.
+const NO_RULES: [u8; 10] = *b"\x00\x00\x00\x00\x00\x00\x00\x00mp";
+
+// One empty rule.
+const EMPTY: [u8; 18] = *b"\x00\x00\x00\x00\x00\x00\x00\x00\x01\x00\x00\x00\x08\x00\x00\x00mp";
+
+// One rule, pair 0 0.
+const PAIR: [u8; 18] = *b"\x01\x00\x00\x00\x00\x00\x00\x00\x01\x00\x00\x00\x08\x00\x00\x00mp";
+
+// Node 255 over an empty rule, and node 256.
+const LABEL_255: [u8; 26] =
+    *b"\x00\x00\x00\x00\x00\x00\x00\x00\x02\x00\xff\x00\x00\x00\x00\x00\x02\x00\x01\x00\x10\x00\x00\x00mp";
+
+const LABEL_256: [u8; 26] =
+    *b"\x00\x00\x00\x00\x00\x00\x00\x00\x02\x00\x00\x01\x00\x00\x00\x00\x02\x00\x01\x00\x10\x00\x00\x00mp";
+
+// The plan's bytes: n and start, or the refusal.
+fn format_cases() {
+    seal(b"the sample plan's rules, sealed", b"accepted 74");
+    check(b"the sample plan", &sample::bytes(), b"accepted 8 7");
+    check(b"10 bytes, right mark, n = 0", &NO_RULES, b"refused 2 at 0");
+    check(b"rule 0 = pair 0 0", &PAIR, b"refused 5 at 0");
+    check_empty(b"n = 1,024", &mut [0u8; 8202], 1024, b"accepted 1024 0");
+    check_empty(b"n = 1,025", &mut [0u8; 8210], 1025, b"refused 2 at 0");
+    check(b"label 255", &LABEL_255, b"accepted 2 1");
+    check(b"label 256", &LABEL_256, b"refused 4 at 1");
+}
+
+// The forest: its counts, and its text in an output of full stops.
+fn forest_cases() {
+    measure(b"measure", b"3 trees, 11 entries, 3 levels");
+    spread(
+        b"spread into 33 bytes",
+        &mut [b'.'; 33],
+        b"accepted 33 (c(a)(b)(c(a)(b)(a)(b))(b))(a)(b)",
     );
-    words_are(
-        b"one empty rule, a and z nowhere:",
-        &walks::answers(
-            b"\x00\x00\x00\x00\x00\x00\x00\x00\x01\x00\x00\x00\x08\x00\x00\x00mp",
-            b"az",
-        ),
-        b"\xff\xff\xff\xff",
+    spread(
+        b"spread into 32 bytes",
+        &mut [b'.'; 32],
+        b"refused 11 at 0 ................................",
     );
 }
 
-// Cell 0 and the cells behind it.
-fn cell_cases() {
-    words_are(
-        b"after a, cells (1,0,7,0) (3,7,6,0) (2,6,0,0) (3,5,4,0):",
-        &walks::cursor(&sample::bytes(), b"a"),
-        b"\x04\x00\x00\x00\x00\x00\x00\x00\x01\x00\x00\x00\x07\x00\x00\x00\x03\x00\x07\x00\x06\x00\x00\x00\x02\x00\x06\x00\x00\x00\x00\x00\x03\x00\x05\x00\x04\x00\x00\x00",
+// Walks from above the forest: the answers, "-" for nowhere, and the used cells.
+fn walk_cases() {
+    answers(
+        b"the answers to afnnfnnnnununnn",
+        &sample::bytes(),
+        b"afnnfnnnnununnn",
+        b"99 97 98 99 97 98 97 98 - 99 98 99 97 98 -",
     );
-    words_are(
-        b"after afnnfnn, (1,0,7,0) (3,7,6,0) (2,6,0,0) (4,5,4,0) (2,1,0,0):",
-        &walks::cursor(&sample::bytes(), b"afnnfnn"),
-        b"\x05\x00\x00\x00\x00\x00\x00\x00\x01\x00\x00\x00\x07\x00\x00\x00\x03\x00\x07\x00\x06\x00\x00\x00\x02\x00\x06\x00\x00\x00\x00\x00\x04\x00\x05\x00\x04\x00\x00\x00\x02\x00\x01\x00\x00\x00\x00\x00",
+    answers(b"one empty rule, a and z", &EMPTY, b"az", b"- -");
+    cells(b"after a", b"a", b"(1,0,7,0) (3,7,6,0) (2,6,0,0) (3,5,4,0)");
+    cells(
+        b"after afnnfnn",
+        b"afnnfnn",
+        b"(1,0,7,0) (3,7,6,0) (2,6,0,0) (4,5,4,0) (2,1,0,0)",
     );
-    words_are(
-        b"one more n, the last cell becomes (1,2,2,0) (2,2,0,0):",
-        &walks::cursor(&sample::bytes(), b"afnnfnnn"),
-        b"\x06\x00\x00\x00\x00\x00\x00\x00\x01\x00\x00\x00\x07\x00\x00\x00\x03\x00\x07\x00\x06\x00\x00\x00\x02\x00\x06\x00\x00\x00\x00\x00\x04\x00\x05\x00\x04\x00\x00\x00\x01\x00\x02\x00\x02\x00\x00\x00\x02\x00\x02\x00\x00\x00\x00\x00",
+    cells(
+        b"one more n",
+        b"afnnfnnn",
+        b"(1,0,7,0) (3,7,6,0) (2,6,0,0) (4,5,4,0) (1,2,2,0) (2,2,0,0)",
     );
-}
-
-// The lines that stroll prints for document 01's letters.
-fn line_cases() {
-    let mut out = [0u8; stroll_output::MOST_OUTPUT];
-    let length = stroll_output::stroll(&sample::bytes(), b"afnnfnnnnununnn", &mut out);
-    let printed = &out[..length];
-    expect(same(
-        printed,
-        b"a 99\nf 97\nn 98\nn 99\nf 97\nn 98\nn 97\nn 98\nn -\nu 99\nn 98\nu 99\nn 97\nn 98\nn -\n",
-    ));
-    io::write_all(1, b"the lines of stroll:\n");
-    io::write_all(1, printed);
 }
 
 fn main() {
-    sample_cases();
-    trailer_cases();
-    rule_cases();
+    format_cases();
     forest_cases();
-    answer_cases();
-    cell_cases();
-    line_cases();
-    io::write_all(1, b"every case is as document 01 says\n");
+    walk_cases();
+    stroll(
+        b"the lines of stroll",
+        b"afnnfnnnnununnn",
+        b"a 99\nf 97\nn 98\nn 99\nf 97\nn 98\nn 97\nn 98\nn -\nu 99\nn 98\nu 99\nn 97\nn 98\nn -\n",
+    );
 }

@@ -1,5 +1,5 @@
 -- What is known of each rule, in its row behind the rule itself: whether it is empty, its representative, and for each side a link,
--- the way of that side from the rule. Read back, the rows are facts as the walker knows them (`known`).
+-- the way of that side from the rule. Read back, the rows are facts as the walker knows them (`factsIn`).
 use Prim.Native.Nat.{ℕ, zero, suc, _+_, _-_, _/_, _≤_, _<_}
 use mathlib.Core.Path.{_≡_}
 use mathlib.Core.Bool.{true, cond}

@@ -1,11 +1,11 @@
--- A text put at the front is printed, and what is printed is that text. Assumes nothing.
+-- A text put at the front is printed. Assumes nothing.
 use Prim.Native.Nat.{ℕ}
 use native.Mathlib.Omega.{arith}
 use native.Mathlib.Nat.{zero-add}
-use mathlib.Core.Path.{_≡_, ap, sym, _∙_}
+use mathlib.Core.Path.{ap, _∙_}
 use mathlib.Core.List.{List, _++_}
-use lib.ListN.{length, take, drop, length-take}
-use lib.Seq.{sets-eq, take-at}
+use lib.ListN.{length, drop, length-take}
+use lib.Seq.{sets-eq}
 use Rattle.words.specs.Front.{inFront}
 use Rattle.decimal.specs.Put.{Put}
 use Rattle.stroll_output.specs.Printed.{Printed}
@@ -21,7 +21,3 @@ put-printed {a} {s} {t} {end} P =
       within = omega arith;
       taken = omega (arith, length-take end t);
     }
-
-pub printed-text : {a s t : List ℕ} {m : ℕ} → Printed a s t m → take m t ≡ a
-unfolding inFront
-printed-text {a} {s} {t} {m} P = ap (take m) (P .front) ∙ take-at a (drop (length a) s) m (sym (P .counts))

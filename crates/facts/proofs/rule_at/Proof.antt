@@ -1,4 +1,4 @@
--- The rule is the one of `known`. Assumes nothing.
+-- The rule is the one of `factsIn`. Assumes nothing.
 use mathlib.Core.Path.{sym, _∙_}
 use denote.Ref.{now}
 use Rattle.facts.proofs.Words.{factsIn-rule}

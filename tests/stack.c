@@ -1,0 +1,153 @@
+/* How much stack each function of the library takes on plans of 1,024 rules of several shapes, held to the bounds of include/mealplan.h.
+   Each call runs on a stack of its own that was painted before: what is no longer paint, below where the function was called, was used.
+   A bound that is exceeded, or that is more than twice what was used, ends the run with status 1. */
+#include "mealplan.h"
+#include <stdio.h>
+#include <stdlib.h>
+#include <string.h>
+#include <ucontext.h>
+
+enum { RULES = MEALPLAN_MOST_RULES, LETTERS = 4096, TEXT = 1 << 20 };
+
+static uint8_t words[MEALPLAN_WORDS_BYTES(RULES)], plan[MEALPLAN_PLAN_BYTES(RULES)], work[MEALPLAN_WORK_BYTES(RULES)];
+static uint8_t cursor[MEALPLAN_CURSOR_BYTES(RULES)], letters[LETTERS], answers[MEALPLAN_ANSWERS_BYTES(LETTERS)], out[TEXT];
+static uint16_t n, start;
+static uint64_t trees, entries, levels, written, position;
+static uint32_t result;
+
+/* The library's memset is this one, so that the figures are the library's own. */
+void *memset(void *s, int value, size_t length) {
+    for (volatile uint8_t *p = s; length; length--) *p++ = (uint8_t)value;
+    return s;
+}
+
+/* Notes the stack pointer where it is called. */
+static uint8_t *called;
+static uint32_t note(void) {
+    called = __builtin_dwarf_cfa();
+    return 0;
+}
+
+/* Calls a function, and before it, from the same place, the one that notes the stack pointer. */
+#define CALL(function, ...)                                                         \
+    __typeof__(&function) callee = (__typeof__(&function))(void (*)(void))note;     \
+    for (int i = 0; i < 2; i++, callee = function) result = callee(__VA_ARGS__)
+
+static void check(void) { CALL(plan_check, plan, sizeof plan, &n, &start, &position); }
+static void seal(void) { CALL(plan_seal, words, sizeof words, RULES - 1, plan, sizeof plan, &written, &position); }
+static void unseal(void) { CALL(plan_unseal, plan, sizeof plan, words, sizeof words, &n, &start, &position); }
+static void measure(void) { CALL(plan_measure, plan, sizeof plan, work, sizeof work, &trees, &entries, &levels, &position); }
+static void spread(void) { CALL(plan_spread, plan, sizeof plan, work, sizeof work, out, sizeof out, &written, &position); }
+static void walk(void) {
+    CALL(plan_walk, plan, sizeof plan, work, sizeof work, cursor, sizeof cursor, letters, LETTERS, answers, sizeof answers, &position);
+}
+
+/* The bytes of stack that a call used, the deeper of two stacks painted differently. */
+static size_t used(void (*call)(void)) {
+    static uint8_t area[1 << 16] __attribute__((aligned(16)));
+    static ucontext_t outside, inside;
+    size_t most = 0;
+    for (int paint = 0x5a; paint <= 0xa5; paint += 0x4b) {
+        memset(area, paint, sizeof area);
+        getcontext(&inside);
+        inside.uc_stack.ss_sp = area;
+        inside.uc_stack.ss_size = sizeof area;
+        inside.uc_link = &outside;
+        makecontext(&inside, call, 0);
+        swapcontext(&outside, &inside);
+        uint8_t *lowest = area;
+        while (*lowest == paint) lowest++;
+        if (most < (size_t)(called - lowest)) most = (size_t)(called - lowest);
+    }
+    return most;
+}
+
+/* The functions, what the header says of each, and the most that was used. */
+static struct function {
+    const char *name;
+    void (*call)(void);
+    size_t bound, most;
+} functions[] = {
+    {"plan_seal", seal, MEALPLAN_STACK_SEAL, 0},          {"plan_check", check, MEALPLAN_STACK_CHECK, 0},
+    {"plan_unseal", unseal, MEALPLAN_STACK_UNSEAL, 0},    {"plan_measure", measure, MEALPLAN_STACK_MEASURE, 0},
+    {"plan_spread", spread, MEALPLAN_STACK_SPREAD, 0},    {"plan_walk", walk, MEALPLAN_STACK_WALK, 0},
+};
+
+/* Any number below a bound: xorshift, the same at every run. */
+static uint32_t below(uint32_t bound) {
+    static uint32_t x = 2463534242u;
+    x ^= x << 13, x ^= x >> 17, x ^= x << 5;
+    return x % bound;
+}
+
+static void rule(size_t r, unsigned kind, unsigned a, unsigned b, unsigned c) {
+    unsigned word[4] = {kind, a, b, c};
+    for (size_t i = 0; i < 4; i++) words[8 * r + 2 * i] = (uint8_t)word[i], words[8 * r + 2 * i + 1] = (uint8_t)(word[i] >> 8);
+}
+
+/* The shapes. Rules 0 to 2 are empty, a node and a node with a hole between two; the last rule, the start, closes or ends what stands
+   below it. */
+static void left_row(unsigned r) { rule(r, 1, r - 1, 1, 0); }
+static void right_row(unsigned r) { rule(r, 1, 1, r - 1, 0); }
+static void zigzag_row(unsigned r) { r % 2 ? left_row(r) : right_row(r); }
+static void one_sided(unsigned r) { rule(r, 1, r % 2 ? r - 1 : 0, r % 2 ? 0 : r - 1, 0); }
+static void nodes(unsigned r) { rule(r, 2, r % 256, r - 1, 0); }
+static void doubled(unsigned r) { rule(r, 1, r - 1, r - 1, 0); }
+static void left_spine(unsigned r) { rule(r, 5, r - 1, 2, 0); }
+static void right_spine(unsigned r) { rule(r, 5, 2, r - 1, 0); }
+static void zigzag_spine(unsigned r) { r % 2 ? left_spine(r) : right_spine(r); }
+
+/* Rows in spines in rows: of four rules, the first closes the spine, the second sets it in a row, the third opens one beside it. */
+static void nested(unsigned r) {
+    switch (r % 4) {
+    case 0: rule(r, 4, r % 256, r - 1, 1 + below(2) * (r - 2)); break;
+    case 1: rule(r, 5, r - 1, r - 1, 0); break;
+    case 2: rule(r, 3, r - 1, 1, 0); break;
+    default: below(2) ? left_row(r) : right_row(r);
+    }
+}
+
+static const struct shape {
+    const char *name;
+    void (*made)(unsigned r);
+    int holed; /* the rules below the start are holed */
+} shapes[] = {
+    {"a left row", left_row, 0},         {"a right row", right_row, 0},       {"a zigzag row", zigzag_row, 0},
+    {"one-sided pairs", one_sided, 0},   {"nodes in nodes", nodes, 0},        {"doubled", doubled, 0},
+    {"a left spine", left_spine, 1},     {"a right spine", right_spine, 1},   {"a zigzag spine", zigzag_spine, 1},
+    {"nested", nested, 0},
+};
+
+static void build(const struct shape *s) {
+    rule(0, 0, 0, 0, 0);
+    rule(1, 2, 97, 0, 0);
+    rule(2, 4, 98, 1, 1);
+    unsigned from = s->holed ? 3 : 2;
+    if (s->made == nested) rule(2, 2, 98, 1, 0), rule(3, 1, 2, 1, 0), from = 4;
+    for (unsigned r = from; r < RULES; r++) s->made(r);
+    if (s->holed) rule(RULES - 1, 3, RULES - 2, 1, 0);
+    for (size_t i = 0; i < LETTERS; i++) letters[i] = (uint8_t)"azfflnnnnppppus"[below(15)];
+    memset(cursor, 0, sizeof cursor);
+}
+
+int main(void) {
+    int failed = 0;
+    for (size_t s = 0; s < sizeof shapes / sizeof *shapes; s++) {
+        build(&shapes[s]);
+        for (struct function *f = functions; f < functions + 6; f++) {
+            size_t bytes = used(f->call);
+            if (f->most < bytes) f->most = bytes;
+            int large = (f->call == measure || f->call == spread) && result == MEALPLAN_ROOM;
+            if (result && !large) printf("%s on %s: refused %u at %u\n", f->name, shapes[s].name, result, (unsigned)position), failed = 1;
+        }
+        size_t moved = 0;
+        for (size_t i = 0; i < LETTERS; i++) moved += MEALPLAN_ANSWER(answers, i) != MEALPLAN_NOWHERE;
+        printf("%s: %zu of %d letters lead to a node\n", shapes[s].name, moved, LETTERS);
+    }
+    for (struct function *f = functions; f < functions + 6; f++) {
+        int bad = f->bound < f->most || 2 * f->most < f->bound;
+        printf("%s: %zu bytes of stack used, %zu stated%s\n", f->name, f->most, f->bound, bad ? ": FAILED" : "");
+        failed |= bad;
+    }
+    return failed;
+}
