@@ -22,7 +22,7 @@ use Rattle.demand.specs.Demand.{Above, answerWords}
 use Rattle.demand.proofs.FromAbove.{zeros-above, above-accepted, above-refused, above-answers}
 use Rattle.stroll_line.specs.Lines.{lineLength, lines, refusedLine}
 use Rattle.stroll_output.specs.Stroll.{mostPlan, mostLetters, walkPrinted, checkPrinted, strollOutput}
-use Rattle.stroll_line.specs.Said.{answerOf, answerWords}
+use Rattle.stroll_line.specs.Said.{answerOf, answersFrom}
 use Rattle.stroll_output.specs.Printed.{Accepted, Strollable, Strolled}
 use Rattle.stroll_line.proofs.Shown.{allLines}
 use Rattle.stroll_output.proofs.Answers.{plan-answers, words-said, lines-length}
@@ -89,8 +89,8 @@ module _ {plan letters work cursor given : List ℕ} (S : Strollable plan letter
   every-letter : x ≡ Walked.Accepted → firstOther letters 0 ≡ none
   every-letter q = by-option (firstOther letters 0) (λ e. e) (λ i e. let r = refused i e in cc)
 
-  answered : x ≡ Walked.Accepted → answerWords (length letters) given′ 0 ≡ answers (forest (rulesOf plan) (A .start)) (lettersOf letters) []
-  unfolding answerWords
+  answered : x ≡ Walked.Accepted → answersFrom (length letters) given′ 0 ≡ answers (forest (rulesOf plan) (A .start)) (lettersOf letters) []
+  unfolding answersFrom
   answered q =
       ap (map answerOf)
       (ap (λ (l : Left). answerWords (length letters) (l .answers) 0) W
