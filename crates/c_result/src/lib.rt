@@ -4,11 +4,22 @@ use forest::Walked;
 use plan::Checked;
 use plan::Written;
 ghost use mathlib.Core.Path.{_≡_};
-ghost use Rattle.c_result.specs.Interface.{measuredResult, measuredPosition, treesAfter, entriesAfter, levelsAfter, checkedResult, writtenResult, checkedPosition, writtenPosition, countAfter, startAfter, lengthAfter, walkedResult, walkedPosition};
+ghost use Rattle.c_result.specs.Interface.{measuredResult, measuredPosition, treesAfter, entriesAfter, levelsAfter};
+ghost use Rattle.c_result.specs.Interface.{checkedResult, writtenResult, checkedPosition, writtenPosition, countAfter};
+ghost use Rattle.c_result.specs.Interface.{startAfter, lengthAfter, walkedResult, walkedPosition};
 
 // What a checked answer leaves behind the pointers, and the result.
 pub fn give_checked(answer: Checked, n: &mut u16, start: &mut u16, position: &mut u64) -> u32
-    ensures { λ r. ⌜ (r ≡ checkedResult answer) × (now (n .exit) ≡ countAfter answer (now (n .entry))) × (now (start .exit) ≡ startAfter answer (now (start .entry))) × (now (position .exit) ≡ checkedPosition answer) ⌝ }
+    ensures { λ r.
+        let n′ = now (n .exit) in
+        let start′ = now (start .exit) in
+        let position′ = now (position .exit) in
+        let n = now (n .entry) in
+        let start = now (start .entry) in
+        ⌜ (r ≡ checkedResult answer)
+        × (n′ ≡ countAfter answer n)
+        × (start′ ≡ startAfter answer start)
+        × (position′ ≡ checkedPosition answer) ⌝ }
 {
     match answer {
         Checked::Accepted {
@@ -29,7 +40,10 @@ pub fn give_checked(answer: Checked, n: &mut u16, start: &mut u16, position: &mu
 
 // The same for an answer that gives a length.
 pub fn give_written(answer: Written, written: &mut u64, position: &mut u64) -> u32
-    ensures { λ r. ⌜ (r ≡ writtenResult answer) × (now (written .exit) ≡ lengthAfter answer (now (written .entry))) × (now (position .exit) ≡ writtenPosition answer) ⌝ }
+    ensures { λ r.
+        ⌜ (r ≡ writtenResult answer)
+        × (now (written .exit) ≡ lengthAfter answer (now (written .entry)))
+        × (now (position .exit) ≡ writtenPosition answer) ⌝ }
 {
     match answer {
         Written::Length(length) => {
@@ -52,7 +66,19 @@ pub fn give_measured(
     levels: &mut u64,
     position: &mut u64,
 ) -> u32
-    ensures { λ r. ⌜ (r ≡ measuredResult answer) × (now (trees .exit) ≡ treesAfter answer (now (trees .entry))) × (now (entries .exit) ≡ entriesAfter answer (now (entries .entry))) × (now (levels .exit) ≡ levelsAfter answer (now (levels .entry))) × (now (position .exit) ≡ measuredPosition answer) ⌝ }
+    ensures { λ r.
+        let trees′ = now (trees .exit) in
+        let entries′ = now (entries .exit) in
+        let levels′ = now (levels .exit) in
+        let position′ = now (position .exit) in
+        let trees = now (trees .entry) in
+        let entries = now (entries .entry) in
+        let levels = now (levels .entry) in
+        ⌜ (r ≡ measuredResult answer)
+        × (trees′ ≡ treesAfter answer trees)
+        × (entries′ ≡ entriesAfter answer entries)
+        × (levels′ ≡ levelsAfter answer levels)
+        × (position′ ≡ measuredPosition answer) ⌝ }
 {
     match answer {
         Measured::Counts {

@@ -25,12 +25,8 @@ fn label(work: &[u8], r: u16) -> u32
     ensures { λ v. ⌜ v ≡ label (factsIn (now (work .entry)) .rule r) ⌝ }
 {
     match facts::rule_at(work, r) {
-        Rule::Node { label, under: _ } => label,
-        Rule::Part {
-            label,
-            left: _,
-            right: _,
-        } => label,
+        Rule::Node { label, .. } => label,
+        Rule::Part { label, .. } => label,
         _ => 0,
     }
 }
@@ -38,7 +34,10 @@ fn label(work: &[u8], r: u16) -> u32
 // What a letter that leads to a node comes to: its cells are written.
 pub fn arrive(work: &[u8], cursor: &mut [u8], change: Change) -> Landing
     requires { ⌜ Fitting (now work) (now cursor) (changeNode change (now cursor)) ⌝ }
-    ensures { λ r. ⌜ Arrived (factsIn (now (work .entry))) (changeNode change (now (cursor .entry))) (now (cursor .entry)) (now (cursor .exit)) r ⌝ }
+    ensures { λ r.
+        let cursor′ = now (cursor .exit) in
+        let cursor = now (cursor .entry) in
+        ⌜ Arrived (factsIn (now (work .entry))) (changeNode change cursor) cursor cursor′ r ⌝ }
 {
     let rule = change.rule;
     let answer = label(work, rule);

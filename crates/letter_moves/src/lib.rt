@@ -15,7 +15,10 @@ ghost use Rattle.letter_moves.specs.Standing.{Stands};
 // The first or last child of the node with rule p that k cells lead to, nowhere above the forest.
 fn to_child(rows: &[u8], cursor: &[u8], k: usize, p: u16, side: Side) -> Outcome
     requires { ⌜ Held (now rows) (now cursor) k × ((k ≡ 0 → ⊥) → In (now rows) p) ⌝ }
-    ensures { λ o. ⌜ outcome o (now (cursor .entry)) ≡ fromNode (cellsIn (now (cursor .entry)) k) (child (factsIn (now (rows .entry))) (sideOf side) (p, cellsIn (now (cursor .entry)) k)) ⌝ }
+    ensures { λ o.
+        let cursor = now (cursor .entry) in
+        ⌜ outcome o cursor ≡ fromNode (cellsIn cursor k)
+        (child (factsIn (now (rows .entry))) (sideOf side) (p, cellsIn cursor k)) ⌝ }
 {
     if k == 0 {
         return Outcome::Nowhere;
@@ -26,7 +29,10 @@ fn to_child(rows: &[u8], cursor: &[u8], k: usize, p: u16, side: Side) -> Outcome
 // The sibling on a side of the node with rule p that k cells lead to, nowhere above the forest.
 fn to_sibling(rows: &[u8], cursor: &[u8], k: usize, p: u16, side: Side) -> Outcome
     requires { ⌜ Held (now rows) (now cursor) k ⌝ }
-    ensures { λ o. ⌜ outcome o (now (cursor .entry)) ≡ fromNode (cellsIn (now (cursor .entry)) k) (sibling (factsIn (now (rows .entry))) (sideOf side) (p, cellsIn (now (cursor .entry)) k)) ⌝ }
+    ensures { λ o.
+        let cursor = now (cursor .entry) in
+        ⌜ outcome o cursor ≡ fromNode (cellsIn cursor k)
+        (sibling (factsIn (now (rows .entry))) (sideOf side) (p, cellsIn cursor k)) ⌝ }
 {
     if k == 0 {
         return Outcome::Nowhere;
@@ -37,7 +43,9 @@ fn to_sibling(rows: &[u8], cursor: &[u8], k: usize, p: u16, side: Side) -> Outco
 // Where a leads from k cells and rule p, r being the walked rule: to the root of the first tree.
 pub fn to_first_root(rows: &[u8], cursor: &[u8], k: usize, p: u16, r: u16) -> Outcome
     requires { ⌜ Stands r (now rows) (now cursor) k p ⌝ }
-    ensures { λ o. ⌜ outcome o (now (cursor .entry)) ≡ move (factsIn (now (rows .entry))) r (moveOf Letter.A) (p, cellsIn (now (cursor .entry)) k) ⌝ }
+    ensures { λ o.
+        let cursor = now (cursor .entry) in
+        ⌜ outcome o cursor ≡ move (factsIn (now (rows .entry))) r (moveOf Letter.A) (p, cellsIn cursor k) ⌝ }
 {
     moves::root(rows, Side::Left, r)
 }
@@ -45,7 +53,9 @@ pub fn to_first_root(rows: &[u8], cursor: &[u8], k: usize, p: u16, r: u16) -> Ou
 // Where z leads from k cells and rule p, r being the walked rule: to the root of the last tree.
 pub fn to_last_root(rows: &[u8], cursor: &[u8], k: usize, p: u16, r: u16) -> Outcome
     requires { ⌜ Stands r (now rows) (now cursor) k p ⌝ }
-    ensures { λ o. ⌜ outcome o (now (cursor .entry)) ≡ move (factsIn (now (rows .entry))) r (moveOf Letter.Z) (p, cellsIn (now (cursor .entry)) k) ⌝ }
+    ensures { λ o.
+        let cursor = now (cursor .entry) in
+        ⌜ outcome o cursor ≡ move (factsIn (now (rows .entry))) r (moveOf Letter.Z) (p, cellsIn cursor k) ⌝ }
 {
     moves::root(rows, Side::Right, r)
 }
@@ -53,7 +63,9 @@ pub fn to_last_root(rows: &[u8], cursor: &[u8], k: usize, p: u16, r: u16) -> Out
 // Where f leads from k cells and rule p, r being the walked rule: to the first child.
 pub fn to_first_child(rows: &[u8], cursor: &[u8], k: usize, p: u16, r: u16) -> Outcome
     requires { ⌜ Stands r (now rows) (now cursor) k p ⌝ }
-    ensures { λ o. ⌜ outcome o (now (cursor .entry)) ≡ move (factsIn (now (rows .entry))) r (moveOf Letter.F) (p, cellsIn (now (cursor .entry)) k) ⌝ }
+    ensures { λ o.
+        let cursor = now (cursor .entry) in
+        ⌜ outcome o cursor ≡ move (factsIn (now (rows .entry))) r (moveOf Letter.F) (p, cellsIn cursor k) ⌝ }
 {
     to_child(rows, cursor, k, p, Side::Left)
 }
@@ -61,7 +73,9 @@ pub fn to_first_child(rows: &[u8], cursor: &[u8], k: usize, p: u16, r: u16) -> O
 // Where l leads from k cells and rule p, r being the walked rule: to the last child.
 pub fn to_last_child(rows: &[u8], cursor: &[u8], k: usize, p: u16, r: u16) -> Outcome
     requires { ⌜ Stands r (now rows) (now cursor) k p ⌝ }
-    ensures { λ o. ⌜ outcome o (now (cursor .entry)) ≡ move (factsIn (now (rows .entry))) r (moveOf Letter.L) (p, cellsIn (now (cursor .entry)) k) ⌝ }
+    ensures { λ o.
+        let cursor = now (cursor .entry) in
+        ⌜ outcome o cursor ≡ move (factsIn (now (rows .entry))) r (moveOf Letter.L) (p, cellsIn cursor k) ⌝ }
 {
     to_child(rows, cursor, k, p, Side::Right)
 }
@@ -69,7 +83,9 @@ pub fn to_last_child(rows: &[u8], cursor: &[u8], k: usize, p: u16, r: u16) -> Ou
 // Where n leads from k cells and rule p, r being the walked rule: to the next sibling.
 pub fn to_next_sibling(rows: &[u8], cursor: &[u8], k: usize, p: u16, r: u16) -> Outcome
     requires { ⌜ Stands r (now rows) (now cursor) k p ⌝ }
-    ensures { λ o. ⌜ outcome o (now (cursor .entry)) ≡ move (factsIn (now (rows .entry))) r (moveOf Letter.N) (p, cellsIn (now (cursor .entry)) k) ⌝ }
+    ensures { λ o.
+        let cursor = now (cursor .entry) in
+        ⌜ outcome o cursor ≡ move (factsIn (now (rows .entry))) r (moveOf Letter.N) (p, cellsIn cursor k) ⌝ }
 {
     to_sibling(rows, cursor, k, p, Side::Right)
 }
@@ -77,7 +93,9 @@ pub fn to_next_sibling(rows: &[u8], cursor: &[u8], k: usize, p: u16, r: u16) -> 
 // Where p leads from k cells and rule p, r being the walked rule: to the previous sibling.
 pub fn to_previous_sibling(rows: &[u8], cursor: &[u8], k: usize, p: u16, r: u16) -> Outcome
     requires { ⌜ Stands r (now rows) (now cursor) k p ⌝ }
-    ensures { λ o. ⌜ outcome o (now (cursor .entry)) ≡ move (factsIn (now (rows .entry))) r (moveOf Letter.P) (p, cellsIn (now (cursor .entry)) k) ⌝ }
+    ensures { λ o.
+        let cursor = now (cursor .entry) in
+        ⌜ outcome o cursor ≡ move (factsIn (now (rows .entry))) r (moveOf Letter.P) (p, cellsIn cursor k) ⌝ }
 {
     to_sibling(rows, cursor, k, p, Side::Left)
 }
@@ -85,7 +103,9 @@ pub fn to_previous_sibling(rows: &[u8], cursor: &[u8], k: usize, p: u16, r: u16)
 // Where u leads from k cells and rule p, r being the walked rule: to the parent.
 pub fn to_parent(rows: &[u8], cursor: &[u8], k: usize, p: u16, r: u16) -> Outcome
     requires { ⌜ Stands r (now rows) (now cursor) k p ⌝ }
-    ensures { λ o. ⌜ outcome o (now (cursor .entry)) ≡ move (factsIn (now (rows .entry))) r (moveOf Letter.U) (p, cellsIn (now (cursor .entry)) k) ⌝ }
+    ensures { λ o.
+        let cursor = now (cursor .entry) in
+        ⌜ outcome o cursor ≡ move (factsIn (now (rows .entry))) r (moveOf Letter.U) (p, cellsIn cursor k) ⌝ }
 {
     if k == 0 {
         return Outcome::Nowhere;
@@ -96,7 +116,9 @@ pub fn to_parent(rows: &[u8], cursor: &[u8], k: usize, p: u16, r: u16) -> Outcom
 // Where s leads from k cells and rule p, r being the walked rule: to the node itself.
 pub fn to_same(rows: &[u8], cursor: &[u8], k: usize, p: u16, r: u16) -> Outcome
     requires { ⌜ Stands r (now rows) (now cursor) k p ⌝ }
-    ensures { λ o. ⌜ outcome o (now (cursor .entry)) ≡ move (factsIn (now (rows .entry))) r (moveOf Letter.S) (p, cellsIn (now (cursor .entry)) k) ⌝ }
+    ensures { λ o.
+        let cursor = now (cursor .entry) in
+        ⌜ outcome o cursor ≡ move (factsIn (now (rows .entry))) r (moveOf Letter.S) (p, cellsIn cursor k) ⌝ }
 {
     if k == 0 {
         return Outcome::Nowhere;

@@ -16,7 +16,14 @@ pub fn run(
     from: Standing,
 ) -> usize
     requires { ⌜ Stands r (now rows) (now cursor) (from .used) (from .rule) × Answerable (now letters) (now answers) ⌝ }
-    ensures { λ x. ⌜ Ran r (now (rows .entry)) (now (letters .entry)) from (now (cursor .entry)) (now (cursor .exit)) (now (answers .entry)) (now (answers .exit)) x ⌝ }
+    ensures { λ x.
+        let cursor′ = now (cursor .exit) in
+        let answers′ = now (answers .exit) in
+        let rows = now (rows .entry) in
+        let letters = now (letters .entry) in
+        let cursor = now (cursor .entry) in
+        let answers = now (answers .entry) in
+        ⌜ Ran r rows letters from cursor cursor′ answers answers′ x ⌝ }
 {
     let mut at = from;
     let mut i: usize = 0;

@@ -10,7 +10,13 @@ use letter::Letter;
 // a: the root of the first tree, or the place is kept.
 fn first_root(rows: &[u8], cursor: &mut [u8], at: &mut Standing, r: u16) -> u32
     requires { ⌜ Stands r (now rows) (now cursor) (now at .used) (now at .rule) ⌝ }
-    ensures { λ x. ⌜ Stepped r (now (rows .entry)) (moveOf Letter.A) (now (at .entry) .used) (now (at .entry) .rule) (now (cursor .entry)) (now (cursor .exit)) (landed (now (at .exit)) x) ⌝ }
+    ensures { λ x.
+        let cursor′ = now (cursor .exit) in
+        let at′ = now (at .exit) in
+        let rows = now (rows .entry) in
+        let at = now (at .entry) in
+        let cursor = now (cursor .entry) in
+        ⌜ Stepped r rows (moveOf Letter.A) (at .used) (at .rule) cursor cursor′ (landed at′ x) ⌝ }
 {
     let Outcome::Node(change) = letter_moves::to_first_root(rows, cursor, at.used, at.rule, r)
     else {
@@ -24,7 +30,13 @@ fn first_root(rows: &[u8], cursor: &mut [u8], at: &mut Standing, r: u16) -> u32
 // z: the root of the last tree, or the place is kept.
 fn last_root(rows: &[u8], cursor: &mut [u8], at: &mut Standing, r: u16) -> u32
     requires { ⌜ Stands r (now rows) (now cursor) (now at .used) (now at .rule) ⌝ }
-    ensures { λ x. ⌜ Stepped r (now (rows .entry)) (moveOf Letter.Z) (now (at .entry) .used) (now (at .entry) .rule) (now (cursor .entry)) (now (cursor .exit)) (landed (now (at .exit)) x) ⌝ }
+    ensures { λ x.
+        let cursor′ = now (cursor .exit) in
+        let at′ = now (at .exit) in
+        let rows = now (rows .entry) in
+        let at = now (at .entry) in
+        let cursor = now (cursor .entry) in
+        ⌜ Stepped r rows (moveOf Letter.Z) (at .used) (at .rule) cursor cursor′ (landed at′ x) ⌝ }
 {
     let Outcome::Node(change) = letter_moves::to_last_root(rows, cursor, at.used, at.rule, r) else {
         return Letter::NOWHERE;
@@ -37,7 +49,13 @@ fn last_root(rows: &[u8], cursor: &mut [u8], at: &mut Standing, r: u16) -> u32
 // f: the first child, or the place is kept.
 fn first_child(rows: &[u8], cursor: &mut [u8], at: &mut Standing, r: u16) -> u32
     requires { ⌜ Stands r (now rows) (now cursor) (now at .used) (now at .rule) ⌝ }
-    ensures { λ x. ⌜ Stepped r (now (rows .entry)) (moveOf Letter.F) (now (at .entry) .used) (now (at .entry) .rule) (now (cursor .entry)) (now (cursor .exit)) (landed (now (at .exit)) x) ⌝ }
+    ensures { λ x.
+        let cursor′ = now (cursor .exit) in
+        let at′ = now (at .exit) in
+        let rows = now (rows .entry) in
+        let at = now (at .entry) in
+        let cursor = now (cursor .entry) in
+        ⌜ Stepped r rows (moveOf Letter.F) (at .used) (at .rule) cursor cursor′ (landed at′ x) ⌝ }
 {
     let Outcome::Node(change) = letter_moves::to_first_child(rows, cursor, at.used, at.rule, r)
     else {
@@ -51,7 +69,13 @@ fn first_child(rows: &[u8], cursor: &mut [u8], at: &mut Standing, r: u16) -> u32
 // l: the last child, or the place is kept.
 fn last_child(rows: &[u8], cursor: &mut [u8], at: &mut Standing, r: u16) -> u32
     requires { ⌜ Stands r (now rows) (now cursor) (now at .used) (now at .rule) ⌝ }
-    ensures { λ x. ⌜ Stepped r (now (rows .entry)) (moveOf Letter.L) (now (at .entry) .used) (now (at .entry) .rule) (now (cursor .entry)) (now (cursor .exit)) (landed (now (at .exit)) x) ⌝ }
+    ensures { λ x.
+        let cursor′ = now (cursor .exit) in
+        let at′ = now (at .exit) in
+        let rows = now (rows .entry) in
+        let at = now (at .entry) in
+        let cursor = now (cursor .entry) in
+        ⌜ Stepped r rows (moveOf Letter.L) (at .used) (at .rule) cursor cursor′ (landed at′ x) ⌝ }
 {
     let Outcome::Node(change) = letter_moves::to_last_child(rows, cursor, at.used, at.rule, r)
     else {
@@ -65,7 +89,13 @@ fn last_child(rows: &[u8], cursor: &mut [u8], at: &mut Standing, r: u16) -> u32
 // n: the next sibling, or the place is kept.
 fn next_sibling(rows: &[u8], cursor: &mut [u8], at: &mut Standing, r: u16) -> u32
     requires { ⌜ Stands r (now rows) (now cursor) (now at .used) (now at .rule) ⌝ }
-    ensures { λ x. ⌜ Stepped r (now (rows .entry)) (moveOf Letter.N) (now (at .entry) .used) (now (at .entry) .rule) (now (cursor .entry)) (now (cursor .exit)) (landed (now (at .exit)) x) ⌝ }
+    ensures { λ x.
+        let cursor′ = now (cursor .exit) in
+        let at′ = now (at .exit) in
+        let rows = now (rows .entry) in
+        let at = now (at .entry) in
+        let cursor = now (cursor .entry) in
+        ⌜ Stepped r rows (moveOf Letter.N) (at .used) (at .rule) cursor cursor′ (landed at′ x) ⌝ }
 {
     let Outcome::Node(change) = letter_moves::to_next_sibling(rows, cursor, at.used, at.rule, r)
     else {
@@ -79,7 +109,13 @@ fn next_sibling(rows: &[u8], cursor: &mut [u8], at: &mut Standing, r: u16) -> u3
 // p: the previous sibling, or the place is kept.
 fn previous_sibling(rows: &[u8], cursor: &mut [u8], at: &mut Standing, r: u16) -> u32
     requires { ⌜ Stands r (now rows) (now cursor) (now at .used) (now at .rule) ⌝ }
-    ensures { λ x. ⌜ Stepped r (now (rows .entry)) (moveOf Letter.P) (now (at .entry) .used) (now (at .entry) .rule) (now (cursor .entry)) (now (cursor .exit)) (landed (now (at .exit)) x) ⌝ }
+    ensures { λ x.
+        let cursor′ = now (cursor .exit) in
+        let at′ = now (at .exit) in
+        let rows = now (rows .entry) in
+        let at = now (at .entry) in
+        let cursor = now (cursor .entry) in
+        ⌜ Stepped r rows (moveOf Letter.P) (at .used) (at .rule) cursor cursor′ (landed at′ x) ⌝ }
 {
     let Outcome::Node(change) = letter_moves::to_previous_sibling(rows, cursor, at.used, at.rule, r)
     else {
@@ -93,7 +129,13 @@ fn previous_sibling(rows: &[u8], cursor: &mut [u8], at: &mut Standing, r: u16) -
 // u: the parent, or the place is kept.
 fn parent(rows: &[u8], cursor: &mut [u8], at: &mut Standing, r: u16) -> u32
     requires { ⌜ Stands r (now rows) (now cursor) (now at .used) (now at .rule) ⌝ }
-    ensures { λ x. ⌜ Stepped r (now (rows .entry)) (moveOf Letter.U) (now (at .entry) .used) (now (at .entry) .rule) (now (cursor .entry)) (now (cursor .exit)) (landed (now (at .exit)) x) ⌝ }
+    ensures { λ x.
+        let cursor′ = now (cursor .exit) in
+        let at′ = now (at .exit) in
+        let rows = now (rows .entry) in
+        let at = now (at .entry) in
+        let cursor = now (cursor .entry) in
+        ⌜ Stepped r rows (moveOf Letter.U) (at .used) (at .rule) cursor cursor′ (landed at′ x) ⌝ }
 {
     let Outcome::Node(change) = letter_moves::to_parent(rows, cursor, at.used, at.rule, r) else {
         return Letter::NOWHERE;
@@ -106,7 +148,13 @@ fn parent(rows: &[u8], cursor: &mut [u8], at: &mut Standing, r: u16) -> u32
 // s: the node itself, or the place is kept.
 fn same(rows: &[u8], cursor: &mut [u8], at: &mut Standing, r: u16) -> u32
     requires { ⌜ Stands r (now rows) (now cursor) (now at .used) (now at .rule) ⌝ }
-    ensures { λ x. ⌜ Stepped r (now (rows .entry)) (moveOf Letter.S) (now (at .entry) .used) (now (at .entry) .rule) (now (cursor .entry)) (now (cursor .exit)) (landed (now (at .exit)) x) ⌝ }
+    ensures { λ x.
+        let cursor′ = now (cursor .exit) in
+        let at′ = now (at .exit) in
+        let rows = now (rows .entry) in
+        let at = now (at .entry) in
+        let cursor = now (cursor .entry) in
+        ⌜ Stepped r rows (moveOf Letter.S) (at .used) (at .rule) cursor cursor′ (landed at′ x) ⌝ }
 {
     let Outcome::Node(change) = letter_moves::to_same(rows, cursor, at.used, at.rule, r) else {
         return Letter::NOWHERE;
@@ -119,7 +167,9 @@ fn same(rows: &[u8], cursor: &mut [u8], at: &mut Standing, r: u16) -> u32
 // A letter from a place: decided on the cells as they are, and then written.
 pub fn step(rows: &[u8], cursor: &mut [u8], from: Standing, r: u16, letter: Letter) -> Landing
     requires { ⌜ Stands r (now rows) (now cursor) (from .used) (from .rule) ⌝ }
-    ensures { λ x. ⌜ Stepped r (now (rows .entry)) (moveOf letter) (from .used) (from .rule) (now (cursor .entry)) (now (cursor .exit)) x ⌝ }
+    ensures { λ x.
+        ⌜ Stepped r (now (rows .entry)) (moveOf letter) (from .used) (from .rule) (now (cursor .entry))
+        (now (cursor .exit)) x ⌝ }
 {
     let mut at = from;
     let answer = match letter {

@@ -6,12 +6,25 @@ ghost use Rattle.seal.specs.Seal.{sealed, sealedOutput};
 ghost use Rattle.unseal.specs.Unseal.{unsealed, unsealedOutput};
 ghost use Rattle.forest.specs.Outcome.{measured, measuredWork, spread, spreadOutput};
 ghost use Rattle.demand.specs.Calls.{walkOf, lends};
-ghost use Rattle.c_result.specs.Interface.{measuredResult, measuredPosition, treesAfter, entriesAfter, levelsAfter, checkedResult, writtenResult, checkedPosition, writtenPosition, countAfter, startAfter, lengthAfter, walkedResult, walkedPosition};
+ghost use Rattle.c_result.specs.Interface.{measuredResult, measuredPosition, treesAfter, entriesAfter, levelsAfter};
+ghost use Rattle.c_result.specs.Interface.{checkedResult, writtenResult, checkedPosition, writtenPosition, countAfter};
+ghost use Rattle.c_result.specs.Interface.{startAfter, lengthAfter, walkedResult, walkedPosition};
 
 // Check.
 #[no_mangle]
 pub extern "C" fn plan_check(plan: &[u8], n: &mut u16, start: &mut u16, position: &mut u64) -> u32
-    ensures { λ r. let c = checked (now (plan .entry)) in ⌜ (r ≡ checkedResult c) × (now (n .exit) ≡ countAfter c (now (n .entry))) × (now (start .exit) ≡ startAfter c (now (start .entry))) × (now (position .exit) ≡ checkedPosition c) ⌝ }
+    ensures { λ r.
+        let n′ = now (n .exit) in
+        let start′ = now (start .exit) in
+        let position′ = now (position .exit) in
+        let plan = now (plan .entry) in
+        let n = now (n .entry) in
+        let start = now (start .entry) in
+        let c = checked plan in
+        ⌜ (r ≡ checkedResult c)
+        × (n′ ≡ countAfter c n)
+        × (start′ ≡ startAfter c start)
+        × (position′ ≡ checkedPosition c) ⌝ }
 {
     c_result::give_checked(plan::check(plan), n, start, position)
 }
@@ -25,7 +38,18 @@ pub extern "C" fn plan_seal(
     written: &mut u64,
     position: &mut u64,
 ) -> u32
-    ensures { λ r. let w = sealed (now (words .entry)) start (now (out .entry)) in ⌜ (r ≡ writtenResult w) × (now (out .exit) ≡ sealedOutput (now (words .entry)) start (now (out .entry))) × (now (written .exit) ≡ lengthAfter w (now (written .entry))) × (now (position .exit) ≡ writtenPosition w) ⌝ }
+    ensures { λ r.
+        let out′ = now (out .exit) in
+        let written′ = now (written .exit) in
+        let position′ = now (position .exit) in
+        let words = now (words .entry) in
+        let out = now (out .entry) in
+        let written = now (written .entry) in
+        let w = sealed words start out in
+        ⌜ (r ≡ writtenResult w)
+        × (out′ ≡ sealedOutput words start out)
+        × (written′ ≡ lengthAfter w written)
+        × (position′ ≡ writtenPosition w) ⌝ }
 {
     c_result::give_written(seal::seal(words, start, out), written, position)
 }
@@ -39,7 +63,21 @@ pub extern "C" fn plan_unseal(
     start: &mut u16,
     position: &mut u64,
 ) -> u32
-    ensures { λ r. let c = unsealed (now (plan .entry)) (now (out .entry)) in ⌜ (r ≡ checkedResult c) × (now (out .exit) ≡ unsealedOutput (now (plan .entry)) (now (out .entry))) × (now (n .exit) ≡ countAfter c (now (n .entry))) × (now (start .exit) ≡ startAfter c (now (start .entry))) × (now (position .exit) ≡ checkedPosition c) ⌝ }
+    ensures { λ r.
+        let out′ = now (out .exit) in
+        let n′ = now (n .exit) in
+        let start′ = now (start .exit) in
+        let position′ = now (position .exit) in
+        let plan = now (plan .entry) in
+        let out = now (out .entry) in
+        let n = now (n .entry) in
+        let start = now (start .entry) in
+        let c = unsealed plan out in
+        ⌜ (r ≡ checkedResult c)
+        × (out′ ≡ unsealedOutput plan out)
+        × (n′ ≡ countAfter c n)
+        × (start′ ≡ startAfter c start)
+        × (position′ ≡ checkedPosition c) ⌝ }
 {
     c_result::give_checked(unseal::unseal(plan, out), n, start, position)
 }
@@ -54,7 +92,24 @@ pub extern "C" fn plan_measure(
     levels: &mut u64,
     position: &mut u64,
 ) -> u32
-    ensures { λ r. let m = measured (now (plan .entry)) (now (work .entry)) in ⌜ (r ≡ measuredResult m) × (now (work .exit) ≡ measuredWork (now (plan .entry)) (now (work .entry))) × (now (trees .exit) ≡ treesAfter m (now (trees .entry))) × (now (entries .exit) ≡ entriesAfter m (now (entries .entry))) × (now (levels .exit) ≡ levelsAfter m (now (levels .entry))) × (now (position .exit) ≡ measuredPosition m) ⌝ }
+    ensures { λ r.
+        let work′ = now (work .exit) in
+        let trees′ = now (trees .exit) in
+        let entries′ = now (entries .exit) in
+        let levels′ = now (levels .exit) in
+        let position′ = now (position .exit) in
+        let plan = now (plan .entry) in
+        let work = now (work .entry) in
+        let trees = now (trees .entry) in
+        let entries = now (entries .entry) in
+        let levels = now (levels .entry) in
+        let m = measured plan work in
+        ⌜ (r ≡ measuredResult m)
+        × (work′ ≡ measuredWork plan work)
+        × (trees′ ≡ treesAfter m trees)
+        × (entries′ ≡ entriesAfter m entries)
+        × (levels′ ≡ levelsAfter m levels)
+        × (position′ ≡ measuredPosition m) ⌝ }
 {
     c_result::give_measured(
         measure::measure(plan, work),
@@ -74,7 +129,21 @@ pub extern "C" fn plan_spread(
     written: &mut u64,
     position: &mut u64,
 ) -> u32
-    ensures { λ r. let w = spread (now (plan .entry)) (now (work .entry)) (now (out .entry)) in ⌜ (r ≡ writtenResult w) × (now (work .exit) ≡ measuredWork (now (plan .entry)) (now (work .entry))) × (now (out .exit) ≡ spreadOutput (now (plan .entry)) (now (work .entry)) (now (out .entry))) × (now (written .exit) ≡ lengthAfter w (now (written .entry))) × (now (position .exit) ≡ writtenPosition w) ⌝ }
+    ensures { λ r.
+        let work′ = now (work .exit) in
+        let out′ = now (out .exit) in
+        let written′ = now (written .exit) in
+        let position′ = now (position .exit) in
+        let plan = now (plan .entry) in
+        let work = now (work .entry) in
+        let out = now (out .entry) in
+        let written = now (written .entry) in
+        let w = spread plan work out in
+        ⌜ (r ≡ writtenResult w)
+        × (work′ ≡ measuredWork plan work)
+        × (out′ ≡ spreadOutput plan work out)
+        × (written′ ≡ lengthAfter w written)
+        × (position′ ≡ writtenPosition w) ⌝ }
 {
     c_result::give_written(spread::spread(plan, work, out), written, position)
 }
@@ -89,7 +158,22 @@ pub extern "C" fn plan_walk(
     answers: &mut [u8],
     position: &mut u64,
 ) -> u32
-    ensures { λ r. let l = walkOf (lends (now (plan .entry)) (now (work .entry)) (now (cursor .entry)) (now (letters .entry)) (now (answers .entry))) in ⌜ (r ≡ walkedResult (l .answer)) × (now (work .exit) ≡ l .work) × (now (cursor .exit) ≡ l .cursor) × (now (answers .exit) ≡ l .answers) × (now (position .exit) ≡ walkedPosition (l .answer)) ⌝ }
+    ensures { λ r.
+        let work′ = now (work .exit) in
+        let cursor′ = now (cursor .exit) in
+        let answers′ = now (answers .exit) in
+        let position′ = now (position .exit) in
+        let plan = now (plan .entry) in
+        let work = now (work .entry) in
+        let cursor = now (cursor .entry) in
+        let letters = now (letters .entry) in
+        let answers = now (answers .entry) in
+        let l = walkOf (lends plan work cursor letters answers) in
+        ⌜ (r ≡ walkedResult (l .answer))
+        × (work′ ≡ l .work)
+        × (cursor′ ≡ l .cursor)
+        × (answers′ ≡ l .answers)
+        × (position′ ≡ walkedPosition (l .answer)) ⌝ }
 {
     c_result::give_walked(walk::walk(plan, work, cursor, letters, answers), position)
 }

@@ -58,8 +58,12 @@ pub fn standing(work: &[u8], cursor: &[u8], k: usize) -> u16
 
 // The run on top one step shorter, gone if it had one step, and then a step to a side from the rule above its last.
 fn stepped(work: &[u8], cursor: &[u8], k: usize, side: Side, above: u16, to: u16) -> Stem
-    requires { ⌜ Turns (now work) (now cursor) k (sideOf side) × (above ≡ aboveTop (now work) (now cursor) k (sideOf side)) ⌝ }
-    ensures { λ r. ⌜ stepCells r (now (cursor .entry)) ≡ step (sideOf side) above to (shrunk (factsIn (now (work .entry))) (other (sideOf side)) (cellsIn (now (cursor .entry)) k)) ⌝ }
+    requires { ⌜ Turns (now work) (now cursor) k (sideOf side)
+        × (above ≡ aboveTop (now work) (now cursor) k (sideOf side)) ⌝ }
+    ensures { λ r.
+        let cursor = now (cursor .entry) in
+        ⌜ stepCells r cursor ≡ step (sideOf side) above to
+        (shrunk (factsIn (now (work .entry))) (other (sideOf side)) (cellsIn cursor k)) ⌝ }
 {
     let top = Cell::read(cursor, k);
     let back = side.other();
@@ -80,7 +84,11 @@ fn stepped(work: &[u8], cursor: &[u8], k: usize, side: Side, above: u16, to: u16
 // The run on top one step shorter, then a step to the side, then the longest run back.
 fn turned(work: &[u8], cursor: &[u8], k: usize, side: Side) -> Stem
     requires { ⌜ Turns (now work) (now cursor) k (sideOf side) ⌝ }
-    ensures { λ r. ⌜ stemNode r (now (cursor .entry)) ≡ turned (factsIn (now (work .entry))) (sideOf side) (aboveTop (now (work .entry)) (now (cursor .entry)) k (sideOf side)) (shrunk (factsIn (now (work .entry))) (other (sideOf side)) (cellsIn (now (cursor .entry)) k)) ⌝ }
+    ensures { λ r.
+        let cursor = now (cursor .entry) in
+        let work = now (work .entry) in
+        ⌜ stemNode r cursor ≡ turned (factsIn work) (sideOf side) (aboveTop work cursor k (sideOf side))
+        (shrunk (factsIn work) (other (sideOf side)) (cellsIn cursor k)) ⌝ }
 {
     let top = Cell::read(cursor, k);
     let back = side.other();
@@ -101,7 +109,9 @@ fn turned(work: &[u8], cursor: &[u8], k: usize, side: Side) -> Stem
 // The next on a side within a row or spine, where no run to that side is on top.
 pub fn beside_top(work: &[u8], cursor: &[u8], k: usize, side: Side) -> Reach
     requires { ⌜ Held (now work) (now cursor) k ⌝ }
-    ensures { λ r. ⌜ reached r (now (cursor .entry)) ≡ besideTop (factsIn (now (work .entry))) (sideOf side) (cellsIn (now (cursor .entry)) k) ⌝ }
+    ensures { λ r.
+        let cursor = now (cursor .entry) in
+        ⌜ reached r cursor ≡ besideTop (factsIn (now (work .entry))) (sideOf side) (cellsIn cursor k) ⌝ }
 {
     if k == 0 {
         return Reach::Off;
@@ -115,7 +125,9 @@ pub fn beside_top(work: &[u8], cursor: &[u8], k: usize, side: Side) -> Reach
 // The root of a tree, whose spine goes on a stem with a row and the run across it.
 pub fn opened(work: &[u8], stem: Stem, row: Cell, across: Cell, a: u16) -> Change
     requires { ⌜ Closes (now work) × In (now work) a ⌝ }
-    ensures { λ r. ⌜ ((s : List ℕ) → changeNode r s ≡ opened (factsIn (now (work .entry))) a (add across (add row (stemCells stem s)))) ⌝ }
+    ensures { λ r.
+        ⌜ ((s : List ℕ) → changeNode r s ≡ opened (factsIn (now (work .entry))) a
+        (add across (add row (stemCells stem s)))) ⌝ }
 {
     let first = facts::outer_at(work, a);
     Change {
@@ -131,7 +143,8 @@ pub fn opened(work: &[u8], stem: Stem, row: Cell, across: Cell, a: u16) -> Chang
 // The root of the first or last tree of the row of a rule, opened on a stem with a number.
 pub fn enter(work: &[u8], stem: Stem, side: Side, number: u16, a: u16) -> Outcome
     requires { ⌜ Closes (now work) × In (now work) a ⌝ }
-    ensures { λ r. ⌜ ((s : List ℕ) → outcome r s ≡ enter (factsIn (now (work .entry))) (sideOf side) number a (stemCells stem s)) ⌝ }
+    ensures { λ r.
+        ⌜ ((s : List ℕ) → outcome r s ≡ enter (factsIn (now (work .entry))) (sideOf side) number a (stemCells stem s)) ⌝ }
 {
     if facts::is_empty_at(work, a) {
         return Outcome::Nowhere;
@@ -145,7 +158,11 @@ pub fn enter(work: &[u8], stem: Stem, side: Side, number: u16, a: u16) -> Outcom
 // The root of the tree that the spine opened on top of j cells continues in, opened on k cells.
 fn continued(work: &[u8], cursor: &[u8], j: usize, k: usize) -> Outcome
     requires { ⌜ Held (now work) (now cursor) j ⌝ }
-    ensures { λ r. ⌜ outcome r (now (cursor .entry)) ≡ Option·map (λ (c : ℕ). opened (factsIn (now (work .entry))) c (cellsIn (now (cursor .entry)) k)) (continuing (factsIn (now (work .entry))) (cellsIn (now (cursor .entry)) j)) ⌝ }
+    ensures { λ r.
+        let cursor = now (cursor .entry) in
+        let work = now (work .entry) in
+        ⌜ outcome r cursor ≡ Option·map (λ (c : ℕ). opened (factsIn work) c (cellsIn cursor k))
+        (continuing (factsIn work) (cellsIn cursor j)) ⌝ }
 {
     if j == 0 {
         return Outcome::Nowhere;
@@ -154,7 +171,7 @@ fn continued(work: &[u8], cursor: &[u8], j: usize, k: usize) -> Outcome
     if top.kind != Cell::SPINE {
         return Outcome::Nowhere;
     }
-    let Rule::Fill { outer: _, inner } = facts::rule_at(work, top.one) else {
+    let Rule::Fill { inner, .. } = facts::rule_at(work, top.one) else {
         return Outcome::Nowhere;
     };
     Outcome::Node(opened(
@@ -169,7 +186,9 @@ fn continued(work: &[u8], cursor: &[u8], j: usize, k: usize) -> Outcome
 // The root of the tree in the hole of the part that k cells lead to.
 pub fn inward(work: &[u8], cursor: &[u8], k: usize) -> Outcome
     requires { ⌜ Held (now work) (now cursor) k ⌝ }
-    ensures { λ r. ⌜ outcome r (now (cursor .entry)) ≡ inward (factsIn (now (work .entry))) (cellsIn (now (cursor .entry)) k) ⌝ }
+    ensures { λ r.
+        let cursor = now (cursor .entry) in
+        ⌜ outcome r cursor ≡ inward (factsIn (now (work .entry))) (cellsIn cursor k) ⌝ }
 {
     let j = place_cells::pop_run(cursor, k, Side::Right);
     if let Reach::Part(stem) = beside_top(work, cursor, j, Side::Right) {
@@ -181,15 +200,12 @@ pub fn inward(work: &[u8], cursor: &[u8], k: usize) -> Outcome
 // The part that k cells lead to, where one stands there.
 fn part_at(work: &[u8], cursor: &[u8], k: usize) -> Reach
     requires { ⌜ Held (now work) (now cursor) k ⌝ }
-    ensures { λ r. ⌜ reached r (now (cursor .entry)) ≡ partAt (factsIn (now (work .entry))) (cellsIn (now (cursor .entry)) k) ⌝ }
+    ensures { λ r.
+        let cursor = now (cursor .entry) in
+        ⌜ reached r cursor ≡ partAt (factsIn (now (work .entry))) (cellsIn cursor k) ⌝ }
 {
     let at = standing(work, cursor, k);
-    let Rule::Part {
-        label: _,
-        left: _,
-        right: _,
-    } = facts::rule_at(work, at)
-    else {
+    let Rule::Part { .. } = facts::rule_at(work, at) else {
         return Reach::Off;
     };
     Reach::Part(Stem::kept(k, at))
@@ -198,7 +214,9 @@ fn part_at(work: &[u8], cursor: &[u8], k: usize) -> Reach
 // The part in whose hole the node that k cells lead to stands.
 pub fn outward(work: &[u8], cursor: &[u8], k: usize) -> Reach
     requires { ⌜ Held (now work) (now cursor) k ⌝ }
-    ensures { λ r. ⌜ reached r (now (cursor .entry)) ≡ outward (factsIn (now (work .entry))) (cellsIn (now (cursor .entry)) k) ⌝ }
+    ensures { λ r.
+        let cursor = now (cursor .entry) in
+        ⌜ reached r cursor ≡ outward (factsIn (now (work .entry))) (cellsIn cursor k) ⌝ }
 {
     let j = place_cells::pop_run(cursor, k, Side::Left);
     if let Reach::Part(stem) = beside_top(work, cursor, j, Side::Left) {

@@ -21,7 +21,9 @@ use side::Side;
 // The root of the tree in the hole that the row on top ends at on a side.
 fn ended(work: &[u8], cursor: &[u8], k: usize, side: Side) -> Outcome
     requires { ⌜ Held (now work) (now cursor) k ⌝ }
-    ensures { λ r. ⌜ outcome r (now (cursor .entry)) ≡ ended (factsIn (now (work .entry))) (sideOf side) (cellsIn (now (cursor .entry)) k) ⌝ }
+    ensures { λ r.
+        let cursor = now (cursor .entry) in
+        ⌜ outcome r cursor ≡ ended (factsIn (now (work .entry))) (sideOf side) (cellsIn cursor k) ⌝ }
 {
     if k == 0 {
         return Outcome::Nowhere;
@@ -36,7 +38,9 @@ fn ended(work: &[u8], cursor: &[u8], k: usize, side: Side) -> Outcome
 // The root of the tree beside the one that k cells lead to: in its row, or in the hole that its row ends at.
 fn follow(work: &[u8], cursor: &[u8], k: usize, side: Side) -> Outcome
     requires { ⌜ Held (now work) (now cursor) k ⌝ }
-    ensures { λ r. ⌜ outcome r (now (cursor .entry)) ≡ follow (factsIn (now (work .entry))) (sideOf side) (cellsIn (now (cursor .entry)) k) ⌝ }
+    ensures { λ r.
+        let cursor = now (cursor .entry) in
+        ⌜ outcome r cursor ≡ follow (factsIn (now (work .entry))) (sideOf side) (cellsIn cursor k) ⌝ }
 {
     let j = place_cells::pop_run(cursor, k, side);
     if let Reach::Part(stem) = move_parts::beside_top(work, cursor, j, side) {
@@ -49,7 +53,12 @@ fn follow(work: &[u8], cursor: &[u8], k: usize, side: Side) -> Outcome
 // The first or last child of a part: in its row on that side, else in its hole.
 fn part_child(work: &[u8], cursor: &[u8], k: usize, side: Side, arm: u16) -> Outcome
     requires { ⌜ Held (now work) (now cursor) k × In (now work) arm ⌝ }
-    ensures { λ r. ⌜ outcome r (now (cursor .entry)) ≡ orElse (enter (factsIn (now (work .entry))) (sideOf side) (rowOfPart (sideOf side)) arm (cellsIn (now (cursor .entry)) k)) (inward (factsIn (now (work .entry))) (cellsIn (now (cursor .entry)) k)) ⌝ }
+    ensures { λ r.
+        let cursor = now (cursor .entry) in
+        let work = now (work .entry) in
+        ⌜ outcome r cursor ≡ orElse
+        (enter (factsIn work) (sideOf side) (rowOfPart (sideOf side)) arm (cellsIn cursor k))
+        (inward (factsIn work) (cellsIn cursor k)) ⌝ }
 {
     if let Outcome::Node(change) = move_parts::enter(
         work,
@@ -66,17 +75,15 @@ fn part_child(work: &[u8], cursor: &[u8], k: usize, side: Side, arm: u16) -> Out
 // The first or last child of the node with rule p that k cells lead to.
 pub fn child(work: &[u8], cursor: &[u8], k: usize, p: u16, side: Side) -> Outcome
     requires { ⌜ Held (now work) (now cursor) k × In (now work) p ⌝ }
-    ensures { λ r. ⌜ outcome r (now (cursor .entry)) ≡ child (factsIn (now (work .entry))) (sideOf side) (p, (cellsIn (now (cursor .entry)) k)) ⌝ }
+    ensures { λ r.
+        let cursor = now (cursor .entry) in
+        ⌜ outcome r cursor ≡ child (factsIn (now (work .entry))) (sideOf side) (p, (cellsIn cursor k)) ⌝ }
 {
     match facts::rule_at(work, p) {
-        Rule::Node { label: _, under } => {
+        Rule::Node { under, .. } => {
             move_parts::enter(work, Stem::kept(k, p), side, Cell::NODE_ROW, under)
         }
-        Rule::Part {
-            label: _,
-            left,
-            right,
-        } => part_child(work, cursor, k, side, side.pick(left, right)),
+        Rule::Part { left, right, .. } => part_child(work, cursor, k, side, side.pick(left, right)),
         _ => Outcome::Nowhere,
     }
 }
@@ -84,14 +91,12 @@ pub fn child(work: &[u8], cursor: &[u8], k: usize, p: u16, side: Side) -> Outcom
 // The root beside the hole of the part that a stem leads to, on a side.
 fn beside_hole(work: &[u8], stem: Stem, side: Side) -> Outcome
     requires { ⌜ Closes (now work) × In (now work) (stem .rule) ⌝ }
-    ensures { λ r. ⌜ ((s : List ℕ) → outcome r s ≡ besideHole (factsIn (now (work .entry))) (sideOf side) ((factsIn (now (work .entry))) .rule (stem .rule)) (stemCells stem s)) ⌝ }
+    ensures { λ r.
+        let work = now (work .entry) in
+        ⌜ ((s : List ℕ) → outcome r s ≡ besideHole (factsIn work) (sideOf side) ((factsIn work) .rule (stem .rule))
+        (stemCells stem s)) ⌝ }
 {
-    let Rule::Part {
-        label: _,
-        left,
-        right,
-    } = facts::rule_at(work, stem.rule)
-    else {
+    let Rule::Part { left, right, .. } = facts::rule_at(work, stem.rule) else {
         return Outcome::Nowhere;
     };
     move_parts::enter(
@@ -106,7 +111,9 @@ fn beside_hole(work: &[u8], stem: Stem, side: Side) -> Outcome
 // The sibling on a side of the node that k cells lead to.
 pub fn sibling(work: &[u8], cursor: &[u8], k: usize, p: u16, side: Side) -> Outcome
     requires { ⌜ Held (now work) (now cursor) k ⌝ }
-    ensures { λ r. ⌜ outcome r (now (cursor .entry)) ≡ sibling (factsIn (now (work .entry))) (sideOf side) (p, (cellsIn (now (cursor .entry)) k)) ⌝ }
+    ensures { λ r.
+        let cursor = now (cursor .entry) in
+        ⌜ outcome r cursor ≡ sibling (factsIn (now (work .entry))) (sideOf side) (p, (cellsIn cursor k)) ⌝ }
 {
     if let Reach::Part(stem) = move_parts::outward(work, cursor, k) {
         return beside_hole(work, stem, side);
@@ -117,7 +124,9 @@ pub fn sibling(work: &[u8], cursor: &[u8], k: usize, p: u16, side: Side) -> Outc
 // The node that k cells lead to, nowhere above the forest.
 fn node_at(work: &[u8], cursor: &[u8], k: usize) -> Outcome
     requires { ⌜ Held (now work) (now cursor) k ⌝ }
-    ensures { λ r. ⌜ outcome r (now (cursor .entry)) ≡ nodeAt (factsIn (now (work .entry))) (cellsIn (now (cursor .entry)) k) ⌝ }
+    ensures { λ r.
+        let cursor = now (cursor .entry) in
+        ⌜ outcome r cursor ≡ nodeAt (factsIn (now (work .entry))) (cellsIn cursor k) ⌝ }
 {
     if k == 0 {
         return Outcome::Nowhere;
@@ -128,7 +137,9 @@ fn node_at(work: &[u8], cursor: &[u8], k: usize) -> Outcome
 // The parent of the node that k cells lead to: the part in whose hole it stands, else the node over its row.
 pub fn parent(work: &[u8], cursor: &[u8], k: usize, p: u16) -> Outcome
     requires { ⌜ Held (now work) (now cursor) k ⌝ }
-    ensures { λ r. ⌜ outcome r (now (cursor .entry)) ≡ parent (factsIn (now (work .entry))) (p, (cellsIn (now (cursor .entry)) k)) ⌝ }
+    ensures { λ r.
+        let cursor = now (cursor .entry) in
+        ⌜ outcome r cursor ≡ parent (factsIn (now (work .entry))) (p, (cellsIn cursor k)) ⌝ }
 {
     if let Reach::Part(stem) = move_parts::outward(work, cursor, k) {
         return Outcome::Node(stem.alone());

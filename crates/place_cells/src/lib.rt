@@ -249,7 +249,10 @@ pub fn tail(k: usize) -> usize
 // The number of cells without a run to a side on top.
 pub fn pop_run(cursor: &[u8], k: usize, side: Side) -> usize
     requires { ⌜ Lies (now cursor) k ⌝ }
-    ensures { λ r. ⌜ (r ≤ k) × (cellsIn (now (cursor .entry)) r ≡ popRun (sideOf side) (cellsIn (now (cursor .entry)) k)) ⌝ }
+    ensures { λ r.
+        let cursor = now (cursor .entry) in
+        ⌜ (r ≤ k)
+        × (cellsIn cursor r ≡ popRun (sideOf side) (cellsIn cursor k)) ⌝ }
 {
     if k == 0 {
         return k;
@@ -286,7 +289,9 @@ pub fn below_row(cursor: &[u8], k: usize) -> usize
 // A run of one step on the cells: a run to that side on top grows, else the run begins.
 pub fn joined(cursor: &[u8], k: usize, side: Side, run: Cell) -> Stem
     requires { ⌜ Lies (now cursor) k × (run ≡ cell (cellRun (sideOf side), run .one, run .two, 0)) ⌝ }
-    ensures { λ r. ⌜ stepCells r (now (cursor .entry)) ≡ step (sideOf side) (run .one) (run .two) (cellsIn (now (cursor .entry)) k) ⌝ }
+    ensures { λ r.
+        let cursor = now (cursor .entry) in
+        ⌜ stepCells r cursor ≡ step (sideOf side) (run .one) (run .two) (cellsIn cursor k) ⌝ }
 {
     if k == 0 {
         return Stem::on(k, run);
@@ -301,7 +306,11 @@ pub fn joined(cursor: &[u8], k: usize, side: Side, run: Cell) -> Stem
 // A cell on top of k cells, if it is one; gives their number.
 fn push(cursor: &mut [u8], k: usize, cell: Cell) -> usize
     requires { ⌜ Lies (now cursor) (high cell k) ⌝ }
-    ensures { λ r. ⌜ (r ≡ high cell k) × Wrote (add cell (cellsIn (now (cursor .entry)) k)) (now (cursor .entry)) (now (cursor .exit)) ⌝ }
+    ensures { λ r.
+        let cursor′ = now (cursor .exit) in
+        let cursor = now (cursor .entry) in
+        ⌜ (r ≡ high cell k)
+        × Wrote (add cell (cellsIn cursor k)) cursor cursor′ ⌝ }
 {
     if cell.kind == Cell::NONE {
         return k;
@@ -314,7 +323,11 @@ fn push(cursor: &mut [u8], k: usize, cell: Cell) -> usize
 // The cells of a stem; gives their number.
 fn put_stem(cursor: &mut [u8], stem: Stem) -> usize
     requires { ⌜ Lies (now cursor) (stemHigh stem) ⌝ }
-    ensures { λ r. ⌜ (r ≡ stemHigh stem) × Wrote (stemCells stem (now (cursor .entry))) (now (cursor .entry)) (now (cursor .exit)) ⌝ }
+    ensures { λ r.
+        let cursor′ = now (cursor .exit) in
+        let cursor = now (cursor .entry) in
+        ⌜ (r ≡ stemHigh stem)
+        × Wrote (stemCells stem cursor) cursor cursor′ ⌝ }
 {
     let k = push(cursor, stem.keep, stem.short);
     let k = push(cursor, k, stem.step);
@@ -324,7 +337,11 @@ fn put_stem(cursor: &mut [u8], stem: Stem) -> usize
 // The cells of a change; gives their number.
 pub fn write(cursor: &mut [u8], change: Change) -> usize
     requires { ⌜ Lies (now cursor) (changeHigh change) ⌝ }
-    ensures { λ r. ⌜ (r ≡ changeHigh change) × Wrote (changed change (now (cursor .entry))) (now (cursor .entry)) (now (cursor .exit)) ⌝ }
+    ensures { λ r.
+        let cursor′ = now (cursor .exit) in
+        let cursor = now (cursor .entry) in
+        ⌜ (r ≡ changeHigh change)
+        × Wrote (changed change cursor) cursor cursor′ ⌝ }
 {
     let k = put_stem(cursor, change.stem);
     let k = push(cursor, k, change.row);

@@ -32,17 +32,13 @@ fn row_under(rule: Rule, kind: u16, number: u16) -> Found
     ensures { λ r. ⌜ maybe r ≡ rowUnder rule kind number ⌝ }
 {
     match rule {
-        Rule::Node { label: _, under } => {
+        Rule::Node { under, .. } => {
             if (kind == Cell::SPINE) & (number == Cell::NODE_ROW) {
                 return Found::Rule(under);
             }
             Found::Nothing
         }
-        Rule::Part {
-            label: _,
-            left,
-            right,
-        } => {
+        Rule::Part { left, right, .. } => {
             if number == Cell::LEFT_ROW {
                 return Found::Rule(left);
             }
@@ -67,11 +63,7 @@ fn row_in(work: &[u8], r: u16, state: State, number: u16) -> Found
             }
             Found::Nothing
         }
-        State::At {
-            rule: p,
-            kind,
-            inner: _,
-        } => row_under(facts::rule_at(work, p), kind, number),
+        State::At { rule: p, kind, .. } => row_under(facts::rule_at(work, p), kind, number),
         State::Wrong => Found::Nothing,
     }
 }
@@ -109,13 +101,9 @@ fn spine_at(rule: Rule, p: u16, kind: u16, inner: Found, a: u16) -> bool
     ensures { λ b. ⌜ b ≡ spineAt rule p kind (maybe inner) a ⌝ }
 {
     match rule {
-        Rule::Node { label: _, under: _ } => (kind != Cell::SPINE) & (p == a),
-        Rule::Fill { outer: _, inner: _ } => (kind != Cell::SPINE) & (p == a),
-        Rule::Part {
-            label: _,
-            left: _,
-            right: _,
-        } => is_that(inner, a),
+        Rule::Node { .. } => (kind != Cell::SPINE) & (p == a),
+        Rule::Fill { .. } => (kind != Cell::SPINE) & (p == a),
+        Rule::Part { .. } => is_that(inner, a),
         _ => false,
     }
 }
@@ -125,7 +113,7 @@ fn inner_of(work: &[u8], a: u16) -> Found
     requires { ⌜ In (now work) a ⌝ }
     ensures { λ x. ⌜ maybe x ≡ innerOf ((factsIn (now (work .entry))) .rule a) ⌝ }
 {
-    let Rule::Fill { outer: _, inner } = facts::rule_at(work, a) else {
+    let Rule::Fill { inner, .. } = facts::rule_at(work, a) else {
         return Found::Nothing;
     };
     Found::Rule(inner)
@@ -227,12 +215,8 @@ fn is_node(rule: Rule, kind: u16) -> bool
     ensures { λ b. ⌜ b ≡ isNode rule kind ⌝ }
 {
     match rule {
-        Rule::Node { label: _, under: _ } => kind == Cell::SPINE,
-        Rule::Part {
-            label: _,
-            left: _,
-            right: _,
-        } => true,
+        Rule::Node { .. } => kind == Cell::SPINE,
+        Rule::Part { .. } => true,
         _ => false,
     }
 }
@@ -242,12 +226,7 @@ fn ends_well(work: &[u8], state: State) -> bool
     requires { ⌜ StateHas (In (now work)) (stateOf state) ⌝ }
     ensures { λ b. ⌜ b ≡ endsWell (factsIn (now (work .entry))) (stateOf state) ⌝ }
 {
-    let State::At {
-        rule: p,
-        kind,
-        inner: _,
-    } = state
-    else {
+    let State::At { rule: p, kind, .. } = state else {
         return false;
     };
     is_node(facts::rule_at(work, p), kind)

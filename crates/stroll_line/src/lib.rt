@@ -47,8 +47,14 @@ fn put_line(out: &mut [u8], at: usize, letter: u8, word: u16) -> usize
 
 // A line for each letter and its word of answers, at the front of the output.
 pub fn put_lines(out: &mut [u8], letters: &[u8], answers: &[u8]) -> usize
-    requires { ⌜ (2 * length (now letters) ≤ length (now answers)) × (length (lines (now letters) (answersFrom (length (now letters)) (now answers) 0)) ≤ length (now out)) ⌝ }
-    ensures { λ r. ⌜ Put (lines (now (letters .entry)) (answersFrom (length (now (letters .entry))) (now (answers .entry)) 0)) 0 (now (out .entry)) (now (out .exit)) r ⌝ }
+    requires { ⌜ (2 * length (now letters) ≤ length (now answers))
+        × (length (lines (now letters) (answersFrom (length (now letters)) (now answers) 0)) ≤ length (now out)) ⌝ }
+    ensures { λ r.
+        let out′ = now (out .exit) in
+        let letters = now (letters .entry) in
+        let answers = now (answers .entry) in
+        let out = now (out .entry) in
+        ⌜ Put (lines letters (answersFrom (length letters) answers 0)) 0 out out′ r ⌝ }
 {
     let mut end = 0;
     let mut i = 0;

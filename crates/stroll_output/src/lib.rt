@@ -45,7 +45,12 @@ fn walk_above(plan: &[u8], letters: &[u8], answers: &mut [u8]) -> Walked
 // What is printed of the walk.
 fn print_walk(plan: &[u8], letters: &[u8], out: &mut [u8]) -> usize
     requires { ⌜ Strollable (now plan) (now letters) × (lineLength * mostLetters ≤ length (now out)) ⌝ }
-    ensures { λ r. ⌜ Put (checkPrinted (now (plan .entry)) (now (letters .entry)) (checked (now (plan .entry)))) 0 (now (out .entry)) (now (out .exit)) r ⌝ }
+    ensures { λ r.
+        let out′ = now (out .exit) in
+        let plan = now (plan .entry) in
+        let letters = now (letters .entry) in
+        let out = now (out .entry) in
+        ⌜ Put (checkPrinted plan letters (checked plan)) 0 out out′ r ⌝ }
 {
     let mut answers = [0u8; MOST_ANSWERS];
     match walk_above(plan, letters, &mut answers) {
@@ -57,7 +62,12 @@ fn print_walk(plan: &[u8], letters: &[u8], out: &mut [u8]) -> usize
 // What is printed on an accepted plan.
 fn stroll_letters(plan: &[u8], letters: &[u8], out: &mut [u8]) -> usize
     requires { ⌜ Accepted (now plan) × (lineLength * mostLetters ≤ length (now out)) ⌝ }
-    ensures { λ r. ⌜ Put (checkPrinted (now (plan .entry)) (now (letters .entry)) (checked (now (plan .entry)))) 0 (now (out .entry)) (now (out .exit)) r ⌝ }
+    ensures { λ r.
+        let out′ = now (out .exit) in
+        let plan = now (plan .entry) in
+        let letters = now (letters .entry) in
+        let out = now (out .entry) in
+        ⌜ Put (checkPrinted plan letters (checked plan)) 0 out out′ r ⌝ }
 {
     if MOST_LETTERS < letters.len() {
         return stroll_line::put_refusal(out, Refusal::Lent);
@@ -67,13 +77,18 @@ fn stroll_letters(plan: &[u8], letters: &[u8], out: &mut [u8]) -> usize
 
 // All that stroll prints for what it read of the plan's file and of standard input, at the front of the output; gives its length.
 pub fn stroll(plan: &[u8], letters: &[u8], out: &mut [u8; MOST_OUTPUT]) -> usize
-    ensures { λ r. ⌜ Printed (strollOutput (now (plan .entry)) (now (letters .entry))) (now (out .entry)) (now (out .exit)) r ⌝ }
+    ensures { λ r.
+        let out′ = now (out .exit) in
+        let plan = now (plan .entry) in
+        let letters = now (letters .entry) in
+        let out = now (out .entry) in
+        ⌜ Printed (strollOutput plan letters) out out′ r ⌝ }
 {
     if MOST_PLAN < plan.len() {
         return stroll_line::put_refusal(out, Refusal::Lent);
     }
     match plan::check(plan) {
-        Checked::Accepted { n: _, start: _ } => stroll_letters(plan, letters, out),
+        Checked::Accepted { .. } => stroll_letters(plan, letters, out),
         Checked::Refused(why) => stroll_line::put_refusal(out, why),
     }
 }

@@ -18,7 +18,10 @@ use walk_lent::Found;
 // The table of an accepted plan's rules, in the first rows of the work.
 fn fill(plan: &[u8], work: &mut [u8], n: u16)
     requires { ⌜ Planned (now plan) n × (workLength * n ≤ length (now work)) ⌝ }
-    ensures { λ x. ⌜ Filled (rulesOf (now (plan .entry))) (take (rowLength * n) (now (work .exit))) × Within 0 (workLength * n) (now (work .entry)) (now (work .exit)) ⌝ }
+    ensures { λ x.
+        let work′ = now (work .exit) in
+        ⌜ Filled (rulesOf (now (plan .entry))) (take (rowLength * n) work′)
+        × Within 0 (workLength * n) (now (work .entry)) work′ ⌝ }
 {
     work_rows::load_rules(plan, work, n);
     facts_build::build(work, n);
@@ -35,7 +38,17 @@ fn walk_letters(
     start: u16,
 ) -> Walked
     requires { ⌜ Lendable (now plan) n start (now work) (now cursor) (now letters) (now answers) ⌝ }
-    ensures { λ x. ⌜ Walks (rulesOf (now (plan .entry))) (placeJudged (rulesOf (now (plan .entry))) n start (now (cursor .entry))) (now (letters .entry)) (now (cursor .entry)) (now (cursor .exit)) (now (answers .entry)) (now (answers .exit)) x × Within 0 (workLength * n) (now (work .entry)) (now (work .exit)) ⌝ }
+    ensures { λ x.
+        let cursor′ = now (cursor .exit) in
+        let answers′ = now (answers .exit) in
+        let work′ = now (work .exit) in
+        let plan = now (plan .entry) in
+        let cursor = now (cursor .entry) in
+        let letters = now (letters .entry) in
+        let answers = now (answers .entry) in
+        let work = now (work .entry) in
+        ⌜ Walks (rulesOf plan) (placeJudged (rulesOf plan) n start cursor) letters cursor cursor′ answers answers′ x
+        × Within 0 (workLength * n) work work′ ⌝ }
 {
     fill(plan, work, n);
     let rows = &work[..Row::LENGTH * (n as usize)];
@@ -53,7 +66,18 @@ fn walk_bytes(
     start: u16,
 ) -> Walked
     requires { ⌜ Lendable (now plan) n start (now work) (now cursor) (now letters) (now answers) ⌝ }
-    ensures { λ x. ⌜ Walks (rulesOf (now (plan .entry))) (lettersJudged (firstOther (now (letters .entry)) 0) (placeJudged (rulesOf (now (plan .entry))) n start (now (cursor .entry)))) (now (letters .entry)) (now (cursor .entry)) (now (cursor .exit)) (now (answers .entry)) (now (answers .exit)) x × Within 0 (workLength * n) (now (work .entry)) (now (work .exit)) ⌝ }
+    ensures { λ x.
+        let cursor′ = now (cursor .exit) in
+        let answers′ = now (answers .exit) in
+        let work′ = now (work .exit) in
+        let plan = now (plan .entry) in
+        let letters = now (letters .entry) in
+        let cursor = now (cursor .entry) in
+        let answers = now (answers .entry) in
+        let work = now (work .entry) in
+        ⌜ Walks (rulesOf plan) (lettersJudged (firstOther letters 0) (placeJudged (rulesOf plan) n start cursor))
+        letters cursor cursor′ answers answers′ x
+        × Within 0 (workLength * n) work work′ ⌝ }
 {
     match walk_lent::first_other(letters) {
         Found::At(i) => Walked::Refused(Refusal::Letter(i)),
@@ -72,7 +96,16 @@ fn walk_rules(
     start: u16,
 ) -> Walked
     requires { ⌜ checked (now plan) ≡ Checked.Accepted n start ⌝ }
-    ensures { λ x. ⌜ leaves x (now (work .exit)) (now (cursor .exit)) (now (answers .exit)) ≡ walkOf (lends (now (plan .entry)) (now (work .entry)) (now (cursor .entry)) (now (letters .entry)) (now (answers .entry))) ⌝ }
+    ensures { λ x.
+        let work′ = now (work .exit) in
+        let cursor′ = now (cursor .exit) in
+        let answers′ = now (answers .exit) in
+        let plan = now (plan .entry) in
+        let work = now (work .entry) in
+        let cursor = now (cursor .entry) in
+        let letters = now (letters .entry) in
+        let answers = now (answers .entry) in
+        ⌜ leaves x work′ cursor′ answers′ ≡ walkOf (lends plan work cursor letters answers) ⌝ }
 {
     if !walk_lent::enough_lent(work, cursor, letters, answers, n) {
         return Walked::Refused(Refusal::Lent);
@@ -91,7 +124,16 @@ pub fn walk(
     letters: &[u8],
     answers: &mut [u8],
 ) -> Walked
-    ensures { λ x. ⌜ leaves x (now (work .exit)) (now (cursor .exit)) (now (answers .exit)) ≡ walkOf (lends (now (plan .entry)) (now (work .entry)) (now (cursor .entry)) (now (letters .entry)) (now (answers .entry))) ⌝ }
+    ensures { λ x.
+        let work′ = now (work .exit) in
+        let cursor′ = now (cursor .exit) in
+        let answers′ = now (answers .exit) in
+        let plan = now (plan .entry) in
+        let work = now (work .entry) in
+        let cursor = now (cursor .entry) in
+        let letters = now (letters .entry) in
+        let answers = now (answers .entry) in
+        ⌜ leaves x work′ cursor′ answers′ ≡ walkOf (lends plan work cursor letters answers) ⌝ }
 {
     match plan::check(plan) {
         Checked::Accepted { n, start } => {

@@ -42,7 +42,12 @@ fn enough_answers(letters: &[u8], answers: &[u8]) -> bool
 
 // Whether n rules have enough of work and cursor, and each letter a word of answers.
 pub fn enough_lent(work: &[u8], cursor: &[u8], letters: &[u8], answers: &[u8], n: u16) -> bool
-    ensures { λ b. ⌜ b ≡ enoughLent (now (work .entry)) (now (cursor .entry)) (now (letters .entry)) (now (answers .entry)) n ⌝ }
+    ensures { λ b.
+        let work = now (work .entry) in
+        let cursor = now (cursor .entry) in
+        let letters = now (letters .entry) in
+        let answers = now (answers .entry) in
+        ⌜ b ≡ enoughLent work cursor letters answers n ⌝ }
 {
     work_rows::enough_work(work, n) & (enough_cursor(cursor, n) & enough_answers(letters, answers))
 }

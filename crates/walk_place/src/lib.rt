@@ -15,7 +15,14 @@ pub fn travel(
     start: u16,
 ) -> Walked
     requires { ⌜ Travels start n (now rows) (now cursor) (now letters) (now answers) ⌝ }
-    ensures { λ x. ⌜ Walks (rulesKept (now (rows .entry))) (placeJudged (rulesKept (now (rows .entry))) n start (now (cursor .entry))) (now (letters .entry)) (now (cursor .entry)) (now (cursor .exit)) (now (answers .entry)) (now (answers .exit)) x ⌝ }
+    ensures { λ x.
+        let cursor′ = now (cursor .exit) in
+        let answers′ = now (answers .exit) in
+        let rows = now (rows .entry) in
+        let cursor = now (cursor .entry) in
+        let letters = now (letters .entry) in
+        let answers = now (answers .entry) in
+        ⌜ Walks (rulesKept rows) (placeJudged (rulesKept rows) n start cursor) letters cursor cursor′ answers answers′ x ⌝ }
 {
     match place_open::open(rows, cursor, n, start) {
         Opened::At { walked, at } => {

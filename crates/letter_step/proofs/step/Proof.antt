@@ -135,7 +135,7 @@ module _ {M : Type 1} (𝓤 : URA M) (H : Heap 𝓤) (A : Atoms 𝓤) (W : Given
       qed W (‵ (flft κ₀ q₀) ∷ ‵ (flft κ₁ q₁) ∷ ‵ (ShrSlice (named 0) κ₀ u8 .own rows (t ∷ [])) ∷ ‵ (finally u8 γ₁ zs) ∷ []) ∵
       suffices ! _ (ends-at 𝓤 H A step.ended stayed (step.clauses 𝓤 H A mem run) W (((κ₀, (κ₁, tt)), (q₀, (q₁, tt)), tt, a l, vals l), tt) (landing′.lowered (returned x h′)) (returned x h′) (tt, (zs, (tt, (tt, (tt, tt))))) (tt, (is .same, (tt, (tt, (tt, tt)))))) $ says ! (is .stepped) $
       nothing ! $ move ! (2 ∷ 0 ∷ []) $ join ! $ move ! (1 ∷ 0 ∷ []) $ join ! $ frame ! $
-      nothing ! $ owned ! letter.the-row (Is letter.the-row) (EL.makes letter.the-type letter′.the-plain 𝓤 H A) l _ is-l $ fjoin ! $ owned ! u16 (Is u16) (uint-makes 𝓤 H A W w16) r _ (refl, r-fits) $ fjoin ! $ 
+      nothing ! $ owned ! letter.the-row (Is letter.the-row) (EL.makes letter.the-type letter′.the-plain 𝓤 H A) l _ is-l $ fjoin ! $ owned ! u16 (Is u16) (uint-makes 𝓤 H A W w16) r _ (refl, r-fits) $ fjoin ! $
       owned ! R (Is R) (LL.makes T.the-type T′.the-plain 𝓤 H A) h _ (LL.owes T.the-type T′.the-laws h ((refl, k-fits), ((refl, p-fits), tt))) $ fjoin ! $ move ! (2 ∷ 0 ∷ []) $ fjoin ! $ move ! (1 ∷ 0 ∷ []) $ fjoin ! $ frame ! $
       owned ! landing.the-row (Is landing.the-row) (LL.makes landing.the-type landing′.the-plain 𝓤 H A) (returned x h′) _ (LL.owes landing.the-type landing′.the-laws (returned x h′) (LL.owes T.the-type T′.the-laws h′ ((refl, is .used), ((refl, is .rule), tt)), ((refl, is .answer), tt))) $ done !
 
