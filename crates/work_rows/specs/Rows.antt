@@ -18,7 +18,7 @@ abbrev pub workLength : ℕ
 workLength = wordLength * ruleWork
 
 abbrev pub rowLength : ℕ
-rowLength = 48
+rowLength = 32
 
 -- the field of w bytes at offset o of row r, and a list with another number there
 unfoldable pub field : ℕ → List ℕ → ℕ → ℕ → ℕ

@@ -55,7 +55,7 @@ fn put32(work: &mut [u8], r: u16, offset: usize, v: u32)
 
 impl Row {
     // Bytes of a row.
-    pub const LENGTH: usize = 48;
+    pub const LENGTH: usize = 32;
 
     // Where a row keeps its rule.
     const KIND: usize = 0;
