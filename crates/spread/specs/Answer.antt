@@ -9,13 +9,14 @@ use Rattle.plan.specs.Written.{outputAfter}
 use Rattle.forest.specs.Forest.{forest, text}
 use Rattle.forest.specs.Outcome.{textRoomed}
 use Rattle.work_rows.specs.Rows.{Within}
+use Rattle.spread_step.specs.Task.{taskLimit}
 use Rattle.spread_stack.specs.Run.{rowsIn, workEnd}
 
 -- rule r of the rows can be measured and spread, whatever else the rows hold
 pub record Answerable (t : List ℕ) (n r : ℕ) : Type 0 where
   pub sound : Sound (rowsIn t n) (λ k. k)
   pub closed : Closed (rowsIn t n) r
-  pub few : n ≤ 16383
+  pub few : n ≤ taskLimit
   pub room : workEnd n ≤ length t
 
 -- what is answered for it

@@ -37,7 +37,9 @@ fn answer(work: &mut [u8], out: &mut [u8], n: u16, r: u16) -> Written
 
 // Spread a plan: its text and the length of it, or why it is turned down.
 pub fn spread(plan: &[u8], work: &mut [u8], out: &mut [u8]) -> Written
-    ensures { λ x. ⌜ (x ≡ spread (now (plan .entry)) (now (work .entry)) (now (out .entry))) × (now (work .exit) ≡ measuredWork (now (plan .entry)) (now (work .entry))) × (now (out .exit) ≡ spreadOutput (now (plan .entry)) (now (work .entry)) (now (out .entry))) ⌝ }
+    ensures { λ x. ⌜ (x ≡ spread (now (plan .entry)) (now (work .entry)) (now (out .entry)))
+        × (now (work .exit) ≡ measuredWork (now (plan .entry)) (now (work .entry)))
+        × (now (out .exit) ≡ spreadOutput (now (plan .entry)) (now (work .entry)) (now (out .entry))) ⌝ }
 {
     match work_load::load_plan(plan, work) {
         Checked::Accepted { n, start } => {

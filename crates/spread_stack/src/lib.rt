@@ -95,7 +95,9 @@ pub fn task_rows(work: &mut [u8], n: u16)
 // The tasks on the stack, done one after the other; how many bytes they wrote.
 fn run(work: &mut [u8], out: &mut [u8], n: u16, first: usize) -> usize
     requires { ⌜ Runnable (now work) (now out) n first ⌝ }
-    ensures { λ x. ⌜ Ran n (stackText (now (work .entry)) n first) x (now (work .entry)) (now (work .exit)) (now (out .entry)) (now (out .exit)) ⌝ }
+    ensures { λ x.
+        let text = stackText (now (work .entry)) n first in
+        ⌜ Ran n text x (now (work .entry)) (now (work .exit)) (now (out .entry)) (now (out .exit)) ⌝ }
 {
     let from = Row::LENGTH * (n as usize);
     let mut k = first;
@@ -111,7 +113,9 @@ fn run(work: &mut [u8], out: &mut [u8], n: u16, first: usize) -> usize
 // The text of rule r, written to the front of the output; its length.
 pub fn spread_rule(work: &mut [u8], out: &mut [u8], n: u16, r: u16) -> usize
     requires { ⌜ Spreadable (now work) (now out) n r ⌝ }
-    ensures { λ x. ⌜ Ran n (says (meant (now (work .entry)) n r) whole) x (now (work .entry)) (now (work .exit)) (now (out .entry)) (now (out .exit)) ⌝ }
+    ensures { λ x.
+        let text = says (meant (now (work .entry)) n r) whole in
+        ⌜ Ran n text x (now (work .entry)) (now (work .exit)) (now (out .entry)) (now (out .exit)) ⌝ }
 {
     let task = spread_step::whole(work, r);
     let k = push(work, Row::LENGTH * (n as usize), 0, task);
