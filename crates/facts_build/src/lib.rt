@@ -2,9 +2,9 @@
 ghost use mathlib.Core.Path.{_≡_};
 ghost use Prim.Native.Nat.{_*_, _≤_};
 ghost use lib.ListN.{length};
-ghost use Rattle.work_rows.specs.Rows.{rowLength};
+ghost use Rattle.work_rows.specs.Rows.{rowLength, firstRules};
 ghost use Rattle.rule.specs.Sound.{Sound};
-ghost use Rattle.facts.specs.Facts.{kept, Built, In};
+ghost use Rattle.facts.specs.Facts.{Built, In};
 ghost use Rattle.facts_build.specs.RuleFacts.{flag, putRuleFacts, emptyOf, representativeOf, ruleFactsOf};
 ghost use Rattle.facts.specs.Build.{Ready};
 use facts::Link;
@@ -101,8 +101,8 @@ impl RuleFacts {
 
 // What is known of each of n rules, into their rows, from rule 0 up: a rule names only lower ones.
 pub fn build(work: &mut [u8], n: u16)
-    requires { ⌜ (rowLength * n ≤ length (now work)) × Sound (kept (now work) n) (λ r. r) ⌝ }
-    ensures { λ x. ⌜ Built (kept (now (work .entry)) n) n n (now (work .entry)) (now (work .exit)) ⌝ }
+    requires { ⌜ (rowLength * n ≤ length (now work)) × Sound (firstRules (now work) n) (λ r. r) ⌝ }
+    ensures { λ x. ⌜ Built (firstRules (now (work .entry)) n) n n (now (work .entry)) (now (work .exit)) ⌝ }
 {
     let mut i: u16 = 0;
     while i < n {
