@@ -1,5 +1,5 @@
 -- The counts at the level of rules: what each count of a rule comes to, from what it and a helping count are for the rules that it
--- names. Each is one recurrence of counts/specs/Recurrence read off a right-hand side.
+-- names. Each is one recurrence of count_passes/specs/Recurrence read off a right-hand side.
 use Prim.Native.Nat.{ℕ, suc, _+_, _*_, _≤_, max}
 use mathlib.Core.List.{List}
 use lib.ListN.{length}

@@ -20,16 +20,14 @@ use Rattle.forest.proofs.Counts.{text-length}
 use Rattle.work_rows.specs.Rows.{ownEnd, firstRules}
 use Rattle.work_rows.proofs.Rows.{within-both, within-wider}
 use Rattle.count_capped.specs.declared.Count.{Count}
-use Rattle.count_passes.specs.declared.Tally.{Tally}
 use Rattle.count_rule.specs.declared.Weight.{Weight}
 use Rattle.count_capped.specs.Count.{capped, limit, numberOf}
 use Rattle.count_passes.specs.Says.{whole, says}
 use Rattle.count_rule.specs.ByRule.{weightOf}
 use Rattle.count_passes.specs.Tally.{Besides, Unfolds}
-use Rattle.count_passes.specs.Total.{Startable, Totalled}
+use Rattle.count_passes.specs.Total.{Startable, Counts}
 use Rattle.count_passes.proofs.Meaning.{told}
 use Rattle.count_passes.proofs.Column.{besides-rule}
-use Rattle.count_passes.proofs.Totals.{nodes-total}
 use Rattle.spread_step.specs.Task.{taskIn}
 use Rattle.spread_stack.specs.Run.{meant, workEnd, Taskable, Tasked, RowsTasked, Ran, Spreadable}
 use Rattle.spread.specs.Answer.{Answerable, Answered}
@@ -101,13 +99,13 @@ answerable-kept {n = n} {r = r} {s = s} {t = t} b past a =
     record { sound = rw (rows-kept b past) (a .sound); closed = rw (rows-kept b past) (a .closed); few = a .few; room = omega (arith, a .room) }
 
 -- the nodes of the rule
-module _ {s t : List ℕ} {n r : ℕ} {c : Count} (a : Answerable s n r) (p : Totalled (Tally.Own Weight.Node) Tally.Sum n r c s t) where
+module _ {s t : List ℕ} {n r : ℕ} {c : Count} (a : Answerable s n r) (p : Counts (weigh (weightOf Weight.Node)) n r c s t) where
   nodes : numberOf c ≡ capped (weigh one (forest (firstRules s n) r))
   unfolding forest weightOf
-  nodes = nodes-total (rows-unfold a) (closed-good a) Weight.Node p
+  nodes = p .count (meant s n) (rows-unfold a) (closed-good a)
 
   counted : Answerable t n r
-  counted = answerable-kept (p .passes .besides) (omega arith) a
+  counted = answerable-kept (p .besides) (omega arith) a
 
   pub tasks-next : Taskable t n
   tasks-next = taskable counted
@@ -119,7 +117,7 @@ module _ {s t : List ℕ} {n r : ℕ} {c : Count} (a : Answerable s n r) (p : To
       record {
         answer = rw (lt-leb (nodeLength * weigh one (forest (firstRules s n) r)) (length out) (omega (arith, nodes)));
         writes = refl;
-        within = within-wider 0 (workEnd n) (omega arith) (omega arith) (p .passes .besides .beyond);
+        within = within-wider 0 (workEnd n) (omega arith) (omega arith) (p .besides .beyond);
       }
 
   module _ (out : List ℕ) (small : length out < limit) (e : leb (nodeLength * numberOf c) (length out) ≡ true) where
@@ -131,7 +129,7 @@ module _ {s t : List ℕ} {n r : ℕ} {c : Count} (a : Answerable s n r) (p : To
       tasked = answerable-kept (q .besides) (omega arith) counted
 
       all-same : firstRules u n ≡ firstRules s n
-      all-same = rows-kept (q .besides) (omega arith) ∙ rows-kept (p .passes .besides) (omega arith)
+      all-same = rows-kept (q .besides) (omega arith) ∙ rows-kept (p .besides) (omega arith)
 
       rows-tasked : RowsTasked u n
       rows-tasked =
@@ -165,7 +163,7 @@ module _ {s t : List ℕ} {n r : ℕ} {c : Count} (a : Answerable s n r) (p : To
             answer = rw (le-leb (nodeLength * weigh one (forest (firstRules s n) r)) (length out) enough) (ap Written.Length (h .long));
             writes = h .writes;
             within =
-                within-both (within-wider 0 (workEnd n) (omega arith) (omega arith) (p .passes .besides .beyond))
+                within-both (within-wider 0 (workEnd n) (omega arith) (omega arith) (p .besides .beyond))
                 (within-both (within-wider 0 (workEnd n) (omega arith) (omega arith) (q .besides .beyond))
                 (within-wider 0 (workEnd n) (omega arith) (omega arith) (h .within)));
           }
