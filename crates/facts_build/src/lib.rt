@@ -36,14 +36,10 @@ impl RuleFacts {
             Rule::Empty => true,
             Rule::Pair { first, second } => facts::is_empty_at(work, first)
                 & facts::is_empty_at(work, second),
-            Rule::Node { label: _, under: _ } => false,
-            Rule::Fill { outer: _, inner: _ } => false,
-            Rule::Part {
-                label: _,
-                left: _,
-                right: _,
-            } => false,
-            Rule::Join { outer: _, inner: _ } => false,
+            Rule::Node { .. } => false,
+            Rule::Fill { .. } => false,
+            Rule::Part { .. } => false,
+            Rule::Join { .. } => false,
         }
     }
 
@@ -63,14 +59,10 @@ impl RuleFacts {
                 r
             }
             Rule::Empty => r,
-            Rule::Node { label: _, under: _ } => r,
-            Rule::Fill { outer: _, inner: _ } => r,
-            Rule::Part {
-                label: _,
-                left: _,
-                right: _,
-            } => r,
-            Rule::Join { outer: _, inner: _ } => r,
+            Rule::Node { .. } => r,
+            Rule::Fill { .. } => r,
+            Rule::Part { .. } => r,
+            Rule::Join { .. } => r,
         }
     }
 

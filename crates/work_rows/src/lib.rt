@@ -7,7 +7,8 @@ ghost use Rattle.rule.specs.Rule.{ruleOf, rulesIn};
 ghost use Rattle.record.specs.Records.{recordsFrom};
 ghost use Rattle.plan.specs.Check.{trailerLength};
 ghost use Rattle.forest.specs.Outcome.{workWords, enoughWork, cleared};
-ghost use Rattle.work_rows.specs.Rows.{workLength, rowLength, ownEnd, field, putField, rowOf, ruleFrom, rowIn, putRow, ruleIn, Stored, Loaded};
+ghost use Rattle.work_rows.specs.Rows.{workLength, rowLength, ownEnd, field, putField};
+ghost use Rattle.work_rows.specs.Rows.{rowOf, ruleFrom, rowIn, putRow, ruleIn, Stored, Loaded};
 use plan::Trailer;
 use record::Record;
 use rule::Decoded;
@@ -222,7 +223,10 @@ pub fn enough_work(work: &[u8], n: u16) -> bool
 // An accepted plan's n rules, which stand right before its trailer, into the rows of work.
 pub fn load_rules(plan: &[u8], work: &mut [u8], n: u16)
     requires { ⌜ (recordLength * n + trailerLength ≤ length (now plan)) × (rowLength * n ≤ length (now work)) ⌝ }
-    ensures { λ x. ⌜ Loaded (rulesIn (recordsFrom (now (plan .entry)) (length (now (plan .entry)) - trailerLength - recordLength * n) n)) n (now (work .entry)) (now (work .exit)) ⌝ }
+    ensures { λ x.
+        let s = now (plan .entry) in
+        let rules = rulesIn (recordsFrom s (length s - trailerLength - recordLength * n) n) in
+        ⌜ Loaded rules n (now (work .entry)) (now (work .exit)) ⌝ }
 {
     let first = plan.len() - Trailer::LENGTH - Record::LENGTH * (n as usize);
     load(plan, first, n, work);

@@ -37,7 +37,7 @@ enum-known-rule-3 c = search needs
 both-requires-2 : tie.Need-both-requires-2
 both-requires-2 c κs = (
   reach-at (c .before .rule3 .given .1) (c .before .before .before .before .pre) _ fill-one,
-  reach-at (c .before .rule3 .given .1) (c .before .before .before .before .pre) _ fill-two,
+  reach-at (c .before .rule3 .given .1) (c .before .before .before .before .pre) _ (search (fill-one, fill-two)),
 )
 
 enum-known-rule-4 : tie.Need-enum-known-rule-4

@@ -14,7 +14,8 @@ is-empty-at-requires : tie.Need-is-empty-at-requires
 is-empty-at-requires c κs = ready-room (rw (c .before .rule .given .1) at (c .before .before .before .before .pre)) _ Names.pair-one
 
 representative-at-requires : tie.Need-representative-at-requires
-representative-at-requires c κs = ready-room (rw (c .before .before .before .rule .given .1) at (c .before .before .before .before .before .before .pre)) _ Names.pair-two
+representative-at-requires c κs =
+    ready-room (rw (c .before .before .before .rule .given .1) at (c .before .before .before .before .before .before .pre)) _ (search (Names.pair-one, Names.pair-two))
 
 returns : tie.Need-returns
 unfolding representativeOf
