@@ -104,16 +104,22 @@ pub fn put_count(work: &mut [u8], r: u16, o: usize, c: Count)
 
 // The counts of two rules together.
 pub fn both(work: &[u8], o: usize, b: u16, c: u16) -> Count
-    requires { ⌜ (rowLength * b + o + countLength ≤ length (now work)) × (rowLength * c + o + countLength ≤ length (now work)) ⌝ }
-    ensures { λ x. ⌜ numberOf x ≡ capped (field countLength (now (work .entry)) b o + field countLength (now (work .entry)) c o) ⌝ }
+    requires { ⌜ (rowLength * b + o + countLength ≤ length (now work))
+        × (rowLength * c + o + countLength ≤ length (now work)) ⌝ }
+    ensures { λ x.
+        let work = now (work .entry) in
+        ⌜ numberOf x ≡ capped (field countLength work b o + field countLength work c o) ⌝ }
 {
     count_at(work, b, o).plus(count_at(work, c, o))
 }
 
 // The larger of the counts of two rules.
 pub fn higher(work: &[u8], o: usize, b: u16, c: u16) -> Count
-    requires { ⌜ (rowLength * b + o + countLength ≤ length (now work)) × (rowLength * c + o + countLength ≤ length (now work)) ⌝ }
-    ensures { λ x. ⌜ numberOf x ≡ capped (max (field countLength (now (work .entry)) b o) (field countLength (now (work .entry)) c o)) ⌝ }
+    requires { ⌜ (rowLength * b + o + countLength ≤ length (now work))
+        × (rowLength * c + o + countLength ≤ length (now work)) ⌝ }
+    ensures { λ x.
+        let work = now (work .entry) in
+        ⌜ numberOf x ≡ capped (max (field countLength work b o) (field countLength work c o)) ⌝ }
 {
     count_at(work, b, o).larger(count_at(work, c, o))
 }

@@ -1,8 +1,7 @@
 pub mod Meaning
 pub mod Reach
 pub mod Column
-pub mod Pass
-pub mod Rules
 pub mod Passes
+pub mod Rules
 pub mod Work
 pub mod Totals

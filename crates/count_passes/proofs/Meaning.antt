@@ -1,6 +1,6 @@
 -- The recurrences give the counts and the text of the forest: by induction over the sorts of expressions, each right-hand side
 -- being one law of the forest's counts. Assumes nothing.
-use Prim.Native.Nat.{ℕ, suc, _+_, max}
+use Prim.Native.Nat.{ℕ, suc, _+_, _≤_, max}
 use native.Mathlib.Omega.{arith}
 use mathlib.Core.Path.{_≡_, refl, sym, _∙_, ap, ap₂}
 use mathlib.Core.List.{List, [], _∷_, _++_}
@@ -79,8 +79,12 @@ levels-value (Good.part {r = r} {a = a} {b = b} {c = c} g h) =
     ap₂ (λ (m n : ℕ). suc (max m n)) (levels-value g) (levels-value h) ∙ sym (levels-part r a b c)
 levels-value (Good.join {b = b} {c = c} g h) = levels-in-hole b c g (levels-value g) (levels-value h) ∙ sym (levels-fill g c)
 
--- entries have the weight of nodes
-pub entries-nodes : (g : Forest ℕ) → weigh entry g ≡ weigh one g
-unfolding weigh entry
-entries-nodes Forest.none = refl
-entries-nodes (Forest.tree a c f) = omega (arith, entries-nodes c, entries-nodes f)
+-- entries are at most as many as nodes
+entry-one : (a : ℕ) → entry a ≤ one a
+unfolding entry
+entry-one a = omega arith
+
+pub entries-nodes : (g : Forest ℕ) → weigh entry g ≤ weigh one g
+unfolding weigh
+entries-nodes Forest.none = omega arith
+entries-nodes (Forest.tree a c f) = omega (arith, entry-one a, entries-nodes c, entries-nodes f)

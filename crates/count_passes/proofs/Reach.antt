@@ -6,7 +6,8 @@ use mathlib.Core.List.{List}
 use lib.ListN.{length}
 use lib.Dec.{T, ltb, ltb→lt}
 use Rattle.rule.specs.declared.Rule.{Rule}
-use Rattle.rule.specs.Rule.{every, Names}
+use Rattle.rule.specs.Rule.{every}
+use Rattle.rule.specs.Names.{Names}
 use Rattle.rule.proofs.Names.{every-named}
 use Rattle.work_rows.specs.Rows.{rowLength, ruleIn}
 use Rattle.count_capped.specs.Count.{countLength}

@@ -6,24 +6,14 @@ use mathlib.Core.List.{List}
 use Rattle.rule.specs.declared.Rule.{Rule}
 use Rattle.forest.specs.Expression.{Expression, rhs}
 use Rattle.work_rows.specs.Rows.{ruleIn}
-use Rattle.count_rule.specs.declared.Weight.{Weight}
 use Rattle.count_passes.specs.declared.Tally.{Tally}
-use Rattle.count_passes.specs.Recurrence.{ownIn, nodesIn, treesIn, depthIn, levelsIn}
-use Rattle.count_rule.specs.ByRule.{weightOf, ownOf, sumOf, treesOf, depthOf, levelsOf}
+use Rattle.count_passes.specs.Recurrence.{nodesIn, treesIn, depthIn, levelsIn}
+use Rattle.count_rule.specs.ByRule.{ownOf, sumOf, treesOf, depthOf, levelsOf}
 use Rattle.count_passes.specs.Tally.{tallyOf, Recurs, Unfolds}
 
 module _ (r : ℕ) (E : ℕ → Expression) where
-  own-rhs : (w : ℕ → ℕ) (x : Rule) → ownIn w (rhs r x E) ≡ ownOf w x
-  unfolding ownIn ownOf rhs
-  own-rhs w Rule.Empty = refl
-  own-rhs w (Rule.Pair b c) = refl
-  own-rhs w (Rule.Node a c) = refl
-  own-rhs w (Rule.Fill b c) = refl
-  own-rhs w (Rule.Part a b c) = refl
-  own-rhs w (Rule.Join b c) = refl
-
-  nodes-rhs : (w : ℕ → ℕ) (x : Rule) → nodesIn w (rhs r x E) ≡ sumOf (ownIn w (rhs r x E)) (λ k. nodesIn w (E k)) x
-  unfolding nodesIn ownIn sumOf rhs
+  nodes-rhs : (w : ℕ → ℕ) (x : Rule) → nodesIn w (rhs r x E) ≡ sumOf (ownOf w x) (λ k. nodesIn w (E k)) x
+  unfolding nodesIn ownOf sumOf rhs
   nodes-rhs w Rule.Empty = refl
   nodes-rhs w (Rule.Pair b c) = refl
   nodes-rhs w (Rule.Node a c) = refl
@@ -59,11 +49,7 @@ module _ (r : ℕ) (E : ℕ → Expression) where
   levels-rhs (Rule.Join b c) = refl
 
 module _ {t : List ℕ} {n : ℕ} {E : ℕ → Expression} (u : Unfolds t n E) where
-  pub own-recurs : (w : Weight) (d : ℕ → ℕ) → Recurs (Tally.Own w) t n d (λ k. ownIn (weightOf w) (E k))
-  unfolding tallyOf
-  own-recurs w d r below = rw (u .unfolds r below) (own-rhs r E (weightOf w) (ruleIn t r))
-
-  pub nodes-recurs : (w : ℕ → ℕ) → Recurs Tally.Sum t n (λ k. ownIn w (E k)) (λ k. nodesIn w (E k))
+  pub nodes-recurs : (w : ℕ → ℕ) → Recurs Tally.Sum t n (λ k. ownOf w (ruleIn t k)) (λ k. nodesIn w (E k))
   unfolding tallyOf
   nodes-recurs w r below = rw (u .unfolds r below) (nodes-rhs r E w (ruleIn t r))
 

@@ -3,15 +3,6 @@
 use Prim.Native.Nat.{ℕ, suc, _+_, max}
 use Rattle.forest.specs.Expression.{Expression}
 
--- the weight of the rule's own label, which a node and a part have
-unfoldable pub ownIn : (ℕ → ℕ) → Expression → ℕ
-ownIn w (Expression.empty r) = 0
-ownIn w (Expression.pair r b c) = 0
-ownIn w (Expression.node r a c) = w a
-ownIn w (Expression.fill r b c) = 0
-ownIn w (Expression.part r a b c) = w a
-ownIn w (Expression.join r b c) = 0
-
 -- the sum over all nodes of a weight that the label gives
 unfoldable pub nodesIn : (ℕ → ℕ) → Expression → ℕ
 nodesIn w (Expression.empty r) = 0

@@ -79,16 +79,3 @@ pub record RowTallied (what : Tally) (r help o : ℕ) (s t : List ℕ) : Type 0 
 pub record Tallied (what : Tally) (n help o : ℕ) (s t : List ℕ) : Type 0 where
   pub besides : Besides o countLength n s t
   pub column : (d f : ℕ → ℕ) → Recurs what s n d f → Helped what ((help + countLength ≤ o) × Column s help n d) → Column t o n f
-
--- the places of a row for counts: a helping column, and the column itself
-abbrev pub atHelp : ℕ
-atHelp = 10
-
-abbrev pub atCount : ℕ
-atCount = 20
-
--- after two passes, the first of which asks for no helping column: nothing has changed but those two columns, and the second
--- obeys its recurrence over the first
-pub record Counted (first second : Tally) (n : ℕ) (s t : List ℕ) : Type 0 where
-  pub besides : Besides atHelp (countLength + countLength) n s t
-  pub column : (d f : ℕ → ℕ) → Helped first ⊥ → Recurs first s n d d → Recurs second s n d f → Column t atCount n f

@@ -3,7 +3,7 @@
 use Prim.Native.Nat.{ℕ, suc, _+_, max}
 use mathlib.Core.Path.{_≡_, refl, ap, ap₂}
 use Rattle.rule.specs.declared.Rule.{Rule}
-use Rattle.rule.specs.Rule.{Names, pair-one, pair-two, node-one, fill-one, fill-two, part-one, part-two, join-one, join-two}
+use Rattle.rule.specs.Names.{Names, pair-one, pair-two, node-one, fill-one, fill-two, part-one, part-two, join-one, join-two}
 use Rattle.count_capped.specs.Count.{capped}
 use Rattle.count_rule.specs.ByRule.{sumOf, treesOf, depthOf, levelsOf}
 use Rattle.count_capped.proofs.Capped.{capped-plus, capped-plus-three, capped-max, capped-suc, capped-filled, capped-higher}

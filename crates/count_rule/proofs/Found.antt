@@ -4,7 +4,7 @@ use mathlib.Core.Path.{_≡_}
 use mathlib.Core.List.{List}
 use lib.ListN.{length}
 use Rattle.rule.specs.declared.Rule.{Rule}
-use Rattle.rule.specs.Rule.{Names}
+use Rattle.rule.specs.Names.{Names}
 use Rattle.work_rows.specs.Rows.{rowLength}
 use Rattle.count_capped.specs.Count.{countLength}
 use Rattle.count_rule.specs.ByRule.{Reach}

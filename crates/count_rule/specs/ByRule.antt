@@ -1,12 +1,12 @@
 -- The counts at the level of rules: what each count of a rule comes to, from what it and a helping count are for the rules that it
--- names. Each is one recurrence of counts/specs/Recurrence read off a right-hand side.
+-- names. Each is one recurrence of count_passes/specs/Recurrence read off a right-hand side.
 use Prim.Native.Nat.{ℕ, suc, _+_, _*_, _≤_, max}
 use mathlib.Core.List.{List}
 use lib.ListN.{length}
 use Rattle.rule.specs.declared.Rule.{Rule}
 use Rattle.forest.specs.Forest.{one}
 use Rattle.forest.specs.Outcome.{entry}
-use Rattle.rule.specs.Rule.{Names}
+use Rattle.rule.specs.Names.{Names}
 use Rattle.work_rows.specs.Rows.{rowLength}
 use Rattle.count_rule.specs.declared.Weight.{Weight}
 use Rattle.count_capped.specs.Count.{countLength}

@@ -29,36 +29,26 @@ pub fn own_weight(w: Weight, rule: Rule) -> u64
 {
     match rule {
         Rule::Empty => 0,
-        Rule::Pair {
-            first: _,
-            second: _,
-        } => 0,
-        Rule::Node { label, under: _ } => weight_of(w, label),
-        Rule::Fill { outer: _, inner: _ } => 0,
-        Rule::Part {
-            label,
-            left: _,
-            right: _,
-        } => weight_of(w, label),
-        Rule::Join { outer: _, inner: _ } => 0,
+        Rule::Pair { .. } => 0,
+        Rule::Node { label, .. } => weight_of(w, label),
+        Rule::Fill { .. } => 0,
+        Rule::Part { label, .. } => weight_of(w, label),
+        Rule::Join { .. } => 0,
     }
 }
 
 // The sum of a weight over a rule's nodes: its own weight and the sums of the rules that it names.
 pub fn sum(work: &[u8], o: usize, own: Count, rule: Rule) -> Count
     requires { ⌜ Reach (now work) o rule ⌝ }
-    ensures { λ x. ⌜ numberOf x ≡ capped (sumOf (numberOf own) (λ k. field countLength (now (work .entry)) k o) rule) ⌝ }
+    ensures { λ x.
+        ⌜ numberOf x ≡ capped (sumOf (numberOf own) (λ k. field countLength (now (work .entry)) k o) rule) ⌝ }
 {
     match rule {
         Rule::Empty => Count::of(0),
         Rule::Pair { first, second } => count_capped::both(work, o, first, second),
-        Rule::Node { label: _, under } => own.plus(count_capped::count_at(work, under, o)),
+        Rule::Node { under, .. } => own.plus(count_capped::count_at(work, under, o)),
         Rule::Fill { outer, inner } => count_capped::both(work, o, outer, inner),
-        Rule::Part {
-            label: _,
-            left,
-            right,
-        } => own.plus(count_capped::both(work, o, left, right)),
+        Rule::Part { left, right, .. } => own.plus(count_capped::both(work, o, left, right)),
         Rule::Join { outer, inner } => count_capped::both(work, o, outer, inner),
     }
 }
@@ -71,14 +61,10 @@ pub fn trees(work: &[u8], o: usize, rule: Rule) -> Count
     match rule {
         Rule::Empty => Count::of(0),
         Rule::Pair { first, second } => count_capped::both(work, o, first, second),
-        Rule::Node { label: _, under: _ } => Count::of(1),
-        Rule::Fill { outer: _, inner: _ } => Count::of(1),
-        Rule::Part {
-            label: _,
-            left: _,
-            right: _,
-        } => Count::of(1),
-        Rule::Join { outer: _, inner: _ } => Count::of(1),
+        Rule::Node { .. } => Count::of(1),
+        Rule::Fill { .. } => Count::of(1),
+        Rule::Part { .. } => Count::of(1),
+        Rule::Join { .. } => Count::of(1),
     }
 }
 
@@ -89,17 +75,10 @@ pub fn depth(work: &[u8], o: usize, rule: Rule) -> Count
 {
     match rule {
         Rule::Empty => Count::of(0),
-        Rule::Pair {
-            first: _,
-            second: _,
-        } => Count::of(0),
-        Rule::Node { label: _, under: _ } => Count::of(0),
-        Rule::Fill { outer: _, inner: _ } => Count::of(0),
-        Rule::Part {
-            label: _,
-            left: _,
-            right: _,
-        } => Count::of(1),
+        Rule::Pair { .. } => Count::of(0),
+        Rule::Node { .. } => Count::of(0),
+        Rule::Fill { .. } => Count::of(0),
+        Rule::Part { .. } => Count::of(1),
         Rule::Join { outer, inner } => count_capped::both(work, o, outer, inner),
     }
 }
@@ -107,7 +86,9 @@ pub fn depth(work: &[u8], o: usize, rule: Rule) -> Count
 // The levels of B with its hole filled by C: what fills the hole begins as deep as the hole lies.
 fn filled(work: &[u8], help: usize, o: usize, b: u16, c: u16) -> Count
     requires { ⌜ Between (now work) help o b c ⌝ }
-    ensures { λ x. ⌜ numberOf x ≡ capped (max (field countLength (now (work .entry)) b o) (field countLength (now (work .entry)) b help + field countLength (now (work .entry)) c o)) ⌝ }
+    ensures { λ x.
+        let t = now (work .entry) in
+        ⌜ numberOf x ≡ capped (max (field countLength t b o) (field countLength t b help + field countLength t c o)) ⌝ }
 {
     let inner = count_capped::count_at(work, b, help).plus(count_capped::count_at(work, c, o));
     count_capped::count_at(work, b, o).larger(inner)
@@ -116,18 +97,21 @@ fn filled(work: &[u8], help: usize, o: usize, b: u16, c: u16) -> Count
 // A rule's levels.
 pub fn levels(work: &[u8], help: usize, o: usize, rule: Rule) -> Count
     requires { ⌜ Reach (now work) help rule × Reach (now work) o rule ⌝ }
-    ensures { λ x. ⌜ numberOf x ≡ capped (levelsOf (λ k. field countLength (now (work .entry)) k help) (λ k. field countLength (now (work .entry)) k o) rule) ⌝ }
+    ensures { λ x.
+        let t = now (work .entry) in
+        ⌜ numberOf x ≡ capped (levelsOf (λ k. field countLength t k help) (λ k. field countLength t k o) rule) ⌝ }
 {
     match rule {
         Rule::Empty => Count::of(0),
         Rule::Pair { first, second } => count_capped::higher(work, o, first, second),
-        Rule::Node { label: _, under } => Count::of(1).plus(count_capped::count_at(work, under, o)),
+        Rule::Node { under, .. } => Count::of(1).plus(count_capped::count_at(work, under, o)),
         Rule::Fill { outer, inner } => filled(work, help, o, outer, inner),
-        Rule::Part {
-            label: _,
+        Rule::Part { left, right, .. } => Count::of(1).plus(count_capped::higher(
+            work,
+            o,
             left,
             right,
-        } => Count::of(1).plus(count_capped::higher(work, o, left, right)),
+        )),
         Rule::Join { outer, inner } => filled(work, help, o, outer, inner),
     }
 }

@@ -5,7 +5,7 @@ use lib.Dec.{ltb, ltb→lt}
 use Rattle.rule.specs.declared.Rule.{Rule}
 use Rattle.forest.specs.Place.{Side, pick}
 use Rattle.forest.proofs.Sides.{picked}
-use Rattle.rule.specs.Rule.{Names}
+use Rattle.rule.specs.Names.{Names}
 use Rattle.rule.proofs.Names.{every-named}
 use Rattle.facts.specs.Facts.{In}
 use Rattle.facts.specs.Build.{Steps, Made, Pairs, Ready}

@@ -1,9 +1,9 @@
 -- What is known of each rule, in its row behind the rule itself: whether it is empty, its representative, and for each side a link,
 -- the way of that side from the rule. Read back, the rows are facts as the walker knows them (`factsIn`).
-use Prim.Native.Nat.{ℕ, zero, suc, _+_, _-_, _/_, _≤_, _<_}
+use Prim.Native.Nat.{ℕ, suc, _+_, _-_, _/_, _≤_, _<_}
 use mathlib.Core.Path.{_≡_}
 use mathlib.Core.Bool.{true, cond}
-use mathlib.Core.List.{List, [], _∷_}
+use mathlib.Core.List.{List}
 use lib.ListN.{length}
 use lib.Dec.{eqb, ltb}
 use Rattle.rule.specs.declared.Rule.{Rule}
@@ -107,14 +107,6 @@ pub record FactsHeld (R : List Rule) (Done : ℕ → Type 0) (t : List ℕ) : Ty
 -- the rules below n
 abbrev pub Below : ℕ → ℕ → Type 0
 Below n r = r < n
-
--- the rules kept in n rows from row i on
-unfoldable pub keptFrom : List ℕ → ℕ → ℕ → List Rule
-keptFrom t i zero = []
-keptFrom t i (suc n) = ruleIn t i ∷ keptFrom t (suc i) n
-
-unfoldable pub kept : List ℕ → ℕ → List Rule
-kept t n = keptFrom t 0 n
 
 -- n rows hold the rules R, those below i what is true of them, and nothing beyond the n rows has changed
 pub record Built (R : List Rule) (n i : ℕ) (s t : List ℕ) : Type 0 where

@@ -32,7 +32,7 @@ pub fn outer_at(work: &[u8], a: u16) -> u16
     requires { ⌜ In (now work) a ⌝ }
     ensures { λ v. ⌜ v ≡ outer (factsIn (now (work .entry))) a ⌝ }
 {
-    let Rule::Fill { outer, inner: _ } = rule_at(work, a) else {
+    let Rule::Fill { outer, .. } = rule_at(work, a) else {
         return a;
     };
     outer
@@ -216,13 +216,9 @@ impl Link {
             Rule::Pair { first, second } => Link::of_pair(work, side, first, second),
             Rule::Join { outer, inner } => Link::from(work, side, side.pick(outer, inner)),
             Rule::Empty => Link::own(r),
-            Rule::Node { label: _, under: _ } => Link::own(r),
-            Rule::Fill { outer: _, inner: _ } => Link::own(r),
-            Rule::Part {
-                label: _,
-                left: _,
-                right: _,
-            } => Link::own(r),
+            Rule::Node { .. } => Link::own(r),
+            Rule::Fill { .. } => Link::own(r),
+            Rule::Part { .. } => Link::own(r),
         }
     }
 }
@@ -230,7 +226,10 @@ impl Link {
 // The rule on the way of a side from rule a whose longest run has h steps; a itself where its own has no more.
 fn level(work: &[u8], side: Side, a: u16, h: usize) -> u16
     requires { ⌜ Climbs (now work) × In (now work) a ⌝ }
-    ensures { λ r. ⌜ (r ≡ along (factsIn (now (work .entry))) (sideOf side) ((factsIn (now (work .entry))) .depth (sideOf side) a - h) a) × In (now (work .entry)) r ⌝ }
+    ensures { λ r.
+        let t = now (work .entry) in
+        let F = factsIn t in
+        ⌜ (r ≡ along F (sideOf side) (F .depth (sideOf side) a - h) a) × In t r ⌝ }
 {
     let mut x = a;
     while h < depth_at(work, side, x) as usize {

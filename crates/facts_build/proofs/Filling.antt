@@ -8,20 +8,20 @@ use lib.ListN.{length}
 use Rattle.rule.specs.declared.Rule.{Rule}
 use Rattle.rule.specs.Sound.{rule, Sound}
 use Rattle.forest.proofs.Unfold.{named-falls}
-use Rattle.rule.specs.Rule.{Names}
+use Rattle.rule.specs.Names.{Names}
 use Rattle.facts_build.specs.declared.RuleFacts.{RuleFacts}
-use Rattle.work_rows.specs.Rows.{rowLength, ownEnd, ruleIn, Holds, Within}
-use Rattle.facts.specs.Facts.{factsEnd, Below, Built, kept}
+use Rattle.work_rows.specs.Rows.{rowLength, ownEnd, ruleIn, Holds, Within, firstRules}
+use Rattle.facts.specs.Facts.{factsEnd, Below, Built}
 use Rattle.facts_build.specs.RuleFacts.{putRuleFacts, ruleFactsOf}
 use Rattle.facts.specs.Build.{Ready}
 use Rattle.work_rows.proofs.Rows.{within-none, within-both, within-wider}
-use Rattle.facts.proofs.Kept.{holds-kept}
+use Rattle.work_rows.proofs.Kept.{first-holds}
 use Rattle.facts_build.proofs.Written.{SmallFacts, within-putRuleFacts, ruleFactsIn-putRuleFacts, same-rule}
 use Rattle.facts_build.proofs.Held.{facts-held-none, facts-held-more, facts-true, facts-held-made}
 
 -- at first no row is true
-pub built-none : (s : List ℕ) (n : ℕ) → Built (kept s n) n 0 s s
-built-none s n = record { holds = holds-kept s n; facts-held = facts-held-none (kept s n) s; beyond = within-none 0 (rowLength * n) s }
+pub built-none : (s : List ℕ) (n : ℕ) → Built (firstRules s n) n 0 s s
+built-none s n = record { holds = first-holds s n; facts-held = facts-held-none (firstRules s n) s; beyond = within-none 0 (rowLength * n) s }
 
 module _ {R : List Rule} {n i : ℕ} {s t : List ℕ} (B : Built R n i s t) (S : Sound R (λ r. r)) (count : length R ≡ n) (few : n < 2 ^ 16)
     (i-below : i < n) (long : rowLength * n ≤ length s) where

@@ -16,7 +16,7 @@ use Rattle.forest.specs.Expression.{rhs, expression}
 use Rattle.forest.specs.Place.{Side, isEmpty, representative, pick}
 use Rattle.forest.proofs.Sides.{picked}
 use Rattle.forest.proofs.Unfold.{unfolding-equation}
-use Rattle.rule.specs.Rule.{Names}
+use Rattle.rule.specs.Names.{Names}
 use Rattle.model.specs.Facts.{Facts, factsOf}
 use Rattle.facts.specs.declared.Link.{Link}
 use Rattle.facts_build.specs.declared.RuleFacts.{RuleFacts}

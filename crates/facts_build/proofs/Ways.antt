@@ -13,7 +13,7 @@ use Rattle.forest.specs.Expression.{Expression, rhs, expression, ruleNumber}
 use Rattle.forest.specs.Place.{Side, isEmpty, representative, pick}
 use Rattle.forest.proofs.Sides.{picked}
 use Rattle.forest.proofs.Unfold.{named-below, named-falls, by-rank, unfolding-equation, ruleNumber-expression}
-use Rattle.rule.specs.Rule.{Names}
+use Rattle.rule.specs.Names.{Names}
 use Rattle.model.specs.Facts.{Facts, toward, last, depth, factsOf}
 use Rattle.forest.proofs.Cases.{by-bool}
 use Rattle.model.proofs.Fit.{pick-map}

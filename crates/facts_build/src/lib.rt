@@ -2,9 +2,9 @@
 ghost use mathlib.Core.Path.{_≡_};
 ghost use Prim.Native.Nat.{_*_, _≤_};
 ghost use lib.ListN.{length};
-ghost use Rattle.work_rows.specs.Rows.{rowLength};
+ghost use Rattle.work_rows.specs.Rows.{rowLength, firstRules};
 ghost use Rattle.rule.specs.Sound.{Sound};
-ghost use Rattle.facts.specs.Facts.{kept, Built, In};
+ghost use Rattle.facts.specs.Facts.{Built, In};
 ghost use Rattle.facts_build.specs.RuleFacts.{flag, putRuleFacts, emptyOf, representativeOf, ruleFactsOf};
 ghost use Rattle.facts.specs.Build.{Ready};
 use facts::Link;
@@ -36,14 +36,10 @@ impl RuleFacts {
             Rule::Empty => true,
             Rule::Pair { first, second } => facts::is_empty_at(work, first)
                 & facts::is_empty_at(work, second),
-            Rule::Node { label: _, under: _ } => false,
-            Rule::Fill { outer: _, inner: _ } => false,
-            Rule::Part {
-                label: _,
-                left: _,
-                right: _,
-            } => false,
-            Rule::Join { outer: _, inner: _ } => false,
+            Rule::Node { .. } => false,
+            Rule::Fill { .. } => false,
+            Rule::Part { .. } => false,
+            Rule::Join { .. } => false,
         }
     }
 
@@ -63,14 +59,10 @@ impl RuleFacts {
                 r
             }
             Rule::Empty => r,
-            Rule::Node { label: _, under: _ } => r,
-            Rule::Fill { outer: _, inner: _ } => r,
-            Rule::Part {
-                label: _,
-                left: _,
-                right: _,
-            } => r,
-            Rule::Join { outer: _, inner: _ } => r,
+            Rule::Node { .. } => r,
+            Rule::Fill { .. } => r,
+            Rule::Part { .. } => r,
+            Rule::Join { .. } => r,
         }
     }
 
@@ -101,8 +93,8 @@ impl RuleFacts {
 
 // What is known of each of n rules, into their rows, from rule 0 up: a rule names only lower ones.
 pub fn build(work: &mut [u8], n: u16)
-    requires { ⌜ (rowLength * n ≤ length (now work)) × Sound (kept (now work) n) (λ r. r) ⌝ }
-    ensures { λ x. ⌜ Built (kept (now (work .entry)) n) n n (now (work .entry)) (now (work .exit)) ⌝ }
+    requires { ⌜ (rowLength * n ≤ length (now work)) × Sound (firstRules (now work) n) (λ r. r) ⌝ }
+    ensures { λ x. ⌜ Built (firstRules (now (work .entry)) n) n n (now (work .entry)) (now (work .exit)) ⌝ }
 {
     let mut i: u16 = 0;
     while i < n {

@@ -13,7 +13,7 @@ use Rattle.forest.specs.Forest.{Forest, append}
 use Rattle.forest.specs.Place.{Cells, Placed, Side, cellRun, cellRow, cellSpine, rowOfPart, rowOfNode, isEmpty, representative, step, placed, placedOf, placedForest}
 use Rattle.forest.proofs.Each.{Each, each-append}
 use Rattle.forest.proofs.Unfold.{by-rank, unfolding-equation}
-use Rattle.rule.specs.Rule.{Names}
+use Rattle.rule.specs.Names.{Names}
 use Rattle.forest.proofs.Stored.{Fitting, AllFitting}
 
 -- every rule number in an expression is below N

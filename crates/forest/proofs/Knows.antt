@@ -6,9 +6,9 @@ use mathlib.Core.Path.{_≡_, refl, sym, _∙_, ap₂}
 use mathlib.Core.Option.{Option}
 use Rattle.forest.specs.Expression.{Expression}
 use Rattle.forest.specs.Forest.{Forest, append}
-use Rattle.forest.specs.Place.{Side, isEmpty, other, pick, orElse}
+use Rattle.forest.specs.Place.{Side, isEmpty, other, pick}
+use Rattle.forest.specs.Position.{orElse, Position, Located, located, locatedOf, opened, lastPart, enter, inward, partAt, outward, leave, rowParent, child, besideHole}
 use Rattle.forest.specs.Good.{Sort, Good}
-use Rattle.forest.specs.Position.{Position, Located, located, locatedOf, opened, lastPart, enter, inward, partAt, outward, leave, rowParent, child, besideHole}
 use Rattle.forest.proofs.Cases.{by-bool}
 use Rattle.forest.proofs.Neighbours.{Knows, edge, edge-around, knows-around, or-none}
 use Rattle.forest.proofs.Holes.{positions, One, one, Fills, opened-outward, last-part, last-inward, parent-hole, sibling-hole, opened-spine-outward}

@@ -5,7 +5,8 @@ use mathlib.Core.List.{List}
 use lib.ListN.{length}
 use lib.Dec.{T, leb→le}
 use Rattle.rule.specs.declared.Rule.{Rule}
-use Rattle.rule.specs.Rule.{labelled, largestLabel, Names}
+use Rattle.rule.specs.Rule.{labelled, largestLabel}
+use Rattle.rule.specs.Names.{Names}
 use Rattle.rule.specs.Sound.{rule, Sound}
 use Rattle.forest.specs.Expression.{Expression, rhs, expression}
 use Rattle.forest.specs.Algebra.{Hedge, x, _·_, _⟨_⟩, single, value}

@@ -8,11 +8,11 @@ use mathlib.Core.List.{[], _∷_}
 use mathlib.Core.Option.{Option, some, Option·none-ne-some, Option·some-ne-none}
 use lib.Dec.{leb, leb·zero, leb·suc-zero, leb·suc-suc}
 use Rattle.forest.specs.Forest.{Forest, count}
-use Rattle.forest.specs.Place.{Side, orElse}
+use Rattle.forest.specs.Place.{Side}
+use Rattle.forest.specs.Position.{orElse, above, node, Named}
 use Rattle.forest.specs.Letter.{Letter, isRoot}
 use Rattle.forest.specs.Reference.{Path, later, from, below, top, childrenAt, labelAt, shifted, tried, isAbove, answer}
 use Rattle.forest.specs.Reason.{Reason, hasNone, atEnd, reasonAt, reasonAbove, reason}
-use Rattle.forest.specs.Position.{above, node, Named}
 use Rattle.forest.proofs.Neighbours.{edge, top-end, answer-edge}
 use Rattle.forest.proofs.Reach.{earlier, parent-named}
 

@@ -6,9 +6,9 @@ use mathlib.Core.Bool.{true, false, true≢false}
 use mathlib.Core.Option.{Option, some}
 use Rattle.forest.specs.Expression.{Expression}
 use Rattle.forest.specs.Forest.{Forest, append}
-use Rattle.forest.specs.Place.{Side, isEmpty, pick, orElse}
+use Rattle.forest.specs.Place.{Side, isEmpty, pick}
+use Rattle.forest.specs.Position.{orElse, Position, Located, located, opened, enter, partAt, outward, rowOf, leave, rowParent}
 use Rattle.forest.specs.Good.{Sort, Good}
-use Rattle.forest.specs.Position.{Position, Located, located, opened, enter, partAt, outward, rowOf, leave, rowParent}
 use Rattle.forest.proofs.Cases.{by-bool}
 use Rattle.forest.proofs.Neighbours.{Knows, edge, edge-append, knows-append}
 use Rattle.forest.proofs.Holes.{positions, One, opened-outward, opened-row, parent-row, sibling-row}

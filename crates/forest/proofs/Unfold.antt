@@ -9,7 +9,8 @@ use mathlib.Core.List.{List}
 use lib.ListN.{length}
 use lib.Dec.{T, ltb, ltb→lt}
 use Rattle.rule.specs.declared.Rule.{Rule}
-use Rattle.rule.specs.Rule.{encode, every, sorts, closed, holed, tree, Names, node-one, pair-one, part-one, fill-one, pair-two, fill-two, part-two, join-one, join-two}
+use Rattle.rule.specs.Rule.{encode, every, sorts, closed, holed, tree}
+use Rattle.rule.specs.Names.{Names, node-one, pair-one, part-one, fill-one, pair-two, fill-two, part-two, join-one, join-two}
 use Rattle.rule.specs.Sound.{rule, kindIn, Sound, Closed}
 use Rattle.rule.proofs.Names.{T-left, T-right, every-named}
 use Rattle.forest.specs.Expression.{Expression, rhs, unfolded, expression, Unfolding, ruleNumber}

@@ -2,7 +2,6 @@
 use Prim.Native.Nat.{ℕ, _-_}
 use mathlib.Core.Bool.{Bool, true, false, cond, _&&_}
 use mathlib.Core.List.{List, [], _∷_}
-use mathlib.Core.Option.{Option, none, some}
 use lib.ListN.{length, drop}
 use lib.Dec.{eqb}
 use Rattle.rule.specs.declared.Rule.{Rule}
@@ -69,11 +68,6 @@ representative (Expression.node r a c) = r
 representative (Expression.fill r b c) = r
 representative (Expression.part r a b c) = r
 representative (Expression.join r b c) = r
-
--- the first of two nodes that there is
-unfoldable pub orElse : {A : Type 0} → Option A → Option A → Option A
-orElse none y = y
-orElse (some x) y = some x
 
 -- one step from rule a to rule b: a run of the same direction on top grows, so that runs are longest; else a run begins
 unfoldable pub step : Side → ℕ → ℕ → Cells → Cells

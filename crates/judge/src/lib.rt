@@ -63,13 +63,9 @@ fn lower(rule: Rule, i: u16) -> bool
     match rule {
         Rule::Empty => true,
         Rule::Pair { first, second } => (first < i) & (second < i),
-        Rule::Node { label: _, under } => under < i,
+        Rule::Node { under, .. } => under < i,
         Rule::Fill { outer, inner } => (outer < i) & (inner < i),
-        Rule::Part {
-            label: _,
-            left,
-            right,
-        } => (left < i) & (right < i),
+        Rule::Part { left, right, .. } => (left < i) & (right < i),
         Rule::Join { outer, inner } => (outer < i) & (inner < i),
     }
 }
@@ -85,12 +81,12 @@ fn sorted(rule: Rule, s: &[u8], first: usize, n: u16) -> bool
             first: b,
             second: c,
         } => closed_at(s, first, n, b) & closed_at(s, first, n, c),
-        Rule::Node { label: _, under: c } => closed_at(s, first, n, c),
+        Rule::Node { under: c, .. } => closed_at(s, first, n, c),
         Rule::Fill { outer: b, inner: c } => holed_at(s, first, n, b) & tree_at(s, first, n, c),
         Rule::Part {
-            label: _,
             left: b,
             right: c,
+            ..
         } => closed_at(s, first, n, b) & closed_at(s, first, n, c),
         Rule::Join { outer: b, inner: c } => holed_at(s, first, n, b) & holed_at(s, first, n, c),
     }
@@ -98,7 +94,9 @@ fn sorted(rule: Rule, s: &[u8], first: usize, n: u16) -> bool
 
 // Refusals 5 and 6 of rule i, from whether the rules that it names are lower and of the right sort.
 fn judge_names(i: usize, lower: bool, sorted: bool) -> Judged
-    ensures { λ r. ⌜ r ≡ cond lower (cond sorted Judged.Fine (Judged.Refused (Refusal.WrongSort i))) (Judged.Refused (Refusal.NotLower i)) ⌝ }
+    ensures { λ r.
+        ⌜ r ≡ cond lower (cond sorted Judged.Fine (Judged.Refused (Refusal.WrongSort i)))
+        (Judged.Refused (Refusal.NotLower i)) ⌝ }
 {
     if !lower {
         return Judged::Refused(Refusal::NotLower(i));

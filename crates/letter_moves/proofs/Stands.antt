@@ -22,7 +22,7 @@ use Rattle.model.proofs.Rules.{Agrees, facts-agree}
 use Rattle.model.proofs.Ranged.{Numbers}
 use Rattle.facts.specs.Facts.{rowCount, In, factsIn}
 use Rattle.work_rows.proofs.Rows.{within-none, within-wider}
-use Rattle.facts.proofs.Kept.{length-kept}
+use Rattle.work_rows.proofs.Kept.{first-length}
 use Rattle.letter_arrival.specs.declared.Landing.{Landing}
 use Rattle.facts.specs.Closes.{Closes}
 use Rattle.move_parts.specs.Moves.{Held, Kept, Node-has, Each, Fits}
@@ -50,7 +50,7 @@ none-small = omega arith
 
 module _ {r : ℕ} {t : List ℕ} (T : WalkedRows r t) where
   count : length (rulesKept t) ≡ rowCount t
-  count = length-kept t (rowCount t)
+  count = first-length t (rowCount t)
 
   -- what its rows name has rows
   pub rows-held : Closes t

@@ -15,8 +15,8 @@ use Rattle.model.specs.Facts.{factsOf}
 use Rattle.model.specs.Model.{Node}
 use Rattle.model.specs.Walk.{answer, move, moved}
 use Rattle.model.specs.Same.{Same}
-use Rattle.work_rows.specs.Rows.{Within}
-use Rattle.facts.specs.Facts.{rowCount, factsIn, kept, Climbs}
+use Rattle.work_rows.specs.Rows.{Within, firstRules}
+use Rattle.facts.specs.Facts.{rowCount, factsIn, Climbs}
 use Rattle.letter_arrival.specs.declared.Landing.{Landing}
 use Rattle.place_cells.specs.Cells.{placeLength}
 
@@ -27,7 +27,7 @@ pub record Valid (R : List Rule) (r : ℕ) (n : Node) : Type 0 where
 
 -- the rules that a table keeps
 abbrev pub rulesKept : List ℕ → List Rule
-rulesKept t = kept t (rowCount t)
+rulesKept t = firstRules t (rowCount t)
 
 -- the table of a sound plan's rules, of which the closed rule r is walked
 pub record WalkedRows (r : ℕ) (t : List ℕ) : Type 0 where

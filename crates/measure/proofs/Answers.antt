@@ -1,5 +1,5 @@
--- The flag of the nodes' count tells 2^64 or more, and where it
--- is clear every count is exact, trees and levels being at most as many as nodes, and entries as many. Assumes nothing.
+-- The flag of the nodes' count tells 2^64 or more, and where it is clear every count is exact, trees, entries and levels being at most as
+-- many as nodes. Assumes nothing.
 use Prim.Native.Nat.{ℕ, _^_, _≤_, _<_}
 use native.Mathlib.Omega.{arith}
 use mathlib.Core.Path.{_≡_}
@@ -13,13 +13,12 @@ use Rattle.forest.specs.Outcome.{counted, entry}
 use Rattle.forest.proofs.Counts.{count-nodes, levels-nodes}
 use Rattle.work_rows.proofs.Rows.{within-both}
 use Rattle.count_capped.specs.declared.Count.{Count}
-use Rattle.count_passes.specs.declared.Tally.{Tally}
 use Rattle.count_rule.specs.declared.Weight.{Weight}
 use Rattle.count_capped.specs.Count.{capped, limit, numberOf}
 use Rattle.count_rule.specs.ByRule.{weightOf}
-use Rattle.count_passes.specs.Total.{Totalled}
+use Rattle.count_passes.specs.Total.{Counts}
 use Rattle.count_passes.proofs.Meaning.{entries-nodes}
-use Rattle.count_passes.proofs.Totals.{unfolds-after, nodes-total, trees-total, levels-total}
+use Rattle.count_passes.proofs.Totals.{unfolds-after}
 use Rattle.measure.specs.Answer.{Answered}
 
 -- the flag, and the answer
@@ -39,27 +38,26 @@ counted-exact g n t e l clear fits p q r s =
     rw (lt-ltb (weigh one g) (2 ^ 64) few)
     (rw (exact t (count g) q (omega (arith, count-nodes g)), exact e (weigh entry g) r (omega (arith, entries-nodes g)), exact l (levels g) s (omega (arith, levels-nodes g))))
 
--- the answers: at the flag, and after the last total
+-- the answers: at the flag, and after the last count
 module _ {n r : ℕ} where
-  pub answered-over : {s t : List ℕ} (c : Count) → Totalled (Tally.Own Weight.Node) Tally.Sum n r c s t → (c .over ≡ 0 → ⊥)
+  pub answered-over : {s t : List ℕ} (c : Count) → Counts (weigh (weightOf Weight.Node)) n r c s t → (c .over ≡ 0 → ⊥)
       → Answered n r (Measured.Refused Refusal.Room) s t
   unfolding weightOf
   answered-over c p over =
       record {
-        beyond = p .passes .besides .beyond;
-        answer = λ E u g. counted-over (trees (value (E r))) c over (nodes-total u g Weight.Node p);
+        beyond = p .besides .beyond;
+        answer = λ E u g. counted-over (trees (value (E r))) c over (p .count E u g);
       }
 
-  pub answered-exact : {s t₁ t₂ t₃ t : List ℕ} (c a b d : Count) → Totalled (Tally.Own Weight.Node) Tally.Sum n r c s t₁ → c .over ≡ 0 → c .low < limit
-      → Totalled (Tally.Own Weight.Entry) Tally.Sum n r a t₁ t₂ → Totalled (Tally.Own Weight.Node) Tally.Trees n r b t₂ t₃
-      → Totalled Tally.Depth Tally.Levels n r d t₃ t → Answered n r (Measured.Counts (b .low) (a .low) (d .low)) s t
+  pub answered-exact : {s t₁ t₂ t₃ t : List ℕ} (c a b d : Count) → Counts (weigh (weightOf Weight.Node)) n r c s t₁ → c .over ≡ 0 → c .low < limit
+      → Counts (weigh (weightOf Weight.Entry)) n r a t₁ t₂ → Counts count n r b t₂ t₃ → Counts levels n r d t₃ t
+      → Answered n r (Measured.Counts (b .low) (a .low) (d .low)) s t
   unfolding weightOf
   answered-exact c a b d p clear fits q x y =
       record {
-        beyond = within-both (p .passes .besides .beyond) (within-both (q .passes .besides .beyond) (within-both (x .passes .besides .beyond) (y .passes .besides .beyond)));
+        beyond = within-both (p .besides .beyond) (within-both (q .besides .beyond) (within-both (x .besides .beyond) (y .besides .beyond)));
         answer = λ E u g.
-            counted-exact (trees (value (E r))) c b a d clear fits (nodes-total u g Weight.Node p)
-            (trees-total (unfolds-after q (unfolds-after p u)) g Weight.Node x)
-            (nodes-total (unfolds-after p u) g Weight.Entry q)
-            (levels-total (unfolds-after x (unfolds-after q (unfolds-after p u))) g y);
+            let v = unfolds-after p u in
+            let w = unfolds-after q v in
+            counted-exact (trees (value (E r))) c b a d clear fits (p .count E u g) (x .count E w g) (q .count E v g) (y .count E (unfolds-after x w) g);
       }

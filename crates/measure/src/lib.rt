@@ -3,7 +3,6 @@ ghost use mathlib.Core.Path.{_≡_};
 ghost use Rattle.forest.specs.Outcome.{measured, measuredWork};
 ghost use Rattle.count_passes.specs.Total.{Startable};
 ghost use Rattle.measure.specs.Answer.{Answered};
-use count_passes::Tally;
 use count_rule::Weight;
 use forest::Measured;
 use plan::Checked;
@@ -14,13 +13,13 @@ fn answer(work: &mut [u8], n: u16, r: u16) -> Measured
     requires { ⌜ Startable (now work) n r ⌝ }
     ensures { λ x. ⌜ Answered n r x (now (work .entry)) (now (work .exit)) ⌝ }
 {
-    let nodes = count_passes::total(work, n, r, Tally::Own(Weight::Node), Tally::Sum);
+    let nodes = count_passes::total(work, n, r, Weight::Node);
     if nodes.over != 0 {
         return Measured::Refused(Refusal::Room);
     }
-    let entries = count_passes::total(work, n, r, Tally::Own(Weight::Entry), Tally::Sum);
-    let trees = count_passes::total(work, n, r, Tally::Own(Weight::Node), Tally::Trees);
-    let levels = count_passes::total(work, n, r, Tally::Depth, Tally::Levels);
+    let entries = count_passes::total(work, n, r, Weight::Entry);
+    let trees = count_passes::trees(work, n, r);
+    let levels = count_passes::levels(work, n, r);
     Measured::Counts {
         trees: trees.low,
         entries: entries.low,
@@ -30,7 +29,8 @@ fn answer(work: &mut [u8], n: u16, r: u16) -> Measured
 
 // Measure a plan: its trees, entries (all nodes) and levels, or why it is turned down.
 pub fn measure(plan: &[u8], work: &mut [u8]) -> Measured
-    ensures { λ x. ⌜ (x ≡ measured (now (plan .entry)) (now (work .entry))) × (now (work .exit) ≡ measuredWork (now (plan .entry)) (now (work .entry))) ⌝ }
+    ensures { λ x. ⌜ (x ≡ measured (now (plan .entry)) (now (work .entry)))
+        × (now (work .exit) ≡ measuredWork (now (plan .entry)) (now (work .entry))) ⌝ }
 {
     match work_load::load_plan(plan, work) {
         Checked::Accepted { n, start } => {

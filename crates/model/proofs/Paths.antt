@@ -8,12 +8,12 @@ use mathlib.Core.Option.{Option, none, some, Option·map, Option·none-ne-some, 
 use lib.ListN.{length}
 use lib.Dec.{eqb}
 use Rattle.forest.specs.Expression.{Expression, ruleNumber}
-use Rattle.forest.specs.Place.{Cells, Placed, Side, cellRun, representative, step, placedOf, firstCells, pick, orElse}
+use Rattle.forest.specs.Place.{Cells, Placed, Side, cellRun, representative, step, placedOf, firstCells, pick}
+use Rattle.forest.specs.Position.{orElse, Position, Located, cells, locatedOf, Named}
 use Rattle.forest.specs.Letter.{Letter, isRoot}
 use Rattle.forest.specs.Reference.{Path, labelAt, isAbove, answer, moved}
 use Rattle.forest.specs.Walk.{placeAt, cellsOf}
 use Rattle.forest.specs.Good.{Sort, Good}
-use Rattle.forest.specs.Position.{Position, Located, cells, locatedOf, Named}
 use Rattle.forest.proofs.Cases.{by-option}
 use Rattle.forest.proofs.Steps.{moved-nowhere, answer-label}
 use Rattle.forest.proofs.Finger.{answer-root, answer-child, answer-sibling, answer-parent, answer-stay, placed-labelAt, placed-moved}

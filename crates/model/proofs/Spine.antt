@@ -6,10 +6,10 @@ use mathlib.Core.Path.{_≡_, refl}
 use mathlib.Core.List.{_∷_}
 use mathlib.Core.Option.{Option, none, some, Option·map}
 use Rattle.forest.specs.Expression.{Expression, ruleNumber}
-use Rattle.forest.specs.Place.{Cells, Side, cellSpine, cellRun, representative, pick, orElse, other}
+use Rattle.forest.specs.Place.{Cells, Side, cellSpine, cellRun, representative, pick, other}
+use Rattle.forest.specs.Position.{orElse, Position, Located, At, Where, cells, continues}
 use Rattle.forest.specs.Good.{Sort}
 use Rattle.forest.specs.Position as P
-use Rattle.forest.specs.Position.{Position, Located, At, Where, cells, continues}
 use Rattle.model.specs.Facts.{Facts}
 use Rattle.model.specs.Model as M
 use Rattle.model.specs.Model.{Node, popRun, besideTop, turned, continuing, innerOf, under, tail, isPart}

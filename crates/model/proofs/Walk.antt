@@ -6,11 +6,11 @@ use mathlib.Core.Path.{_≡_, refl, ap, ap₂}
 use mathlib.Core.List.{List, [], _∷_}
 use mathlib.Core.Option.{Option, none, some, Option·map, Option·getD}
 use Rattle.forest.specs.Expression.{Expression, ruleNumber}
-use Rattle.forest.specs.Place.{Cells, orElse}
+use Rattle.forest.specs.Place.{Cells}
+use Rattle.forest.specs.Position.{orElse, Position, Located, At, Where, cells, labelOf}
 use Rattle.forest.specs.Letter.{Letter}
 use Rattle.forest.specs.Good.{Sort}
 use Rattle.forest.specs.Position as P
-use Rattle.forest.specs.Position.{Position, Located, At, Where, cells, labelOf}
 use Rattle.model.specs.Facts.{Facts}
 use Rattle.model.specs.Model.{Node, standing}
 use Rattle.model.specs.Same.{Same, above, at}

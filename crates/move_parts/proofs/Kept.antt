@@ -10,7 +10,8 @@ use mathlib.Core.Option.{Option, none, some, Option·map}
 use lib.Dec.{eqb, leb}
 use borrow.Author.Tests.{eqb-true}
 use Rattle.rule.specs.declared.Rule.{Rule}
-use Rattle.forest.specs.Place.{Cell, Cells, Side, cellRow, cellSpine, cellRun, rowOfNode, rowOfPart, step, other, pick, orElse}
+use Rattle.forest.specs.Place.{Cell, Cells, Side, cellRow, cellSpine, cellRun, rowOfNode, rowOfPart, step, other, pick}
+use Rattle.forest.specs.Position.{orElse}
 use Rattle.forest.proofs.Sides.{picked}
 use Rattle.model.specs.Facts.{Facts}
 use Rattle.model.specs.Model.{Node, oneAbove, outer, innerOf, standing, tail, popRun, run, shrunk, turned, besideTop, beside, opened, enter, continuing, inward, under, partAt, isPart, outward, ended, follow, child, childOf, besideHole, sibling, siblingFrom, belowRow, nodeAt, parent, root}

@@ -7,7 +7,8 @@ use mathlib.Core.List.{List, _∷_}
 use mathlib.Core.Option.{Option, none, some, Option·map}
 use lib.Dec.{eqb}
 use borrow.Author.Tests.{eq-eqb, ne-eqb}
-use Rattle.forest.specs.Place.{Cells, Side, cellRow, cellSpine, cellRun, rowOfPart, other, orElse}
+use Rattle.forest.specs.Place.{Cells, Side, cellRow, cellSpine, cellRun, rowOfPart, other}
+use Rattle.forest.specs.Position.{orElse}
 use Rattle.forest.specs.Walk.{cellAt, cellsIn}
 use Rattle.model.specs.Facts.{Facts}
 use Rattle.model.specs.Model.{Node, outer, innerOf, standing, tail, popRun, besideTop, beside, opened, enter, continuing, inward, under, partAt, isPart, outward, ended, follow, besideHole, sibling, siblingFrom, belowRow, nodeAt, parent}

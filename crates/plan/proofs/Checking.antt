@@ -15,17 +15,17 @@ use Rattle.record.specs.Record.{recordLength}
 use Rattle.record.specs.Records.{recordsFrom}
 use Rattle.judge.specs.Judge.{judged}
 use Rattle.plan.specs.declared.Checked.{Checked}
-use Rattle.plan.specs.Check.{trailerLength, trailerAt, countOf, startOf, distanceOf, marked, firstAt, recordsOf, accepted, inLimits, checkedUpTo}
+use Rattle.plan.specs.Check.{trailerLength, atMark, magic, trailerAt, countOf, startOf, distanceOf, marked, firstAt, recordsOf, accepted, inLimits, checkedUpTo}
 
 -- the two mark bytes
 pub marked-bytes : (s : List ℕ) → trailerLength ≤ length s
-    → marked s ≡ (eqb (getD s (length s - trailerLength + 8) 0) 0x6d && eqb (getD s (length s - trailerLength + 8 + 1) 0) 0x70)
+    → marked s ≡ (eqb (getD s (length s - trailerLength + atMark) 0) (getD magic 0 0) && eqb (getD s (length s - trailerLength + atMark + 1) 0) (getD magic 1 0))
 unfolding marked
 marked-bytes s long =
-    let k : ℕ = length s - trailerLength + 8 in
+    let k : ℕ = length s - trailerLength + atMark in
     let next : k + 1 ≡ suc k = omega arith in
     rw (drop-cons s k 0 (omega arith), drop-cons s (suc k) 0 (omega arith), drop-of-length-le s {i = suc (suc k)} (omega arith), next)
-    (ap (λ (b : Bool). eqb (getD s k 0) 0x6d && b) (and-true (eqb (getD s (suc k) 0) 0x70)))
+    (ap (λ (b : Bool). eqb (getD s k 0) (getD magic 0 0) && b) (and-true (eqb (getD s (suc k) 0) (getD magic 1 0))))
 
 -- a distance that passes its test is that of n rules, and doesn't go back too far
 pub reached : (distance n end : ℕ) → (eqb distance (recordLength * n) && leb distance end) ≡ true → (distance ≡ recordLength * n) × (distance ≤ end)

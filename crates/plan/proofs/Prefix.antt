@@ -18,7 +18,7 @@ use Rattle.plan.specs.declared.Checked.{Checked}
 use Rattle.record.specs.Record.{recordLength}
 use Rattle.record.specs.Records.{recordsFrom}
 use Rattle.rule.specs.Rule.{rulesIn}
-use Rattle.plan.specs.Check.{trailerLength, magic, trailerAt, countOf, startOf, distanceOf, same, marked, firstAt, recordsOf, rulesOf, inLimits, checkedUpTo}
+use Rattle.plan.specs.Check.{trailerLength, atStart, atDistance, atMark, magic, trailerAt, countOf, startOf, distanceOf, same, marked, firstAt, recordsOf, rulesOf, inLimits, checkedUpTo}
 use Rattle.plan.proofs.Sound.{accepted-plan, answer, checked-answer}
 use Rattle.record.proofs.Records.{records-after}
 
@@ -39,18 +39,18 @@ module _ (p s : List ℕ) (long : trailerLength ≤ length s) where
 
   pub prefix-start : startOf (p ++ s) ≡ startOf s
   unfolding startOf
-  prefix-start = field 2 2
+  prefix-start = field 2 atStart
 
   pub prefix-distance : distanceOf (p ++ s) ≡ distanceOf s
   unfolding distanceOf
-  prefix-distance = field 4 4
+  prefix-distance = field 4 atDistance
 
   pub prefix-marked : marked (p ++ s) ≡ marked s
   unfolding marked
   prefix-marked =
       ap (λ (l : List ℕ). same l magic)
-      (ap (λ (k : ℕ). drop k (p ++ s)) (ap (λ (x : ℕ). x + 8) prefix-trailerAt ∙ add-assoc (length p) (trailerAt s) 8)
-      ∙ drop-append-add p s (trailerAt s + 8))
+      (ap (λ (k : ℕ). drop k (p ++ s)) (ap (λ (x : ℕ). x + atMark) prefix-trailerAt ∙ add-assoc (length p) (trailerAt s) atMark)
+      ∙ drop-append-add p s (trailerAt s + atMark))
 
   module _ (within : distanceOf s ≤ trailerAt s) where
     pub prefix-records : recordsOf (p ++ s) ≡ recordsOf s

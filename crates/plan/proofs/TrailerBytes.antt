@@ -5,18 +5,18 @@ use mathlib.Core.Bool.{true, and-eq-true-iff}
 use mathlib.Core.List.{List, [], _∷_, _++_, append-assoc}
 use mathlib.Core.Path.{_≡_, refl, sym, ap, ap₂, _∙_}
 use native.Mathlib.Nat.{add-zero}
-use native.Mathlib.Numerals.{add-one, add-two, add-four, add-eight}
+use native.Mathlib.Numerals.{add-two, add-four, add-eight}
 use native.Mathlib.Omega.{arith}
 use lib.Dec.{leb, eqb}
-use lib.ListN.{length, take, drop, set, length-append, length-drop}
-use lib.Seq.{sets-eq, drop-append-add, take-append-seam, take-all}
+use lib.ListN.{length, take, drop, length-append, length-drop}
+use lib.Seq.{sets, sets-eq, drop-append-add, take-append-seam, take-all}
 use borrow.Author.Tests.{le-leb, eq-eqb, eqb-true}
 use Rattle.words.specs.Number.{number, bytes, base, put}
 use Rattle.words.proofs.Laws.{number-after, number-bytes}
 use Rattle.record.specs.Record.{recordLength}
 use Rattle.record.specs.Records.{recordsFrom}
 use Rattle.judge.specs.Judge.{judged}
-use Rattle.plan.specs.Check.{trailerLength, magic, trailerBytes, trailerAt, countOf, startOf, distanceOf, same, marked, firstAt, recordsOf, accepted, inLimits, checkedUpTo}
+use Rattle.plan.specs.Check.{trailerLength, atStart, atDistance, atMark, magic, trailerBytes, trailerAt, countOf, startOf, distanceOf, same, marked, firstAt, recordsOf, accepted, inLimits, checkedUpTo}
 use Rattle.plan.proofs.Sound.{answer, checked-answer}
 use Rattle.record.proofs.RecordBytes.{Bytes, records-take, read-part}
 
@@ -26,11 +26,11 @@ length-trailerBytes n start = refl
 
 -- the trailer's numbers and its mark, stored one after the other
 pub put-trailer : (s : List ℕ) (at n start : ℕ) → at + trailerLength ≤ length s
-    → set (set (put 4 (put 2 (put 2 s at n) (at + 2) start) (at + 4) (recordLength * n)) (at + 8) 0x6d) (at + 8 + 1) 0x70
+    → sets (put 4 (put 2 (put 2 s at n) (at + atStart) start) (at + atDistance) (recordLength * n)) (at + atMark) magic
     ≡ take at s ++ (trailerBytes n start ++ drop (at + trailerLength) s)
 unfolding put trailerBytes
 put-trailer s at n start h =
-    rw (add-one (at + 8), add-two at, add-four at, add-eight at)
+    rw (add-two at, add-four at, add-eight at)
     (sets-eq (trailerBytes n start) s at h ∙ append-assoc (take at s) (trailerBytes n start) (drop (at + trailerLength) s))
 
 -- ---- what check reads after the bytes f of n rules, from the trailer that seal writes
@@ -51,17 +51,17 @@ module _ (f : List ℕ) (n start : ℕ) where
 
   written-start : start < base ^ 2 → startOf (f ++ trailerBytes n start) ≡ start
   unfolding startOf trailerBytes
-  written-start h = field 2 2 ∙ number-bytes 2 start (bytes 2 n) (bytes 4 (recordLength * n) ++ magic) 2 refl h
+  written-start h = field 2 atStart ∙ number-bytes 2 start (bytes 2 n) (bytes 4 (recordLength * n) ++ magic) 2 refl h
 
   written-distance : n < base ^ 2 → distanceOf (f ++ trailerBytes n start) ≡ recordLength * n
   unfolding distanceOf trailerBytes
-  written-distance h = field 4 4 ∙ number-bytes 4 (recordLength * n) (bytes 2 n ++ bytes 2 start) magic 4 refl (omega arith)
+  written-distance h = field 4 atDistance ∙ number-bytes 4 (recordLength * n) (bytes 2 n ++ bytes 2 start) magic 4 refl (omega arith)
 
   written-mark : marked (f ++ trailerBytes n start) ≡ true
   unfolding marked trailerBytes
   written-mark =
-      ap (λ (x : ℕ). same (drop (x + 8) (f ++ trailerBytes n start)) magic) trailer-at
-      ∙ ap (λ (l : List ℕ). same l magic) (drop-append-add f (trailerBytes n start) 8)
+      ap (λ (x : ℕ). same (drop (x + atMark) (f ++ trailerBytes n start)) magic) trailer-at
+      ∙ ap (λ (l : List ℕ). same l magic) (drop-append-add f (trailerBytes n start) atMark)
 
   module _ (full : length f ≡ recordLength * n) (small : n < base ^ 2) where
     pub written-records : recordsOf (f ++ trailerBytes n start) ≡ recordsFrom f 0 n
@@ -97,10 +97,10 @@ same-lists (x ∷ xs) (y ∷ ys) h =
 
 -- the last ten bytes, by the numbers that they hold
 pub last-parts : (s : List ℕ) (k : ℕ) → Bytes s → k + trailerLength ≡ length s
-    → bytes 2 (number 2 s k) ++ (bytes 2 (number 2 s (k + 2)) ++ (bytes 4 (number 4 s (k + 4)) ++ drop (k + 8) s)) ≡ drop k s
+    → bytes 2 (number 2 s k) ++ (bytes 2 (number 2 s (k + atStart)) ++ (bytes 4 (number 4 s (k + atDistance)) ++ drop (k + atMark) s)) ≡ drop k s
 last-parts s k bs e =
     let short : (j : ℕ) → length (drop (k + j) s) ≤ trailerLength - j = λ j. omega (arith, length-drop (k + j) s) in
-    read-part 2 8 s k (k + 2) _ bs refl (omega arith)
-    (read-part 2 6 s (k + 2) (k + 4) _ bs (omega arith) (omega arith)
-    (read-part 4 2 s (k + 4) (k + 8) _ bs (omega arith) (omega arith) (sym (take-all 2 (drop (k + 8) s) (short 8)))))
-    ∙ take-all 10 (drop k s) (omega (arith, length-drop k s))
+    read-part 2 8 s k (k + atStart) _ bs refl (omega arith)
+    (read-part 2 6 s (k + atStart) (k + atDistance) _ bs (omega arith) (omega arith)
+    (read-part 4 2 s (k + atDistance) (k + atMark) _ bs (omega arith) (omega arith) (sym (take-all 2 (drop (k + atMark) s) (short atMark)))))
+    ∙ take-all trailerLength (drop k s) (omega (arith, length-drop k s))

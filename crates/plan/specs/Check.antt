@@ -19,6 +19,16 @@ use Rattle.judge.specs.Judge.{judged}
 abbrev pub trailerLength : ℕ
 trailerLength = 10
 
+-- where the fields after n begin
+abbrev pub atStart : ℕ
+atStart = 2
+
+abbrev pub atDistance : ℕ
+atDistance = 4
+
+abbrev pub atMark : ℕ
+atMark = 8
+
 -- "the two mark bytes 6D 70 hexadecimal" (magic is document 01's mark)
 abbrev pub magic : List ℕ
 magic = 0x6d ∷ 0x70 ∷ []
@@ -47,11 +57,11 @@ countOf s = number 2 s (trailerAt s)
 
 unfoldable pub startOf : List ℕ → ℕ
 unfolding trailerAt number
-startOf s = number 2 s (trailerAt s + 2)
+startOf s = number 2 s (trailerAt s + atStart)
 
 unfoldable pub distanceOf : List ℕ → ℕ
 unfolding trailerAt number
-distanceOf s = number 4 s (trailerAt s + 4)
+distanceOf s = number 4 s (trailerAt s + atDistance)
 
 unfoldable pub same : List ℕ → List ℕ → Bool
 same [] [] = true
@@ -61,7 +71,7 @@ same (x ∷ xs) (y ∷ ys) = eqb x y && same xs ys
 
 unfoldable pub marked : List ℕ → Bool
 unfolding trailerAt same
-marked s = same (drop (trailerAt s + 8) s) magic
+marked s = same (drop (trailerAt s + atMark) s) magic
 
 -- the first rule's offset, and the plan's records and rules
 unfoldable pub firstAt : List ℕ → ℕ

@@ -6,11 +6,12 @@ use refusal::Refusal;
 ghost use mathlib.Core.Path.{_≡_};
 ghost use mathlib.Core.List.{_++_};
 ghost use Prim.Native.Nat.{_+_, _*_, _≤_};
-ghost use lib.ListN.{length, take, drop, set};
+ghost use lib.ListN.{length, take, drop};
+ghost use lib.Seq.{sets};
 ghost use mathlib.Core.Bool.{_&&_};
 ghost use lib.Dec.{leb, eqb};
 ghost use Rattle.record.specs.Record.{recordLength};
-ghost use Rattle.plan.specs.Check.{trailerLength, trailerBytes, countOf, startOf, distanceOf, marked, accepted, mostRules, inLimits, checked};
+ghost use Rattle.plan.specs.Check.{trailerLength, magic, trailerBytes, countOf, startOf, distanceOf, marked, accepted, mostRules, inLimits, checked};
 
 // What check answers: document 01's n and start, or the refusal.
 pub enum Checked {
@@ -49,7 +50,9 @@ impl Trailer {
     // The fields of a plan's trailer.
     fn read(s: &[u8]) -> Trailer
         requires { ⌜ trailerLength ≤ length (now s) ⌝ }
-        ensures { λ r. ⌜ (r .n ≡ countOf (now (s .entry))) × (r .start ≡ startOf (now (s .entry))) × (r .distance ≡ distanceOf (now (s .entry))) ⌝ }
+        ensures { λ r. ⌜ (r .n ≡ countOf (now (s .entry)))
+            × (r .start ≡ startOf (now (s .entry)))
+            × (r .distance ≡ distanceOf (now (s .entry))) ⌝ }
     {
         let at = s.len() - Trailer::LENGTH;
         Trailer {
@@ -62,7 +65,9 @@ impl Trailer {
     // The trailer of n rules, right after them.
     pub fn write(out: &mut [u8], n: u16, start: u16)
         requires { ⌜ recordLength * n + trailerLength ≤ length (now out) ⌝ }
-        ensures { λ _. ⌜ now (out .exit) ≡ take (recordLength * n) (now (out .entry)) ++ (trailerBytes n start ++ drop (recordLength * n + trailerLength) (now (out .entry))) ⌝ }
+        ensures { λ _.
+            let s = now (out .entry) in
+            ⌜ now (out .exit) ≡ take (recordLength * n) s ++ (trailerBytes n start ++ drop (recordLength * n + trailerLength) s) ⌝ }
     {
         let distance = Record::LENGTH * (n as usize);
         words::write16(out, distance, n);
@@ -73,8 +78,8 @@ impl Trailer {
 
     // The mark, its first byte at `at`.
     fn sign(out: &mut [u8], at: usize)
-        requires { ⌜ at + 2 ≤ length (now out) ⌝ }
-        ensures { λ _. ⌜ now (out .exit) ≡ set (set (now (out .entry)) at 0x6d) (at + 1) 0x70 ⌝ }
+        requires { ⌜ at + length magic ≤ length (now out) ⌝ }
+        ensures { λ _. ⌜ now (out .exit) ≡ sets (now (out .entry)) at magic ⌝ }
     {
         let magic = Trailer::MAGIC;
         out[at] = magic[0];

@@ -5,7 +5,8 @@ use mathlib.Core.List.{List, [], _∷_}
 use lib.ListN.{length, getD}
 use lib.Dec.{T, ltb}
 use Rattle.rule.specs.declared.Rule.{Rule}
-use Rattle.rule.specs.Rule.{Names, every}
+use Rattle.rule.specs.Rule.{every}
+use Rattle.rule.specs.Names.{Names}
 use Rattle.rule.specs.Sound.{rule}
 
 -- every named rule is one of the rules (refusal 5 passed)

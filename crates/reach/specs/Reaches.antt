@@ -6,7 +6,7 @@ use mathlib.Core.Option.{Option, none, some}
 use lib.ListN.{length}
 use lib.Dec.{eqb}
 use Rattle.rule.specs.declared.Rule.{Rule}
-use Rattle.rule.specs.Rule.{Names}
+use Rattle.rule.specs.Names.{Names}
 use Rattle.rule.specs.Sound.{rule}
 
 -- rule a reaches rule b: it names it, or it names a rule that reaches it

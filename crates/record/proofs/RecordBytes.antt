@@ -9,7 +9,7 @@ use lib.Seq.{take-add, drop-drop, getD-take}
 use Rattle.words.specs.Number.{number, bytes, base}
 use Rattle.words.proofs.Laws.{bytes-number}
 use Rattle.record.specs.declared.Record.{Record}
-use Rattle.record.specs.Record.{recordLength, recordAt, recordBytes}
+use Rattle.record.specs.Record.{recordLength, wordLength, recordAt, recordBytes}
 use Rattle.record.specs.Records.{recordsFrom, recordsBytes}
 use Rattle.record.proofs.Records.{records-agree}
 
@@ -44,9 +44,10 @@ read-part w m s at to x b e h f =
 pub record-bytes : (s : List ℕ) (at : ℕ) → Bytes s → at + recordLength ≤ length s → recordBytes (recordAt s at) ≡ take recordLength (drop at s)
 unfolding recordBytes recordAt
 record-bytes s at b h =
-    read-part 2 6 s at (at + 2) _ b refl (omega arith)
-    (read-part 2 4 s (at + 2) (at + 4) _ b (omega arith) (omega arith)
-    (read-part 2 2 s (at + 4) (at + 6) _ b (omega arith) (omega arith) (bytes-number 2 s (at + 6) (omega arith) b)))
+    read-part wordLength (3 * wordLength) s at (at + wordLength) _ b refl (omega arith)
+    (read-part wordLength (2 * wordLength) s (at + wordLength) (at + 2 * wordLength) _ b (omega arith) (omega arith)
+    (read-part wordLength wordLength s (at + 2 * wordLength) (at + 3 * wordLength) _ b (omega arith) (omega arith)
+    (bytes-number wordLength s (at + 3 * wordLength) (omega arith) b)))
 
 pub records-bytes : (s : List ℕ) (at n : ℕ) → Bytes s → at + recordLength * n ≤ length s → recordsBytes (recordsFrom s at n) ≡ take (recordLength * n) (drop at s)
 unfolding recordsBytes recordsFrom

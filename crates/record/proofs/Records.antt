@@ -19,7 +19,7 @@ use Rattle.record.specs.Records.{recordsFrom, recordIn, kindAt}
 pub record-agrees : (s t : List ℕ) (at to : ℕ) → ((i : ℕ) → i < recordLength → getD s (at + i) 0 ≡ getD t (to + i) 0)
     → recordAt s at ≡ recordAt t to
 unfolding recordAt
-record-agrees s t at to same = λ i. record { kind = first i; one = word 2 (omega arith) i; two = word 4 (omega arith) i; three = word 6 (omega arith) i }
+record-agrees s t at to same = λ i. record { kind = first i; one = word wordLength (omega arith) i; two = word (2 * wordLength) (omega arith) i; three = word (3 * wordLength) (omega arith) i }
   where
     first : number wordLength s at ≡ number wordLength t to
     first = number-agrees wordLength s t at to (λ i below. same i (omega arith))
@@ -61,7 +61,7 @@ kind-at s at n i below = ap (λ (w : Record). w .kind) (records-at s at n i belo
 
 -- four words stored one after the other
 pub record-put : (w : Record) (s : List ℕ) (at : ℕ) → at + recordLength ≤ length s
-    → put wordLength (put wordLength (put wordLength (put wordLength s at (w .kind)) (at + 2) (w .one)) (at + 4) (w .two)) (at + 6) (w .three)
+    → put wordLength (put wordLength (put wordLength (put wordLength s at (w .kind)) (at + wordLength) (w .one)) (at + 2 * wordLength) (w .two)) (at + 3 * wordLength) (w .three)
     ≡ take at s ++ (recordBytes w ++ drop (at + recordLength) s)
 unfolding put bytes recordBytes
 record-put w s at fits = rw (add-two at, add-four at, add-six at) (sets-eq (recordBytes w) s at fits ∙ append-assoc (take at s) (recordBytes w) (drop (at + recordLength) s))

@@ -1,2 +1,3 @@
 pub mod Rule
 pub mod Sound
+pub mod Names

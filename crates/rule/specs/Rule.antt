@@ -83,18 +83,6 @@ every p (Rule.Fill b c) = p b && p c
 every p (Rule.Part a l r) = p l && p r
 every p (Rule.Join b c) = p b && p c
 
--- the rule names rule k, as a relation
-pub data Names : Rule → ℕ → Type 0 where
-  pair-one : {b c : ℕ} → Names (Rule.Pair b c) b
-  pair-two : {b c : ℕ} → Names (Rule.Pair b c) c
-  node-one : {a c : ℕ} → Names (Rule.Node a c) c
-  fill-one : {b c : ℕ} → Names (Rule.Fill b c) b
-  fill-two : {b c : ℕ} → Names (Rule.Fill b c) c
-  part-one : {a b c : ℕ} → Names (Rule.Part a b c) b
-  part-two : {a b c : ℕ} → Names (Rule.Part a b c) c
-  join-one : {b c : ℕ} → Names (Rule.Join b c) b
-  join-two : {b c : ℕ} → Names (Rule.Join b c) c
-
 -- "B in kinds 3 and 5 and C in kind 5 are holed; every other rule named is closed, and C in kind 3 has kind 2 or 3."
 -- kind gives the kind of each rule by its number
 unfoldable pub sorts : (ℕ → ℕ) → Rule → Bool

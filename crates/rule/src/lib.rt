@@ -2,8 +2,7 @@
 use record::Record;
 ghost use mathlib.Core.Path.{_≡_};
 ghost use Prim.Native.Nat.{_<_};
-ghost use lib.Dec.{T};
-ghost use Rattle.rule.specs.Rule.{kindNode, decode, encode, whole, labelled};
+ghost use Rattle.rule.specs.Rule.{kindNode, decode, whole};
 
 // A rule as the paper's right-hand side; the numbers are those of the rules it names.
 pub enum Rule {
@@ -19,18 +18,6 @@ pub enum Rule {
 pub enum Decoded {
     Whole(Rule),
     Malformed,
-}
-
-// The record of four words.
-fn four_words(kind: u16, one: u16, two: u16, three: u16) -> Record
-    ensures { λ r. ⌜ r ≡ record { kind = kind; one = one; two = two; three = three } ⌝ }
-{
-    Record {
-        kind,
-        one,
-        two,
-        three,
-    }
 }
 
 impl Decoded {
@@ -135,21 +122,5 @@ impl Rule {
             );
         }
         Decoded::Malformed
-    }
-
-    // The rule's record, the same table read the other way.
-    pub fn encode(self) -> Record
-        requires { ⌜ T (labelled self) ⌝ }
-        ensures { λ r. ⌜ r ≡ encode self ⌝ }
-    {
-        let none = Record::UNUSED;
-        match self {
-            Rule::Empty => four_words(Rule::EMPTY, none, none, none),
-            Rule::Pair { first, second } => four_words(Rule::PAIR, first, second, none),
-            Rule::Node { label, under } => four_words(Rule::NODE, label as u16, under, none),
-            Rule::Fill { outer, inner } => four_words(Rule::FILL, outer, inner, none),
-            Rule::Part { label, left, right } => four_words(Rule::PART, label as u16, left, right),
-            Rule::Join { outer, inner } => four_words(Rule::JOIN, outer, inner, none),
-        }
     }
 }

@@ -4,26 +4,21 @@ use Prim.Native.Nat.{ℕ, _+_, _*_, _/_, _%_, _≤_, _<_}
 use mathlib.Core.Bool.{Bool, true, false, cond, _&&_, and-eq-true-iff}
 use mathlib.Core.List.{List, _++_}
 use mathlib.Core.Path.{_≡_, refl, sym, ap, _∙_}
-use native.Mathlib.Nat.{zero-add}
 use native.Mathlib.Omega.{arith}
 use lib.Dec.{leb, eqb}
 use lib.ListN.{length, take, drop}
 use borrow.Author.Tests.{le-leb, lt-leb, leb-true, eqb-true}
 use Rattle.words.specs.Number.{wordCount}
-use Rattle.record.specs.declared.Record.{Record}
-use Rattle.rule.specs.declared.Decoded.{Decoded}
 use Rattle.refusal.specs.declared.Refusal.{Refusal}
 use Rattle.judge.specs.declared.Judged.{Judged}
 use Rattle.plan.specs.declared.Written.{Written}
-use Rattle.record.specs.Record.{recordLength, recordWords, recordAt}
-use Rattle.rule.specs.Rule.{decode}
-use Rattle.record.specs.Records.{recordsFrom, recordsBytes, recordIn}
+use Rattle.record.specs.Record.{recordLength, recordWords}
+use Rattle.record.specs.Records.{recordsFrom, recordsBytes}
 use Rattle.judge.specs.Judge.{judged}
 use Rattle.plan.specs.Check.{trailerLength, trailerBytes, inLimits, planBytes}
 use Rattle.seal.specs.Seal.{givenCount, given, roomed, sealedUpTo}
 use Rattle.words.specs.Front.{inFront}
-use Rattle.judge.proofs.Fit.{fine-fit}
-use Rattle.record.proofs.Records.{records-length, records-at}
+use Rattle.record.proofs.Records.{records-length}
 use Rattle.record.proofs.RecordBytes.{length-recordsBytes}
 use Rattle.words.proofs.Front.{inFront-more}
 use Rattle.plan.proofs.TrailerBytes.{length-trailerBytes}
@@ -122,17 +117,6 @@ module _ (most : ℕ) (words : List ℕ) (start : ℕ) (out : List ℕ) (m : ℕ
   seal-records : given words ≡ recordsFrom words 0 n
   unfolding given
   seal-records = ap (recordsFrom words 0) (sym e)
-
-  pub seal-decodes : (i : ℕ) → i < n → decode (recordAt words (recordLength * i)) ≡ Decoded.Malformed → ⊥
-  seal-decodes i l bad =
-      let l′ : i < length (given words) = omega (arith, ap length seal-records, records-length words 0 n) in
-      let named = (fine-fit (given words) start (q .fine)) .each i l′ in
-      let at : recordIn (given words) i ≡ recordAt words (recordLength * i) =
-      ap (λ (ws : List Record). recordIn ws i) seal-records ∙ records-at words 0 n i l ∙ ap (recordAt words) (zero-add (recordLength * i))
-      in
-      let w : Decoded.Malformed ≡ Decoded.Whole (named .means) = sym bad ∙ ap decode (sym at) ∙ named .decodes in
-      let z : _≡_ {A = ℕ} 0 1 = cc in
-      omega arith
 
   pub seal-written : take (recordLength * n) (inFront (recordsBytes (recordsFrom words 0 n)) out)
       ++ (trailerBytes n start ++ drop (recordLength * n + trailerLength) (inFront (recordsBytes (recordsFrom words 0 n)) out))

@@ -17,24 +17,23 @@ use Rattle.forest.specs.Outcome.{nodeLength, textRoomed}
 use Rattle.forest.specs.Good.{Sort, Good}
 use Rattle.forest.proofs.Unfold.{unfolding-equation, closed-row}
 use Rattle.forest.proofs.Counts.{text-length}
-use Rattle.work_rows.specs.Rows.{ownEnd}
+use Rattle.work_rows.specs.Rows.{ownEnd, firstRules}
 use Rattle.work_rows.proofs.Rows.{within-both, within-wider}
 use Rattle.count_capped.specs.declared.Count.{Count}
-use Rattle.count_passes.specs.declared.Tally.{Tally}
 use Rattle.count_rule.specs.declared.Weight.{Weight}
 use Rattle.count_capped.specs.Count.{capped, limit, numberOf}
 use Rattle.count_passes.specs.Says.{whole, says}
 use Rattle.count_rule.specs.ByRule.{weightOf}
 use Rattle.count_passes.specs.Tally.{Besides, Unfolds}
-use Rattle.count_passes.specs.Total.{Startable, Totalled}
+use Rattle.count_passes.specs.Total.{Startable, Counts}
 use Rattle.count_passes.proofs.Meaning.{told}
 use Rattle.count_passes.proofs.Column.{besides-rule}
-use Rattle.count_passes.proofs.Totals.{nodes-total}
 use Rattle.spread_step.specs.Task.{taskIn}
-use Rattle.spread_stack.specs.Run.{rowsIn, meant, workEnd, Taskable, Tasked, RowsTasked, Ran, Spreadable}
+use Rattle.spread_stack.specs.Run.{meant, workEnd, Taskable, Tasked, RowsTasked, Ran, Spreadable}
 use Rattle.spread.specs.Answer.{Answerable, Answered}
 use Rattle.spread_step.proofs.Tasks.{by-test}
-use Rattle.spread_stack.proofs.Rows.{rows-length, rows-rule, rows-same, task-recurs}
+use Rattle.spread_stack.proofs.Rows.{task-recurs}
+use Rattle.work_rows.proofs.Kept.{first-length, first-rule, first-same}
 
 -- two tests that say the same
 same-test : (a b c d : ℕ) → (a ≤ b → c ≤ d) → (c ≤ d → a ≤ b) → leb a b ≡ leb c d
@@ -56,11 +55,11 @@ fits-low c room clear = same-test (c .low) (room / 3) (nodeLength * numberOf c) 
 -- from the rows
 module _ {t : List ℕ} {n r : ℕ} (a : Answerable t n r) where
   in-rows : r < n
-  in-rows = let l : r < length (rowsIn t n) = a .closed .below in omega (arith, rows-length t n)
+  in-rows = let l : r < length (firstRules t n) = a .closed .below in omega (arith, first-length t n)
 
   rows-unfold : Unfolds t n (meant t n)
   rows-unfold =
-      record { unfolds = λ k below. rw (← (rows-rule t n k below)) (unfolding-equation (a .sound) k (omega (arith, rows-length t n))) }
+      record { unfolds = λ k below. rw (← (first-rule t n k below)) (unfolding-equation (a .sound) k (omega (arith, first-length t n))) }
 
   closed-good : Good Sort.row (meant t n r)
   closed-good = closed-row (a .sound) (a .closed)
@@ -71,7 +70,7 @@ module _ {t : List ℕ} {n r : ℕ} (a : Answerable t n r) where
         ready =
             record {
               room = omega (arith, a .room);
-              lower = λ k below. rw (← (rows-rule t n k below)) (a .sound .falls k (omega (arith, rows-length t n)));
+              lower = λ k below. rw (← (first-rule t n k below)) (a .sound .falls k (omega (arith, first-length t n)));
             };
         below = in-rows;
       }
@@ -81,18 +80,18 @@ module _ {t : List ℕ} {n r : ℕ} (a : Answerable t n r) where
       record {
         room = omega (arith, a .room);
         lower = startable .ready .lower;
-        labels = λ k below. rw (← (rows-rule t n k below)) (a .sound .labels k (omega (arith, rows-length t n)));
+        labels = λ k below. rw (← (first-rule t n k below)) (a .sound .labels k (omega (arith, first-length t n)));
         few = a .few;
       }
 
   -- the rule's text
-  rule-text : says (meant t n r) whole ≡ text (forest (rowsIn t n) r)
+  rule-text : says (meant t n r) whole ≡ text (forest (firstRules t n) r)
   unfolding forest
   rule-text = told closed-good
 
 -- the rows keep their rules
-rows-kept : {o w n : ℕ} {s t : List ℕ} → Besides o w n s t → ownEnd ≤ o → rowsIn t n ≡ rowsIn s n
-rows-kept {n = n} {s = s} {t = t} b past = rows-same s t n (λ k below. besides-rule b past k)
+rows-kept : {o w n : ℕ} {s t : List ℕ} → Besides o w n s t → ownEnd ≤ o → firstRules t n ≡ firstRules s n
+rows-kept {n = n} {s = s} {t = t} b past = first-same s t n (λ k below. besides-rule b past k)
 
 answerable-kept : {o w n r : ℕ} {s t : List ℕ} → Besides o w n s t → ownEnd ≤ o → Answerable s n r → Answerable t n r
 answerable-kept {n = n} {r = r} {s = s} {t = t} b past a =
@@ -100,13 +99,13 @@ answerable-kept {n = n} {r = r} {s = s} {t = t} b past a =
     record { sound = rw (rows-kept b past) (a .sound); closed = rw (rows-kept b past) (a .closed); few = a .few; room = omega (arith, a .room) }
 
 -- the nodes of the rule
-module _ {s t : List ℕ} {n r : ℕ} {c : Count} (a : Answerable s n r) (p : Totalled (Tally.Own Weight.Node) Tally.Sum n r c s t) where
-  nodes : numberOf c ≡ capped (weigh one (forest (rowsIn s n) r))
+module _ {s t : List ℕ} {n r : ℕ} {c : Count} (a : Answerable s n r) (p : Counts (weigh (weightOf Weight.Node)) n r c s t) where
+  nodes : numberOf c ≡ capped (weigh one (forest (firstRules s n) r))
   unfolding forest weightOf
-  nodes = nodes-total (rows-unfold a) (closed-good a) Weight.Node p
+  nodes = p .count (meant s n) (rows-unfold a) (closed-good a)
 
   counted : Answerable t n r
-  counted = answerable-kept (p .passes .besides) (omega arith) a
+  counted = answerable-kept (p .besides) (omega arith) a
 
   pub tasks-next : Taskable t n
   tasks-next = taskable counted
@@ -116,21 +115,21 @@ module _ {s t : List ℕ} {n r : ℕ} {c : Count} (a : Answerable s n r) (p : To
   refused out e =
       let l : length out < nodeLength * numberOf c = leb-false (nodeLength * numberOf c) (length out) e in
       record {
-        answer = rw (lt-leb (nodeLength * weigh one (forest (rowsIn s n) r)) (length out) (omega (arith, nodes)));
+        answer = rw (lt-leb (nodeLength * weigh one (forest (firstRules s n) r)) (length out) (omega (arith, nodes)));
         writes = refl;
-        within = within-wider 0 (workEnd n) (omega arith) (omega arith) (p .passes .besides .beyond);
+        within = within-wider 0 (workEnd n) (omega arith) (omega arith) (p .besides .beyond);
       }
 
   module _ (out : List ℕ) (small : length out < limit) (e : leb (nodeLength * numberOf c) (length out) ≡ true) where
-    enough : nodeLength * weigh one (forest (rowsIn s n) r) ≤ length out
+    enough : nodeLength * weigh one (forest (firstRules s n) r) ≤ length out
     enough = let l : nodeLength * numberOf c ≤ length out = leb-true (nodeLength * numberOf c) (length out) e in omega (arith, nodes)
 
     module _ {u : List ℕ} (q : Tasked n t u) where
       tasked : Answerable u n r
       tasked = answerable-kept (q .besides) (omega arith) counted
 
-      all-same : rowsIn u n ≡ rowsIn s n
-      all-same = rows-kept (q .besides) (omega arith) ∙ rows-kept (p .passes .besides) (omega arith)
+      all-same : firstRules u n ≡ firstRules s n
+      all-same = rows-kept (q .besides) (omega arith) ∙ rows-kept (p .besides) (omega arith)
 
       rows-tasked : RowsTasked u n
       rows-tasked =
@@ -141,11 +140,11 @@ module _ {s t : List ℕ} {n r : ℕ} {c : Count} (a : Answerable s n r) (p : To
             room = tasked .room;
             tasks =
                 q .column (λ k. taskIn (meant u n k))
-                (task-recurs t n (tasked .sound) (rows-length u n)
-                (λ k below. sym (besides-rule (q .besides) (omega arith) k) ∙ sym (rows-rule u n k below)));
+                (task-recurs t n (tasked .sound) (first-length u n)
+                (λ k below. sym (besides-rule (q .besides) (omega arith) k) ∙ sym (first-rule u n k below)));
           }
 
-      same-text : says (meant u n r) whole ≡ text (forest (rowsIn s n) r)
+      same-text : says (meant u n r) whole ≡ text (forest (firstRules s n) r)
       same-text = rule-text tasked ∙ ap (λ (R : List Rule). text (forest R r)) all-same
 
       pub spreadable : Spreadable u out n r
@@ -153,7 +152,7 @@ module _ {s t : List ℕ} {n r : ℕ} {c : Count} (a : Answerable s n r) (p : To
           record {
             rows-tasked = rows-tasked;
             below = in-rows tasked;
-            fits = rw same-text (omega (arith, text-length (forest (rowsIn s n) r), enough));
+            fits = rw same-text (omega (arith, text-length (forest (firstRules s n) r), enough));
           }
 
       pub spread-out : {x : ℕ} {w out′ : List ℕ} → Ran n (says (meant u n r) whole) x u w out out′ → Answered n r (Written.Length x) s w out out′
@@ -161,10 +160,10 @@ module _ {s t : List ℕ} {n r : ℕ} {c : Count} (a : Answerable s n r) (p : To
       spread-out g =
           let h = rw same-text at g in
           record {
-            answer = rw (le-leb (nodeLength * weigh one (forest (rowsIn s n) r)) (length out) enough) (ap Written.Length (h .long));
+            answer = rw (le-leb (nodeLength * weigh one (forest (firstRules s n) r)) (length out) enough) (ap Written.Length (h .long));
             writes = h .writes;
             within =
-                within-both (within-wider 0 (workEnd n) (omega arith) (omega arith) (p .passes .besides .beyond))
+                within-both (within-wider 0 (workEnd n) (omega arith) (omega arith) (p .besides .beyond))
                 (within-both (within-wider 0 (workEnd n) (omega arith) (omega arith) (q .besides .beyond))
                 (within-wider 0 (workEnd n) (omega arith) (omega arith) (h .within)));
           }

@@ -13,21 +13,22 @@ use Rattle.plan.specs.Check.{checked, rulesOf}
 use Rattle.plan.specs.Written.{outputAfter}
 use Rattle.forest.specs.Forest.{forest, text}
 use Rattle.forest.specs.Outcome.{workWords, enoughWork, cleared, measuredWork, textRoomed, spreadFrom, spread, textOf, spreadOutput}
+use Rattle.work_rows.specs.Rows.{Holds, firstRules}
 use Rattle.work_rows.proofs.Rows.{within-both}
+use Rattle.work_rows.proofs.Kept.{holds-first}
 use Rattle.work_rows.proofs.Work.{work-cleared, beyond-work}
 use Rattle.work_load.specs.Prepared.{Loads, Prepared}
 use Rattle.count_passes.proofs.Work.{Held, held}
-use Rattle.spread_stack.specs.Run.{rowsIn}
 use Rattle.spread.specs.Answer.{Answerable, Answered}
-use Rattle.spread_stack.proofs.Rows.{rows-are}
 
 -- the answer, the work and the output that spread gives
 abbrev pub Outcome : List ℕ → List ℕ → List ℕ → Written → List ℕ → List ℕ → Type 0
 Outcome s work out x work′ out′ = (x ≡ spread s work out) × (work′ ≡ measuredWork s work) × (out′ ≡ spreadOutput s work out)
 
 -- loaded rows are the plan's rules
-rows-loaded : {s t : List ℕ} {n start : ℕ} → Held s n start t → rowsIn t n ≡ rulesOf s
-rows-loaded {s} {t} {n} h = rows-are (rulesOf s) t n (h .accepted .rules) (h .same)
+rows-loaded : {s t : List ℕ} {n start : ℕ} → Held s n start t → firstRules t n ≡ rulesOf s
+unfolding Holds
+rows-loaded {s} {t} {n} h = holds-first (rulesOf s) t n (h .accepted .rules) (h .same)
 
 pub answerable : {s t : List ℕ} {n start : ℕ} → Held s n start t → Answerable t n start
 answerable {n = n} h =
@@ -63,7 +64,7 @@ module _ {s work t : List ℕ} {x : Checked} (b : Prepared s work t x) (out : Li
           answer,
           p ∙ work-cleared (λ k. enoughWork k work) s work n start (l .accepted) (l .enough) u (within-both (beyond-work n (l .rows .beyond)) (a .within)),
           a .writes
-              ∙ ap (λ (z : Written). outputAfter z (text (forest (rowsIn t n) start)) out) answer
+              ∙ ap (λ (z : Written). outputAfter z (text (forest (firstRules t n) start)) out) answer
               ∙ ap (λ (R : List Rule). outputAfter (spread s work out) (text (forest R start)) out) (rows-loaded h)
               ∙ sym output-is,
         )

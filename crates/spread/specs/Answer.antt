@@ -8,18 +8,19 @@ use Rattle.rule.specs.Sound.{Sound, Closed}
 use Rattle.plan.specs.Written.{outputAfter}
 use Rattle.forest.specs.Forest.{forest, text}
 use Rattle.forest.specs.Outcome.{textRoomed}
-use Rattle.work_rows.specs.Rows.{Within}
-use Rattle.spread_stack.specs.Run.{rowsIn, workEnd}
+use Rattle.work_rows.specs.Rows.{Within, firstRules}
+use Rattle.spread_step.specs.Task.{taskLimit}
+use Rattle.spread_stack.specs.Run.{workEnd}
 
 -- rule r of the rows can be measured and spread, whatever else the rows hold
 pub record Answerable (t : List ℕ) (n r : ℕ) : Type 0 where
-  pub sound : Sound (rowsIn t n) (λ k. k)
-  pub closed : Closed (rowsIn t n) r
-  pub few : n ≤ 16383
+  pub sound : Sound (firstRules t n) (λ k. k)
+  pub closed : Closed (firstRules t n) r
+  pub few : n ≤ taskLimit
   pub room : workEnd n ≤ length t
 
 -- what is answered for it
 pub record Answered (n r : ℕ) (x : Written) (s t out out′ : List ℕ) : Type 0 where
-  pub answer : x ≡ textRoomed (forest (rowsIn s n) r) out
-  pub writes : out′ ≡ outputAfter x (text (forest (rowsIn s n) r)) out
+  pub answer : x ≡ textRoomed (forest (firstRules s n) r) out
+  pub writes : out′ ≡ outputAfter x (text (forest (firstRules s n) r)) out
   pub within : Within 0 (workEnd n) s t

@@ -6,7 +6,6 @@ ghost use Rattle.spread.specs.Answer.{Answerable, Answered};
 ghost use Rattle.forest.specs.Outcome.{nodeLength, spread, measuredWork, spreadOutput};
 ghost use Rattle.count_capped.specs.Count.{numberOf};
 use count_capped::Count;
-use count_passes::Tally;
 use count_rule::Weight;
 use plan::Checked;
 use plan::Written;
@@ -27,7 +26,7 @@ fn answer(work: &mut [u8], out: &mut [u8], n: u16, r: u16) -> Written
     requires { ⌜ Answerable (now work) n r ⌝ }
     ensures { λ x. ⌜ Answered n r x (now (work .entry)) (now (work .exit)) (now (out .entry)) (now (out .exit)) ⌝ }
 {
-    let nodes = count_passes::total(work, n, r, Tally::Own(Weight::Node), Tally::Sum);
+    let nodes = count_passes::total(work, n, r, Weight::Node);
     if !fits(nodes, out.len()) {
         return Written::Refused(Refusal::Room);
     }
@@ -37,7 +36,9 @@ fn answer(work: &mut [u8], out: &mut [u8], n: u16, r: u16) -> Written
 
 // Spread a plan: its text and the length of it, or why it is turned down.
 pub fn spread(plan: &[u8], work: &mut [u8], out: &mut [u8]) -> Written
-    ensures { λ x. ⌜ (x ≡ spread (now (plan .entry)) (now (work .entry)) (now (out .entry))) × (now (work .exit) ≡ measuredWork (now (plan .entry)) (now (work .entry))) × (now (out .exit) ≡ spreadOutput (now (plan .entry)) (now (work .entry)) (now (out .entry))) ⌝ }
+    ensures { λ x. ⌜ (x ≡ spread (now (plan .entry)) (now (work .entry)) (now (out .entry)))
+        × (now (work .exit) ≡ measuredWork (now (plan .entry)) (now (work .entry)))
+        × (now (out .exit) ≡ spreadOutput (now (plan .entry)) (now (work .entry)) (now (out .entry))) ⌝ }
 {
     match work_load::load_plan(plan, work) {
         Checked::Accepted { n, start } => {

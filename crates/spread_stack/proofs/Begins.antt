@@ -8,26 +8,27 @@ use lib.ListN.{length}
 use Rattle.forest.specs.Expression.{Expression, expression}
 use Rattle.forest.specs.Sizes.{height}
 use Rattle.forest.proofs.Unfold.{height-expression}
-use Rattle.work_rows.specs.Rows.{Within}
+use Rattle.work_rows.specs.Rows.{Within, firstRules}
 use Rattle.work_rows.proofs.Rows.{within-both, within-wider}
 use Rattle.count_passes.specs.Says.{whole, says}
 use Rattle.spread_step.specs.Task.{taskText, taskIn}
 use Rattle.spread_step.specs.Step.{tasksAt}
 use Rattle.spread_stack.specs.Stack.{tasksText, addTask, tasksIn, Pushed}
-use Rattle.spread_stack.specs.Run.{rowsIn, meant, stackAt, workEnd, stackText, Fit, none, RowsTasked, Runnable, Ran, Spreadable}
+use Rattle.spread_stack.specs.Run.{meant, stackAt, workEnd, stackText, Fit, none, RowsTasked, Runnable, Ran, Spreadable}
 use Rattle.spread_step.proofs.Tasks.{Stands}
 use Rattle.spread_stack.proofs.Fits.{add-text, add-stacked, fit-whole}
-use Rattle.spread_stack.proofs.Rows.{view, rows-length, rows-same, rule-kept, task-kept}
+use Rattle.spread_stack.proofs.Rows.{view, rule-kept, task-kept}
+use Rattle.work_rows.proofs.Kept.{first-length, first-same}
 
 -- the rows keep what they hold
 meant-kept : (s t : List ℕ) (n : ℕ) → Within (stackAt n) (workEnd n) s t → meant t n ≡ meant s n
-meant-kept s t n w = ap expression (rows-same s t n (rule-kept n (workEnd n) w))
+meant-kept s t n w = ap expression (first-same s t n (rule-kept n (workEnd n) w))
 
 rows-tasked-kept : (s t : List ℕ) (n : ℕ) → Within (stackAt n) (workEnd n) s t → RowsTasked s n → RowsTasked t n
 rows-tasked-kept s t n w a =
     let long : length t ≡ length s = w .same-length in
     record {
-      sound = rw (rows-same s t n (rule-kept n (workEnd n) w)) (a .sound);
+      sound = rw (first-same s t n (rule-kept n (workEnd n) w)) (a .sound);
       few = a .few;
       least = a .least;
       room = omega (arith, a .room);
@@ -50,8 +51,8 @@ module _ {n r v k : ℕ} {s t out : List ℕ} (a : Spreadable s out n r) (q : v 
 
   fits-first : Fit (meant s n) n (2 * n) 0 v
   fits-first =
-      let h : height (meant s n r) ≤ length (rowsIn s n) = height-expression (rowsIn s n) r in
-      fit-whole (meant s n) n (2 * n) 0 v (meant s n r) stood (omega (arith, rows-length s n))
+      let h : height (meant s n r) ≤ length (firstRules s n) = height-expression (firstRules s n) r in
+      fit-whole (meant s n) n (2 * n) 0 v (meant s n r) stood (omega (arith, first-length s n))
 
   begun : stackText t n k ≡ says (meant s n r) whole
   unfolding tasksText

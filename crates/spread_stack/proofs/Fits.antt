@@ -10,14 +10,14 @@ use borrow.Author.Tests.{eqb-true, eqb-false}
 use Rattle.rule.specs.declared.Rule.{Rule}
 use Rattle.forest.specs.Expression.{Expression, rhs}
 use Rattle.forest.specs.Sizes.{height}
-use Rattle.rule.specs.Rule.{Names, pair-one, pair-two, node-one, fill-one, fill-two, part-one, part-two, join-one, join-two}
+use Rattle.rule.specs.Names.{Names, pair-one, pair-two, node-one, fill-one, fill-two, part-one, part-two, join-one, join-two}
 use Rattle.count_passes.specs.Says.{before, after}
 use Rattle.spread_step.specs.declared.Step.{Step}
-use Rattle.spread_step.specs.Task.{close, taskWord, noTask, taskText, taskTurns, taskHeight}
+use Rattle.spread_step.specs.Task.{closeTask, taskWord, noTask, taskText, taskTurns, taskHeight}
 use Rattle.spread_step.specs.Step.{ruleStep}
 use Rattle.spread_stack.specs.Stack.{tasksText, tasksTurns, addTask, addTasks}
 use Rattle.spread_stack.specs.Run.{Fit, Stacked, on}
-use Rattle.spread_step.proofs.Tasks.{taskLimit, by-test, text-none, turns-none, height-part, height-close, Stands}
+use Rattle.spread_step.proofs.Tasks.{by-test, text-none, turns-none, height-part, height-close, Stands}
 use Rattle.spread_step.proofs.Steps.{stepText, stepTurns}
 
 module _ (E : ℕ → Expression) where
@@ -59,14 +59,14 @@ module _ (E : ℕ → Expression) (n H : ℕ) where
   fit-lower : (j k v : ℕ) → j ≤ k → Fit E n H k v → Fit E n H j v
   fit-lower j k v less a = record { reads = a .reads; low = λ x. let l : k + 2 * taskHeight E v ≤ H = a .low x in omega arith }
 
-  fit-part : (k b q : ℕ) → b < n → q < close → k + 2 * height (E b) ≤ H → Fit E n H k (taskWord b q)
-  fit-part k b q below small l = record { reads = λ x. omega arith; low = λ x. omega (arith, height-part E b q small) }
+  fit-part : (k b q : ℕ) → b < n → q ≤ after → k + 2 * height (E b) ≤ H → Fit E n H k (taskWord b q)
+  fit-part k b q below small l = record { reads = λ x y. omega arith; low = λ x. omega (arith, height-part E b q small) }
 
-  fit-close : (k r : ℕ) → r < n → n ≤ taskLimit → k ≤ H → Fit E n H k (taskWord r close)
-  fit-close k r below few l = record { reads = λ x. omega arith; low = λ x. omega (arith, height-close E r (omega arith)) }
+  fit-close : (k : ℕ) → k ≤ H → Fit E n H k closeTask
+  fit-close k l = record { reads = λ x y. absurd (y refl); low = λ x. omega (arith, height-close E) }
 
   pub fit-whole : (k v : ℕ) (e : Expression) → Stands E n v e → k + 2 * height e ≤ H → Fit E n H k v
-  fit-whole k v e s l = record { reads = s .below; low = λ x. omega (arith, s .high) }
+  fit-whole k v e s l = record { reads = λ x y. s .below x; low = λ x. omega (arith, s .high) }
 
   -- put on the stack
   length-add : (v : ℕ) (vs : List ℕ) → length (addTask v vs) ≤ suc (length vs)
@@ -100,7 +100,7 @@ under-left a b = omega arith
 under-right : (a b : ℕ) → b ≤ max a b
 under-right a b = omega arith
 
-module _ (E : ℕ → Expression) (n : ℕ) (f : ℕ → ℕ) (S : (k : ℕ) → k < n → Stands E n (f k) (E k)) (few : n ≤ taskLimit) (r p : ℕ) (below : r < n) (H k : ℕ) where
+module _ (E : ℕ → Expression) (n : ℕ) (f : ℕ → ℕ) (S : (k : ℕ) → k < n → Stands E n (f k) (E k)) (r p H k : ℕ) where
   pub rule-fits : (x : Rule) → ((j : ℕ) → Names x j → j < n) → k + 2 * height (rhs r x E) ≤ H → Fits E n H k (ruleStep f r p x)
   unfolding height rhs ruleStep
   rule-fits Rule.Empty h l = record { at-low = fit-none E n H k; at-mid = fit-none E n H (suc k); at-high = fit-none E n H (suc (suc k)) }
@@ -114,7 +114,7 @@ module _ (E : ℕ → Expression) (n : ℕ) (f : ℕ → ℕ) (S : (k : ℕ) →
       }
   rule-fits (Rule.Node a c) h l =
       record {
-        at-low = fit-close E n H k r below few (omega arith);
+        at-low = fit-close E n H k (omega arith);
         at-mid = fit-whole E n H (suc k) (f c) (E c) (S c (h c node-one)) (omega arith);
         at-high = fit-none E n H (suc (suc k));
       }
@@ -138,7 +138,7 @@ module _ (E : ℕ → Expression) (n : ℕ) (f : ℕ → ℕ) (S : (k : ℕ) →
       }))
       (λ u. rw u
       (record {
-        at-low = fit-close E n H k r below few (omega arith);
+        at-low = fit-close E n H k (omega arith);
         at-mid = fit-whole E n H (suc k) (f c) (E c) (S c (h c part-two)) (omega arith);
         at-high = fit-none E n H (suc (suc k));
       }))

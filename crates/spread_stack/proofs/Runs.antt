@@ -13,7 +13,7 @@ use Rattle.forest.specs.Expression.{Expression}
 use Rattle.work_rows.specs.Rows.{ruleIn, Within}
 use Rattle.work_rows.proofs.Rows.{within-none, within-both, within-wider}
 use Rattle.spread_stack.specs.declared.State.{State}
-use Rattle.spread_step.specs.Task.{parts, taskHeight}
+use Rattle.spread_step.specs.Task.{parts, closeTask, taskHeight}
 use Rattle.spread_step.specs.Step.{saidBytes, tasksAt, stepIn}
 use Rattle.spread_stack.specs.Stack.{tasksText, tasksTurns, addTasks, tasksIn, taskOver, written, Turnable, TurnMade}
 use Rattle.spread_stack.specs.Run.{meant, stackAt, workEnd, stackText, Stacked, on, Runnable, Ran}
@@ -52,7 +52,8 @@ running-start n first s out a =
     }
 
 -- what a stack's top and the rest are known to be
-stacked-top : {E : ℕ → Expression} {n H v : ℕ} {vs : List ℕ} → Stacked E n H (v ∷ vs) → (v / parts < n) × (length vs ≤ H)
+stacked-top : {E : ℕ → Expression} {n H v : ℕ} {vs : List ℕ} → Stacked E n H (v ∷ vs)
+    → ((v ≡ closeTask → ⊥) → v / parts < n) × (length vs ≤ H)
 stacked-top {E} {H = H} {v = v} {vs = vs} (on some a s) = (a .reads some, let l : length vs + 2 * taskHeight E v ≤ H = a .low some in omega arith)
 
 module _ {n first : ℕ} {s out₀ t out : List ℕ} {k at : ℕ} (a : Runnable s out₀ n first) (p : Running n first s out₀ t out k at) (some : 0 < k) where
@@ -72,7 +73,7 @@ module _ {n first : ℕ} {s out₀ t out : List ℕ} {k at : ℕ} (a : Runnable 
   -- the turn that follows, on the model
   turned : Turned (meant s n) n (2 * n) top-task below-top (stepIn t top-task)
   turned =
-      turn (meant s n) n (2 * n) (tasksAt t) (ruleIn t) (rows .stood) (a .rows-tasked .few) (rows .unfolds) (names-below rows) top-task below-top top-stacked
+      turn (meant s n) n (2 * n) (tasksAt t) (ruleIn t) (rows .stood) (rows .unfolds) (names-below rows) top-task below-top top-stacked
 
   top-text : take at out ++ (saidBytes ((stepIn t top-task) .said) ++ tasksText (meant s n) (addTasks (stepIn t top-task) below-top)) ≡ stackText s n first
   unfolding top-task below-top
@@ -90,7 +91,7 @@ module _ {n first : ℕ} {s out₀ t out : List ℕ} {k at : ℕ} (a : Runnable 
   -- and its tasks within the work
   stack-below : stackAt n + wordLength * (k - 1 + 3) ≤ workEnd n
   stack-below =
-      let top : (top-task / parts < n) × (length below-top ≤ 2 * n) = stacked-top top-stacked in
+      let top : length below-top ≤ 2 * n = stacked-top top-stacked .1 in
       let height : length below-top ≡ k - 1 = unfold below-top in tasks-length t (stackAt n) (k - 1) in
       omega (arith, a .rows-tasked .least)
 
@@ -99,13 +100,13 @@ module _ {n first : ℕ} {s out₀ t out : List ℕ} {k at : ℕ} (a : Runnable 
   turnable =
       let l : length t ≡ length s = p .within .same-length in
       let r : workEnd n ≤ length s = a .rows-tasked .room in
-      let top : (top-task / parts < n) × (length below-top ≤ 2 * n) = stacked-top top-stacked in
       record {
-        steps =
+        steps = λ ruled.
+            let below : top-task / parts < n = stacked-top top-stacked .0 ruled in
             record {
               room = omega arith;
-              lower = rows .lower (top-task / parts) (top .0);
-              labels = rows .labels (top-task / parts) (top .0);
+              lower = rows .lower (top-task / parts) below;
+              labels = rows .labels (top-task / parts) below;
               few = omega (arith, a .rows-tasked .few);
             };
         stack = omega (arith, stack-below);

@@ -1,6 +1,6 @@
 -- The stack in bytes is the list of tasks, the top first: a word written over k tasks leaves those below it, and bytes written to the
 -- output after others leave what stands before and after them. Assumes nothing.
-use Prim.Native.Nat.{ℕ, zero, suc, _+_, _*_, _/_, _^_, _≤_, _<_}
+use Prim.Native.Nat.{ℕ, zero, suc, _+_, _*_, _^_, _≤_, _<_}
 use native.Mathlib.Nat.{add-zero}
 use native.Mathlib.Numerals.{add-one}
 use native.Mathlib.Omega.{arith}
@@ -12,11 +12,11 @@ use borrow.Author.Tests.{eq-eqb, ne-eqb}
 use Rattle.words.specs.Number.{base, put}
 use Rattle.words.proofs.Laws.{length-put, put-same, put-other, put-take, put-drop}
 use Rattle.record.specs.Record.{wordLength}
-use Rattle.work_rows.specs.Rows.{Within, ruleIn}
+use Rattle.work_rows.specs.Rows.{Within}
 use Rattle.work_rows.proofs.Rows.{within-none, within-both, within-wider}
 use Rattle.spread_step.specs.declared.Step.{Step}
-use Rattle.spread_step.specs.Task.{parts, noTask}
-use Rattle.spread_step.specs.Step.{saidBytes, stepIn, Steppable}
+use Rattle.spread_step.specs.Task.{noTask}
+use Rattle.spread_step.specs.Step.{saidBytes, stepIn, Decidable}
 use Rattle.spread_stack.specs.Stack.{addTask, addTasks, tasksIn, Pushed, AllPushed, written, taskOver, Turnable, TurnMade}
 
 -- tasks below a word that is written
@@ -91,7 +91,7 @@ turn-made {from} {k} {at} {s = s} {out = out} {x = x} q r w p =
     }
 
 -- what a turn may do, seen at the task that was read and the step that was decided
-pub turn-steps : {from k at v : ℕ} {s out : List ℕ} → Turnable s out from k at → v ≡ taskOver s from k → Steppable s (v / parts) (ruleIn s (v / parts))
+pub turn-steps : {from k at v : ℕ} {s out : List ℕ} → Turnable s out from k at → v ≡ taskOver s from k → Decidable s v
 turn-steps a q = rw q (a .steps)
 
 pub turn-fits : {from k at v : ℕ} {s out : List ℕ} {x : Step} → Turnable s out from k at → v ≡ taskOver s from k → x ≡ stepIn s v

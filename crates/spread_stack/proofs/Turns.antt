@@ -7,33 +7,33 @@ use mathlib.Core.Bool.{true, false}
 use mathlib.Core.List.{List, [], _∷_, _++_, append-assoc}
 use lib.Dec.{eqb}
 use lib.ListN.{length}
-use borrow.Author.Tests.{ne-eqb}
+use borrow.Author.Tests.{ne-eqb, eqb-false}
 use Rattle.rule.specs.declared.Rule.{Rule}
 use Rattle.forest.specs.Expression.{Expression, rhs}
 use Rattle.forest.specs.Sizes.{height}
-use Rattle.rule.specs.Rule.{Names}
+use Rattle.rule.specs.Names.{Names}
 use Rattle.count_passes.specs.Says.{closing, says}
 use Rattle.spread_step.specs.declared.Said.{Said}
 use Rattle.spread_step.specs.declared.Step.{Step}
-use Rattle.spread_step.specs.Task.{parts, close, noTask, taskBy, taskText, turnsIn, taskTurns, taskHeight}
+use Rattle.spread_step.specs.Task.{parts, closeTask, noTask, taskBy, taskText, turnsIn, taskTurns, taskHeight}
 use Rattle.spread_step.specs.Step.{saidBytes, leaving, ruleStep, stepOf}
 use Rattle.spread_stack.specs.Stack.{tasksText, tasksTurns, addTasks}
 use Rattle.spread_stack.specs.Run.{Fit, Stacked, on}
-use Rattle.spread_step.proofs.Tasks.{taskLimit, by-test, Stands}
+use Rattle.spread_step.proofs.Tasks.{by-test, Stands}
 use Rattle.spread_step.proofs.Steps.{stepText, stepTurns, rule-text, rule-turns}
 use Rattle.spread_stack.proofs.Fits.{adds-text, adds-turns, adds-stacked, rule-fits, Fits, fit-none}
 
 -- a word that is a task: a closing byte, or a part of a rule
 module _ {A : Type 0} (none closes : A) (part : ℕ → ℕ → A) (v : ℕ) (some : v ≡ noTask → ⊥) where
-  is-close : eqb (v % parts) close ≡ true → taskBy none closes part v ≡ closes
+  is-close : eqb v closeTask ≡ true → taskBy none closes part v ≡ closes
   unfolding taskBy
   is-close u = rw (ne-eqb v noTask some, u)
 
-  is-part : eqb (v % parts) close ≡ false → taskBy none closes part v ≡ part (v / parts) (v % parts)
+  is-part : eqb v closeTask ≡ false → taskBy none closes part v ≡ part (v / parts) (v % parts)
   unfolding taskBy
   is-part u = rw (ne-eqb v noTask some, u)
 
-module _ (E : ℕ → Expression) (v : ℕ) (some : v ≡ noTask → ⊥) (u : eqb (v % parts) close ≡ false) where
+module _ (E : ℕ → Expression) (v : ℕ) (some : v ≡ noTask → ⊥) (u : eqb v closeTask ≡ false) where
   part-text : taskText E v ≡ says (E (v / parts)) (v % parts)
   unfolding taskText
   part-text = is-part [] (closing ∷ []) (λ r p. says (E r) p) v some u
@@ -66,9 +66,9 @@ turned E n H v vs x q l f s =
       stacked = adds-stacked E n H x vs (f .at-low) (f .at-mid) (f .at-high) s;
     }
 
-module _ (E : ℕ → Expression) (n H : ℕ) (f : ℕ → ℕ) (X : ℕ → Rule) (S : (k : ℕ) → k < n → Stands E n (f k) (E k)) (few : n ≤ taskLimit)
+module _ (E : ℕ → Expression) (n H : ℕ) (f : ℕ → ℕ) (X : ℕ → Rule) (S : (k : ℕ) → k < n → Stands E n (f k) (E k))
     (unfolds : (k : ℕ) → k < n → E k ≡ rhs k (X k) E) (names : (k : ℕ) → k < n → (j : ℕ) → Names (X k) j → j < n) where
-  turned-close : (v : ℕ) (vs : List ℕ) → (v ≡ noTask → ⊥) → eqb (v % parts) close ≡ true → Stacked E n H vs
+  turned-close : (v : ℕ) (vs : List ℕ) → (v ≡ noTask → ⊥) → eqb v closeTask ≡ true → Stacked E n H vs
       → Turned E n H v vs (leaving Said.Closing noTask noTask noTask)
   unfolding saidBytes stepText stepTurns taskText taskTurns
   turned-close v vs some u s =
@@ -78,12 +78,12 @@ module _ (E : ℕ → Expression) (n H : ℕ) (f : ℕ → ℕ) (X : ℕ → Rul
       (record { at-low = fit-none E n H (length vs); at-mid = fit-none E n H (suc (length vs)); at-high = fit-none E n H (suc (suc (length vs))) })
       s
 
-  turned-part : (v : ℕ) (vs : List ℕ) → (v ≡ noTask → ⊥) → eqb (v % parts) close ≡ false → Fit E n H (length vs) v → Stacked E n H vs
+  turned-part : (v : ℕ) (vs : List ℕ) → (v ≡ noTask → ⊥) → eqb v closeTask ≡ false → Fit E n H (length vs) v → Stacked E n H vs
       → Turned E n H v vs (ruleStep f (v / parts) (v % parts) (X (v / parts)))
   turned-part v vs some u a s =
       let r : ℕ = v / parts in
       let p : ℕ = v % parts in
-      let below : r < n = a .reads some in
+      let below : r < n = a .reads some (eqb-false v closeTask u) in
       let low : length vs + 2 * taskHeight E v ≤ H = a .low some in
       let e : E r ≡ rhs r (X r) E = unfolds r below in
       let high : taskHeight E v ≡ height (rhs r (X r) E) = part-height E v some u ∙ ap height e in
@@ -91,11 +91,11 @@ module _ (E : ℕ → Expression) (n H : ℕ) (f : ℕ → ℕ) (X : ℕ → Rul
       turned E n H v vs (ruleStep f r p (X r))
       (part-text E v some u
       ∙ ap (λ (d : Expression). says d p) e
-      ∙ rule-text E n f S few r p below (X r) (names r below))
-      (omega (arith, rule-turns E n f S few r p below (X r) (names r below)))
-      (rule-fits E n f S few r p below H (length vs) (X r) (names r below) (omega arith))
+      ∙ rule-text E n f S r p (X r) (names r below))
+      (omega (arith, rule-turns E n f S r p (X r) (names r below)))
+      (rule-fits E n f S r p H (length vs) (X r) (names r below) (omega arith))
       s
 
   pub turn : (v : ℕ) (vs : List ℕ) → Stacked E n H (v ∷ vs) → Turned E n H v vs (stepOf f X v)
   unfolding stepOf
-  turn v vs (on some a s) = by-test (eqb (v % parts) close) (λ u. rw u (turned-close v vs some u s)) (λ u. rw u (turned-part v vs some u a s))
+  turn v vs (on some a s) = by-test (eqb v closeTask) (λ u. rw u (turned-close v vs some u s)) (λ u. rw u (turned-part v vs some u a s))

@@ -1,40 +1,29 @@
 -- What the passes over the rows and the loop over the stack need and leave, once the rules are loaded.
-use Prim.Native.Nat.{ℕ, zero, suc, _+_, _*_, _/_, _^_, _≤_, _<_}
+use Prim.Native.Nat.{ℕ, _+_, _*_, _/_, _^_, _≤_, _<_}
 use mathlib.Core.Path.{_≡_}
 use mathlib.Core.List.{List, [], _∷_}
 use lib.ListN.{length}
 use lib.Dec.{T, ltb}
 use Rattle.words.specs.Number.{base}
-use Rattle.rule.specs.declared.Rule.{Rule}
 use Rattle.rule.specs.Rule.{every, labelled}
 use Rattle.record.specs.Record.{wordLength}
 use Rattle.rule.specs.Sound.{Sound}
 use Rattle.words.specs.Front.{inFront}
 use Rattle.forest.specs.Expression.{Expression, expression}
-use Rattle.work_rows.specs.Rows.{workLength, rowLength, putField, ruleIn, Within}
+use Rattle.work_rows.specs.Rows.{workLength, rowLength, putField, ruleIn, firstRules, Within}
 use Rattle.count_passes.specs.Tally.{Besides}
 use Rattle.count_passes.specs.Says.{whole, says}
-use Rattle.spread_step.specs.Task.{parts, noTask, taskHeight, taskOf, taskIn}
+use Rattle.spread_step.specs.Task.{parts, closeTask, noTask, taskLimit, taskHeight, taskOf, taskIn}
 use Rattle.spread_step.specs.Step.{atTask, tasksAt}
 use Rattle.spread_stack.specs.Stack.{tasksText, tasksIn}
 
--- the rules in the rows from i on, and those below n
-unfoldable pub rowsFrom : List ℕ → ℕ → ℕ → List Rule
-unfolding ruleIn
-rowsFrom t i zero = []
-rowsFrom t i (suc m) = ruleIn t i ∷ rowsFrom t (suc i) m
-
-unfoldable pub rowsIn : List ℕ → ℕ → List Rule
-unfolding rowsFrom
-rowsIn t n = rowsFrom t 0 n
-
 -- the expression of each rule in the rows
 abbrev pub meant : List ℕ → ℕ → ℕ → Expression
-meant t n = expression (rowsIn t n)
+meant t n = expression (firstRules t n)
 
--- a task that may be put on k others: its rule is below n, and what it comes to stays below the height H
+-- a task that may be put on k others: its rule, if it has one, is below n, and what it comes to stays below the height H
 pub record Fit (E : ℕ → Expression) (n H k v : ℕ) : Type 0 where
-  pub reads : (v ≡ noTask → ⊥) → v / parts < n
+  pub reads : (v ≡ noTask → ⊥) → (v ≡ closeTask → ⊥) → v / parts < n
   pub low : (v ≡ noTask → ⊥) → k + 2 * taskHeight E v ≤ H
 
 -- a stack of such tasks, the top first
@@ -54,7 +43,7 @@ pub record Taskable (t : List ℕ) (n : ℕ) : Type 0 where
   pub room : rowLength * n ≤ length t
   pub lower : (r : ℕ) → r < n → T (every (λ y. ltb y r) (ruleIn t r))
   pub labels : (r : ℕ) → r < n → T (labelled (ruleIn t r))
-  pub few : n ≤ 16383
+  pub few : n ≤ taskLimit
 
 -- row r is given its task
 pub record TaskPut (r : ℕ) (s t : List ℕ) : Type 0 where
@@ -72,8 +61,8 @@ pub record Tasked (n : ℕ) (s t : List ℕ) : Type 0 where
 
 -- the rows are sound and have their tasks
 pub record RowsTasked (t : List ℕ) (n : ℕ) : Type 0 where
-  pub sound : Sound (rowsIn t n) (λ k. k)
-  pub few : n ≤ 16383
+  pub sound : Sound (firstRules t n) (λ k. k)
+  pub few : n ≤ taskLimit
   pub least : 1 ≤ n
   pub room : workEnd n ≤ length t
   pub tasks : (k : ℕ) → k < n → tasksAt t k ≡ taskIn (meant t n k)

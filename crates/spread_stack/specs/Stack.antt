@@ -1,6 +1,6 @@
 -- The stack of tasks: a list, the top first, and in the lent work words from an offset on, the top last, so that two stacks can lie in
 -- one work.
-use Prim.Native.Nat.{ℕ, zero, suc, _+_, _*_, _/_, _≤_}
+use Prim.Native.Nat.{ℕ, zero, suc, _+_, _*_, _≤_}
 use mathlib.Core.Path.{_≡_}
 use mathlib.Core.Bool.{cond}
 use mathlib.Core.List.{List, [], _∷_, _++_}
@@ -9,11 +9,11 @@ use lib.Dec.{eqb}
 use Rattle.words.specs.Number.{number}
 use Rattle.record.specs.Record.{wordLength}
 use Rattle.forest.specs.Expression.{Expression}
-use Rattle.work_rows.specs.Rows.{ruleIn, Within}
+use Rattle.work_rows.specs.Rows.{Within}
 use Rattle.spread_step.specs.declared.Step.{Step}
 use Rattle.spread_stack.specs.declared.State.{State}
-use Rattle.spread_step.specs.Task.{parts, noTask, taskText, taskTurns}
-use Rattle.spread_step.specs.Step.{saidBytes, Steppable, stepIn}
+use Rattle.spread_step.specs.Task.{noTask, taskText, taskTurns}
+use Rattle.spread_step.specs.Step.{saidBytes, Decidable, stepIn}
 
 -- the text of a stack, and how many tasks it comes to
 unfoldable pub tasksText : (ℕ → Expression) → List ℕ → List ℕ
@@ -55,7 +55,7 @@ taskOver t from k = number wordLength t (from + wordLength * k)
 
 -- a turn may be made: the task over k others can be read, its bytes fit the output after at others, its tasks fit the stack
 pub record Turnable (t out : List ℕ) (from k at : ℕ) : Type 0 where
-  pub steps : Steppable t (taskOver t from k / parts) (ruleIn t (taskOver t from k / parts))
+  pub steps : Decidable t (taskOver t from k)
   pub stack : from + wordLength * (k + 3) ≤ length t
   pub fits : at + length (saidBytes ((stepIn t (taskOver t from k)) .said)) ≤ length out
 

@@ -42,7 +42,9 @@ fn push_all(work: &mut [u8], from: usize, k: usize, step: Step) -> usize
 // A step's bytes written after at others; how many there are then.
 fn say(out: &mut [u8], at: usize, said: Said) -> usize
     requires { ⌜ at + length (saidBytes said) ≤ length (now out) ⌝ }
-    ensures { λ r. ⌜ (r ≡ at + length (saidBytes said)) × (now (out .exit) ≡ written (now (out .entry)) at (saidBytes said)) ⌝ }
+    ensures { λ r.
+        ⌜ (r ≡ at + length (saidBytes said))
+        × (now (out .exit) ≡ written (now (out .entry)) at (saidBytes said)) ⌝ }
 {
     match said {
         Said::Nothing => at,
@@ -61,7 +63,12 @@ fn say(out: &mut [u8], at: usize, said: Said) -> usize
 // One turn: the task over k others is replaced by what it comes to.
 fn turn(work: &mut [u8], out: &mut [u8], from: usize, k: usize, at: usize) -> State
     requires { ⌜ Turnable (now work) (now out) from k at ⌝ }
-    ensures { λ x. ⌜ TurnMade from k at x (now (work .entry)) (now (work .exit)) (now (out .entry)) (now (out .exit)) ⌝ }
+    ensures { λ x.
+        let work′ = now (work .exit) in
+        let out′ = now (out .exit) in
+        let work = now (work .entry) in
+        let out = now (out .entry) in
+        ⌜ TurnMade from k at x work work′ out out′ ⌝ }
 {
     let task = words::read16(work, from + 2 * k);
     let step = spread_step::decide(work, task);
@@ -95,7 +102,9 @@ pub fn task_rows(work: &mut [u8], n: u16)
 // The tasks on the stack, done one after the other; how many bytes they wrote.
 fn run(work: &mut [u8], out: &mut [u8], n: u16, first: usize) -> usize
     requires { ⌜ Runnable (now work) (now out) n first ⌝ }
-    ensures { λ x. ⌜ Ran n (stackText (now (work .entry)) n first) x (now (work .entry)) (now (work .exit)) (now (out .entry)) (now (out .exit)) ⌝ }
+    ensures { λ x.
+        let text = stackText (now (work .entry)) n first in
+        ⌜ Ran n text x (now (work .entry)) (now (work .exit)) (now (out .entry)) (now (out .exit)) ⌝ }
 {
     let from = Row::LENGTH * (n as usize);
     let mut k = first;
@@ -111,7 +120,9 @@ fn run(work: &mut [u8], out: &mut [u8], n: u16, first: usize) -> usize
 // The text of rule r, written to the front of the output; its length.
 pub fn spread_rule(work: &mut [u8], out: &mut [u8], n: u16, r: u16) -> usize
     requires { ⌜ Spreadable (now work) (now out) n r ⌝ }
-    ensures { λ x. ⌜ Ran n (says (meant (now (work .entry)) n r) whole) x (now (work .entry)) (now (work .exit)) (now (out .entry)) (now (out .exit)) ⌝ }
+    ensures { λ x.
+        let text = says (meant (now (work .entry)) n r) whole in
+        ⌜ Ran n text x (now (work .entry)) (now (work .exit)) (now (out .entry)) (now (out .exit)) ⌝ }
 {
     let task = spread_step::whole(work, r);
     let k = push(work, Row::LENGTH * (n as usize), 0, task);

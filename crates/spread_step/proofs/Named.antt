@@ -6,9 +6,11 @@ use mathlib.Core.List.{List}
 use lib.ListN.{length}
 use lib.Dec.{leb→le}
 use Rattle.rule.specs.declared.Rule.{Rule}
-use Rattle.rule.specs.Rule.{labelled, Names}
+use Rattle.rule.specs.Rule.{labelled}
+use Rattle.rule.specs.Names.{Names}
 use Rattle.work_rows.specs.Rows.{rowLength}
 use Rattle.count_passes.proofs.Reach.{named-lower}
+use Rattle.spread_step.specs.Task.{taskLimit}
 use Rattle.spread_step.specs.Step.{Steppable}
 
 -- the rule that a match found
@@ -18,7 +20,7 @@ at-rule q h = rw q at h
 pub named-room : {t : List ℕ} {r : ℕ} {x : Rule} → Steppable t r x → (k : ℕ) → Names x k → rowLength * k + 32 ≤ length t
 named-room {r = r} h k m = let l : k < r = named-lower r (h .lower) m in omega (arith, h .room)
 
-pub named-few : {t : List ℕ} {r : ℕ} {x : Rule} → Steppable t r x → (k : ℕ) → Names x k → k < 16383
+pub named-few : {t : List ℕ} {r : ℕ} {x : Rule} → Steppable t r x → (k : ℕ) → Names x k → k < taskLimit
 named-few {r = r} h k m = let l : k < r = named-lower r (h .lower) m in omega (arith, h .few)
 
 -- the labels of a node and of a part

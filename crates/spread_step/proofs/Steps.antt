@@ -1,18 +1,18 @@
 -- One step: what a task comes to writes and leaves exactly the task's text, and leaves tasks that come to fewer than it did.
 -- Assumes nothing.
-use Prim.Native.Nat.{ℕ, _+_, _≤_, _<_}
+use Prim.Native.Nat.{ℕ, _+_, _<_}
 use native.Mathlib.Omega.{arith}
 use mathlib.Core.Path.{_≡_}
 use mathlib.Core.List.{List, _++_}
 use lib.Dec.{eqb}
 use Rattle.rule.specs.declared.Rule.{Rule}
 use Rattle.forest.specs.Expression.{Expression, rhs}
-use Rattle.rule.specs.Rule.{Names, pair-one, pair-two, node-one, fill-two, part-one, part-two}
+use Rattle.rule.specs.Names.{Names, pair-one, pair-two, node-one, fill-two, part-one, part-two}
 use Rattle.count_passes.specs.Says.{before, after, says}
 use Rattle.spread_step.specs.declared.Step.{Step}
 use Rattle.spread_step.specs.Task.{taskText, turnsIn, taskTurns}
 use Rattle.spread_step.specs.Step.{saidBytes, ruleStep}
-use Rattle.spread_step.proofs.Tasks.{taskLimit, by-test, text-part, text-close, text-none, turns-part, turns-close, turns-none, Stands}
+use Rattle.spread_step.proofs.Tasks.{by-test, text-part, text-close, text-none, turns-part, turns-close, turns-none, Stands}
 
 module _ (E : ℕ → Expression) where
   -- the tasks of a step
@@ -23,20 +23,20 @@ module _ (E : ℕ → Expression) where
   stepTurns x = taskTurns E (x .high) + taskTurns E (x .mid) + taskTurns E (x .low)
 
 -- the tasks of a right-hand side: f gives a task for each whole rule named
-module _ (E : ℕ → Expression) (n : ℕ) (f : ℕ → ℕ) (S : (k : ℕ) → k < n → Stands E n (f k) (E k)) (few : n ≤ taskLimit) (r p : ℕ) (below : r < n) where
+module _ (E : ℕ → Expression) (n : ℕ) (f : ℕ → ℕ) (S : (k : ℕ) → k < n → Stands E n (f k) (E k)) (r p : ℕ) where
   -- the text
   pub rule-text : (x : Rule) → ((k : ℕ) → Names x k → k < n)
       → says (rhs r x E) p ≡ saidBytes ((ruleStep f r p x) .said) ++ stepText E (ruleStep f r p x)
   unfolding says rhs ruleStep saidBytes stepText
   rule-text Rule.Empty h = rw (text-none E)
   rule-text (Rule.Pair b c) h = rw (text-none E, S b (h b pair-one) .text, S c (h c pair-two) .text)
-  rule-text (Rule.Node a c) h = rw (text-none E, S c (h c node-one) .text, text-close E r (omega arith))
+  rule-text (Rule.Node a c) h = rw (text-none E, S c (h c node-one) .text, text-close E)
   rule-text (Rule.Fill b c) h =
       rw (text-part E b before (omega arith), S c (h c fill-two) .text, text-part E b after (omega arith))
   rule-text (Rule.Part a b c) h =
       by-test (eqb p before)
       (λ u. rw (u, text-none E, S b (h b part-one) .text))
-      (λ u. rw (u, text-none E, S c (h c part-two) .text, text-close E r (omega arith)))
+      (λ u. rw (u, text-none E, S c (h c part-two) .text, text-close E))
   rule-text (Rule.Join b c) h =
       by-test (eqb p before)
       (λ u. rw (u, text-none E, text-part E b before (omega arith), text-part E c before (omega arith)))
@@ -47,13 +47,13 @@ module _ (E : ℕ → Expression) (n : ℕ) (f : ℕ → ℕ) (S : (k : ℕ) →
   unfolding turnsIn rhs ruleStep stepTurns
   rule-turns Rule.Empty h = omega (arith, turns-none E)
   rule-turns (Rule.Pair b c) h = omega (arith, turns-none E, S b (h b pair-one) .turns, S c (h c pair-two) .turns)
-  rule-turns (Rule.Node a c) h = omega (arith, turns-none E, S c (h c node-one) .turns, turns-close E r (omega arith))
+  rule-turns (Rule.Node a c) h = omega (arith, turns-none E, S c (h c node-one) .turns, turns-close E)
   rule-turns (Rule.Fill b c) h =
       omega (arith, turns-part E b before (omega arith), S c (h c fill-two) .turns, turns-part E b after (omega arith))
   rule-turns (Rule.Part a b c) h =
       by-test (eqb p before)
       (λ u. rw u (omega (arith, turns-none E, S b (h b part-one) .turns)))
-      (λ u. rw u (omega (arith, turns-none E, S c (h c part-two) .turns, turns-close E r (omega arith))))
+      (λ u. rw u (omega (arith, turns-none E, S c (h c part-two) .turns, turns-close E)))
   rule-turns (Rule.Join b c) h =
       by-test (eqb p before)
       (λ u. rw u (omega (arith, turns-none E, turns-part E b before (omega arith), turns-part E c before (omega arith))))

@@ -13,13 +13,9 @@ use Rattle.rule.specs.Sound.{rule, Sound}
 use Rattle.forest.specs.Expression.{Expression, rhs, expression}
 use Rattle.forest.specs.Sizes.{height}
 use Rattle.forest.proofs.Unfold.{by-rank, unfolding-equation}
-use Rattle.rule.specs.Rule.{Names, pair-one, pair-two}
-use Rattle.count_passes.specs.Says.{whole, closing, says}
-use Rattle.spread_step.specs.Task.{parts, close, taskWord, noTask, taskBy, taskText, turnsIn, taskTurns, taskHeight, taskIn, taskOf}
-
--- the most rules whose tasks are words and none of them noTask
-abbrev pub taskLimit : ℕ
-taskLimit = 16383
+use Rattle.rule.specs.Names.{Names, pair-one, pair-two}
+use Rattle.count_passes.specs.Says.{whole, after, closing, says}
+use Rattle.spread_step.specs.Task.{parts, closeTask, taskWord, noTask, taskBy, taskText, turnsIn, taskTurns, taskHeight, taskIn, taskOf}
 
 -- a case of a test
 pub by-test : {A : Type 0} (b : Bool) → (b ≡ true → A) → (b ≡ false → A) → A
@@ -28,51 +24,45 @@ by-test false f g = g refl
 
 -- a task's word read back
 module _ {A : Type 0} (none closes : A) (part : ℕ → ℕ → A) where
-  by-part : (r p : ℕ) → p < close → taskBy none closes part (taskWord r p) ≡ part r p
+  by-part : (r p : ℕ) → p ≤ after → taskBy none closes part (taskWord r p) ≡ part r p
   unfolding taskBy
   by-part r p small =
       let phase : (parts * r + p) % parts ≡ p = omega arith in
       let number : (parts * r + p) / parts ≡ r = omega arith in
-      rw (ne-eqb (parts * r + p) noTask (λ e. omega arith), phase, ne-eqb p close (λ e. omega arith), number)
-
-  by-close : (r : ℕ) → r < taskLimit → taskBy none closes part (taskWord r close) ≡ closes
-  unfolding taskBy
-  by-close r small =
-      let phase : (parts * r + close) % parts ≡ close = omega arith in
-      rw (ne-eqb (parts * r + close) noTask (λ e. omega arith), phase)
+      rw (ne-eqb (parts * r + p) noTask (λ e. omega arith), ne-eqb (parts * r + p) closeTask (λ e. omega arith), phase, number)
 
 module _ (E : ℕ → Expression) where
-  pub text-part : (r p : ℕ) → p < close → taskText E (taskWord r p) ≡ says (E r) p
+  pub text-part : (r p : ℕ) → p ≤ after → taskText E (taskWord r p) ≡ says (E r) p
   unfolding taskText
   text-part r p small = by-part [] (closing ∷ []) (λ r p. says (E r) p) r p small
 
-  pub text-close : (r : ℕ) → r < taskLimit → taskText E (taskWord r close) ≡ closing ∷ []
+  pub text-close : taskText E closeTask ≡ closing ∷ []
   unfolding taskText
-  text-close r small = by-close [] (closing ∷ []) (λ r p. says (E r) p) r small
+  text-close = refl
 
   pub text-none : taskText E noTask ≡ []
   unfolding taskText
   text-none = refl
 
-  pub turns-part : (r p : ℕ) → p < close → taskTurns E (taskWord r p) ≡ turnsIn (E r)
+  pub turns-part : (r p : ℕ) → p ≤ after → taskTurns E (taskWord r p) ≡ turnsIn (E r)
   unfolding taskTurns
   turns-part r p small = by-part 0 1 (λ r p. turnsIn (E r)) r p small
 
-  pub turns-close : (r : ℕ) → r < taskLimit → taskTurns E (taskWord r close) ≡ 1
+  pub turns-close : taskTurns E closeTask ≡ 1
   unfolding taskTurns
-  turns-close r small = by-close 0 1 (λ r p. turnsIn (E r)) r small
+  turns-close = refl
 
   pub turns-none : taskTurns E noTask ≡ 0
   unfolding taskTurns
   turns-none = refl
 
-  pub height-part : (r p : ℕ) → p < close → taskHeight E (taskWord r p) ≡ height (E r)
+  pub height-part : (r p : ℕ) → p ≤ after → taskHeight E (taskWord r p) ≡ height (E r)
   unfolding taskHeight
   height-part r p small = by-part 0 0 (λ r p. height (E r)) r p small
 
-  pub height-close : (r : ℕ) → r < taskLimit → taskHeight E (taskWord r close) ≡ 0
+  pub height-close : taskHeight E closeTask ≡ 0
   unfolding taskHeight
-  height-close r small = by-close 0 0 (λ r p. height (E r)) r small
+  height-close = refl
 
 -- v is a task for the whole of e, whose rules are below n
 pub record Stands (E : ℕ → Expression) (n v : ℕ) (e : Expression) : Type 0 where

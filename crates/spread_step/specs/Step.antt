@@ -1,5 +1,6 @@
 -- What a task comes to: bytes to write, and the tasks to do after them; and what the rows must have for it.
 use Prim.Native.Nat.{ℕ, _+_, _*_, _/_, _%_, _≤_, _<_}
+use mathlib.Core.Path.{_≡_}
 use mathlib.Core.Bool.{cond}
 use mathlib.Core.List.{List, [], _∷_}
 use lib.ListN.{length}
@@ -11,7 +12,7 @@ use Rattle.work_rows.specs.Rows.{rowLength, field, ruleIn}
 use Rattle.count_passes.specs.Says.{before, after, opening, closing}
 use Rattle.spread_step.specs.declared.Said.{Said}
 use Rattle.spread_step.specs.declared.Step.{Step}
-use Rattle.spread_step.specs.Task.{parts, close, noTask, taskWord}
+use Rattle.spread_step.specs.Task.{parts, closeTask, noTask, taskLimit, taskWord}
 
 -- the bytes that a step writes
 unfoldable pub saidBytes : Said → List ℕ
@@ -27,10 +28,10 @@ leaving x low mid high = record { said = x; low = low; mid = mid; high = high }
 unfoldable pub ruleStep : (ℕ → ℕ) → ℕ → ℕ → Rule → Step
 ruleStep f r p Rule.Empty = leaving Said.Nothing noTask noTask noTask
 ruleStep f r p (Rule.Pair b c) = leaving Said.Nothing (f c) (f b) noTask
-ruleStep f r p (Rule.Node a c) = leaving (Said.Opening a) (taskWord r close) (f c) noTask
+ruleStep f r p (Rule.Node a c) = leaving (Said.Opening a) closeTask (f c) noTask
 ruleStep f r p (Rule.Fill b c) = leaving Said.Nothing (taskWord b after) (f c) (taskWord b before)
 ruleStep f r p (Rule.Part a b c) =
-    cond (eqb p before) (leaving (Said.Opening a) (f b) noTask noTask) (leaving Said.Nothing (taskWord r close) (f c) noTask)
+    cond (eqb p before) (leaving (Said.Opening a) (f b) noTask noTask) (leaving Said.Nothing closeTask (f c) noTask)
 ruleStep f r p (Rule.Join b c) =
     cond (eqb p before)
     (leaving Said.Nothing (taskWord c before) (taskWord b before) noTask)
@@ -40,7 +41,7 @@ ruleStep f r p (Rule.Join b c) =
 unfoldable pub stepOf : (ℕ → ℕ) → (ℕ → Rule) → ℕ → Step
 unfolding ruleStep
 stepOf f x v =
-    cond (eqb (v % parts) close) (leaving Said.Closing noTask noTask noTask) (ruleStep f (v / parts) (v % parts) (x (v / parts)))
+    cond (eqb v closeTask) (leaving Said.Closing noTask noTask noTask) (ruleStep f (v / parts) (v % parts) (x (v / parts)))
 
 -- where a row keeps the task of its whole rule
 abbrev pub atTask : ℕ
@@ -54,7 +55,11 @@ pub record Steppable (t : List ℕ) (r : ℕ) (x : Rule) : Type 0 where
   pub room : rowLength * (r + 1) ≤ length t
   pub lower : T (every (λ y. ltb y r) x)
   pub labels : T (labelled x)
-  pub few : r < 16383
+  pub few : r < taskLimit
+
+-- task v can be decided: the closing task needs no row
+abbrev pub Decidable : List ℕ → ℕ → Type 0
+Decidable t v = (v ≡ closeTask → ⊥) → Steppable t (v / parts) (ruleIn t (v / parts))
 
 -- what task v comes to, from the rows
 abbrev pub stepIn : List ℕ → ℕ → Step

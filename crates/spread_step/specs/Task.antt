@@ -8,23 +8,28 @@ use Rattle.forest.specs.Expression.{Expression}
 use Rattle.forest.specs.Sizes.{height}
 use Rattle.count_passes.specs.Says.{whole, closing, says}
 
--- the word of a task is 4 × rule + part; the fourth part is the byte that closes the rule's node
+-- the word of a task is 4 × rule + part: whole, before or after (count_passes/specs/Says)
 abbrev pub parts : ℕ
 parts = 4
-
-abbrev pub close : ℕ
-close = 3
 
 abbrev pub taskWord : ℕ → ℕ → ℕ
 taskWord r p = parts * r + p
 
--- no task: the whole text of an empty rule
+-- words of the fourth part are of no rule: one stands for the byte that closes a node, whichever it is, and one for no task, which is the
+-- whole text of an empty rule
+abbrev pub closeTask : ℕ
+closeTask = 3
+
 abbrev pub noTask : ℕ
 noTask = 65535
 
+-- the most rules whose tasks are 16-bit words
+abbrev pub taskLimit : ℕ
+taskLimit = 16384
+
 -- what a task depends on: nothing to do, a closing byte, or a part of a rule's text
 unfoldable pub taskBy : {A : Type 0} → A → A → (ℕ → ℕ → A) → ℕ → A
-taskBy none closes part v = cond (eqb v noTask) none (cond (eqb (v % parts) close) closes (part (v / parts) (v % parts)))
+taskBy none closes part v = cond (eqb v noTask) none (cond (eqb v closeTask) closes (part (v / parts) (v % parts)))
 
 -- the text of a task
 unfoldable pub taskText : (ℕ → Expression) → ℕ → List ℕ

@@ -1,13 +1,13 @@
 // What a task of spread (document 01) comes to: bytes to write, and up to three tasks to do after them.
 ghost use mathlib.Core.Path.{_≡_};
 ghost use mathlib.Core.Bool.{cond};
-ghost use Prim.Native.Nat.{ℕ, _+_, _*_, _/_, _≤_, _<_};
+ghost use Prim.Native.Nat.{ℕ, _+_, _*_, _≤_, _<_};
 ghost use lib.Dec.{eqb};
 ghost use lib.ListN.{length};
 ghost use Rattle.rule.specs.declared.Rule.{Rule};
-ghost use Rattle.work_rows.specs.Rows.{rowLength, ruleIn};
-ghost use Rattle.spread_step.specs.Task.{parts, noTask, taskWord, taskOf};
-ghost use Rattle.spread_step.specs.Step.{leaving, ruleStep, tasksAt, stepIn, Steppable};
+ghost use Rattle.work_rows.specs.Rows.{rowLength};
+ghost use Rattle.spread_step.specs.Task.{parts, noTask, taskLimit, taskWord, taskOf};
+ghost use Rattle.spread_step.specs.Step.{leaving, ruleStep, tasksAt, stepIn, Steppable, Decidable};
 use rule::Rule;
 
 // What a step writes.
@@ -26,7 +26,7 @@ pub struct Step {
 }
 
 impl Step {
-    // A task's word is 4 × rule + part: the whole text, what stands before the hole, after it, or the byte that closes the node.
+    // A task's word is 4 × rule + part: the whole text, what stands before the hole, or after it.
     const PARTS: u16 = 4;
 
     const WHOLE: u16 = 0;
@@ -35,9 +35,9 @@ impl Step {
 
     const AFTER: u16 = 2;
 
+    // Words of the fourth part are of no rule: the byte that closes a node, and no task, which is the whole text of an empty rule.
     const CLOSE: u16 = 3;
 
-    // No task: the whole text of an empty rule.
     pub const NONE: u16 = 65535;
 
     // Where a row keeps the task of its whole rule.
@@ -51,7 +51,7 @@ impl Step {
 
     // The task of a part of rule r.
     fn task(r: u16, p: u16) -> u16
-        requires { ⌜ (r < 16383) × (p < 4) ⌝ }
+        requires { ⌜ (r < taskLimit) × (p < parts) ⌝ }
         ensures { λ v. ⌜ v ≡ taskWord r p ⌝ }
     {
         Step::PARTS * r + p
@@ -113,14 +113,10 @@ pub fn task_of(work: &[u8], r: u16, rule: Rule) -> u16
     match rule {
         Rule::Empty => Step::NONE,
         Rule::Pair { first, second } => pair_task(whole(work, first), whole(work, second), own),
-        Rule::Node { label: _, under: _ } => own,
-        Rule::Fill { outer: _, inner: _ } => own,
-        Rule::Part {
-            label: _,
-            left: _,
-            right: _,
-        } => own,
-        Rule::Join { outer: _, inner: _ } => own,
+        Rule::Node { .. } => own,
+        Rule::Fill { .. } => own,
+        Rule::Part { .. } => own,
+        Rule::Join { .. } => own,
     }
 }
 
@@ -137,11 +133,7 @@ fn rule_step(work: &[u8], r: u16, p: u16, rule: Rule) -> Step
             whole(work, first),
             none,
         ),
-        Rule::Node { label, under } => Step::opening(
-            label,
-            Step::task(r, Step::CLOSE),
-            whole(work, under),
-        ),
+        Rule::Node { label, under } => Step::opening(label, Step::CLOSE, whole(work, under)),
         Rule::Fill { outer, inner } => Step::nothing(
             Step::task(outer, Step::AFTER),
             whole(work, inner),
@@ -160,12 +152,12 @@ fn part_step(work: &[u8], r: u16, p: u16, label: u32, left: u16, right: u16) -> 
     if p == Step::BEFORE {
         return Step::opening(label, whole(work, left), Step::NONE);
     }
-    Step::nothing(Step::task(r, Step::CLOSE), whole(work, right), Step::NONE)
+    Step::nothing(Step::CLOSE, whole(work, right), Step::NONE)
 }
 
 // The same of a join.
 fn join_step(p: u16, outer: u16, inner: u16) -> Step
-    requires { ⌜ (outer < 16383) × (inner < 16383) ⌝ }
+    requires { ⌜ (outer < taskLimit) × (inner < taskLimit) ⌝ }
     ensures { λ x. ⌜ ((f : ℕ → ℕ) (r : ℕ) → x ≡ ruleStep f r p (Rule.Join outer inner)) ⌝ }
 {
     if p == Step::BEFORE {
@@ -184,12 +176,10 @@ fn join_step(p: u16, outer: u16, inner: u16) -> Step
 
 // What a task comes to.
 pub fn decide(work: &[u8], task: u16) -> Step
-    requires { ⌜ Steppable (now work) (task / parts) (ruleIn (now work) (task / parts)) ⌝ }
+    requires { ⌜ Decidable (now work) task ⌝ }
     ensures { λ x. ⌜ x ≡ stepIn (now (work .entry)) task ⌝ }
 {
-    let r = task / Step::PARTS;
-    let p = task % Step::PARTS;
-    if p == Step::CLOSE {
+    if task == Step::CLOSE {
         return Step {
             said: Said::Closing,
             low: Step::NONE,
@@ -197,5 +187,6 @@ pub fn decide(work: &[u8], task: u16) -> Step
             high: Step::NONE,
         };
     }
-    rule_step(work, r, p, work_rows::rule_at(work, r))
+    let r = task / Step::PARTS;
+    rule_step(work, r, task % Step::PARTS, work_rows::rule_at(work, r))
 }

@@ -14,7 +14,7 @@ use Rattle.plan.specs.declared.Checked.{Checked}
 use Rattle.plan.specs.declared.Written.{Written}
 use Rattle.record.specs.Record.{recordLength, recordWords}
 use Rattle.record.specs.Records.{recordsFrom, recordsBytes}
-use Rattle.plan.specs.Check.{trailerLength, magic, trailerBytes, mostRules, trailerAt, countOf, startOf, distanceOf, marked, firstAt, recordsOf, accepted, inLimits, checkedUpTo, checked, planBytes}
+use Rattle.plan.specs.Check.{trailerLength, atStart, atDistance, atMark, magic, trailerBytes, mostRules, trailerAt, countOf, startOf, distanceOf, marked, firstAt, recordsOf, accepted, inLimits, checkedUpTo, checked, planBytes}
 use Rattle.seal.specs.Seal.{givenCount, given, roomed, sealedUpTo, sealed, sealedOutput}
 use Rattle.words.specs.Front.{inFront}
 use Rattle.plan.specs.Written.{outputAfter}
@@ -124,10 +124,10 @@ module _ (most : ℕ) (s : List ℕ) (n start : ℕ) (bs : Bytes s) (q : Plan mo
   unfolding trailerBytes countOf startOf distanceOf marked
   alone-trailer =
       let k = recordLength * n in
-      let m : drop (k + 8) s ≡ magic = rw alone-at at (same-lists (drop (trailerAt s + 8) s) magic (q .magical)) in
-      let d : number 4 s (k + 4) ≡ k = rw alone-at at (q .distance) in
+      let m : drop (k + atMark) s ≡ magic = rw alone-at at (same-lists (drop (trailerAt s + atMark) s) magic (q .magical)) in
+      let d : number 4 s (k + atDistance) ≡ k = rw alone-at at (q .distance) in
       let c : number 2 s k ≡ n = rw alone-at at (sym (q .count)) in
-      let b : number 2 s (k + 2) ≡ start = rw alone-at at (sym (q .begins)) in
+      let b : number 2 s (k + atStart) ≡ start = rw alone-at at (sym (q .begins)) in
       sym (last-parts s k bs (sym alone)) ∙ (λ i. bytes 2 (c i) ++ (bytes 2 (b i) ++ (bytes 4 (d i) ++ m i)))
 
   alone-words : recordsBytes (recordsOf s) ≡ take (recordLength * n) s

@@ -15,11 +15,11 @@ use Rattle.plan.proofs.Sound.{Plan, checked-plan, plan-long}
 use Rattle.forest.specs.Walk.{placeJudged}
 use Rattle.forest.specs.declared.Walked.{Walked}
 use Rattle.model.specs.Facts.{Facts, factsOf}
-use Rattle.work_rows.specs.Rows.{workLength, rowLength, Holds, Within, Loaded}
-use Rattle.facts.specs.Facts.{rowCount, factsIn, kept, Built}
+use Rattle.work_rows.specs.Rows.{workLength, rowLength, Holds, Within, Loaded, firstRules}
+use Rattle.facts.specs.Facts.{rowCount, factsIn, Built}
 use Rattle.work_rows.proofs.Rows.{within-both}
 use Rattle.facts.proofs.Words.{factsIn-rule}
-use Rattle.facts.proofs.Kept.{kept-holds}
+use Rattle.work_rows.proofs.Kept.{holds-first}
 use Rattle.facts_build.proofs.Known.{built-walkable}
 use Rattle.work_rows.proofs.Work.{rules-first, beyond-work}
 use Rattle.letter_moves.specs.Standing.{rulesKept}
@@ -31,7 +31,7 @@ walkable-rules : (R : List Rule) (n : ℕ) (t : List ℕ) → length R ≡ n →
 unfolding Holds factsOf
 walkable-rules R n t count long e =
     let all : rowCount t ≡ n = omega arith in
-    ap (kept t) all ∙ kept-holds R t n count (λ k below. sym (factsIn-rule t k (omega arith)) ∙ ap (λ (F : Facts). F .rule k) e)
+    ap (firstRules t) all ∙ holds-first R t n count (λ k below. sym (factsIn-rule t k (omega arith)) ∙ ap (λ (F : Facts). F .rule k) e)
 
 module _ {s : List ℕ} {n : ℕ} (P : Planned s n) where
   plan : Plan mostRules s n (P .start)
@@ -41,13 +41,13 @@ module _ {s : List ℕ} {n : ℕ} (P : Planned s n) where
   loads u e = (plan-long mostRules s n (P .start) plan, omega arith)
 
   module _ {u t : List ℕ} (l : Loaded (rulesIn (recordsFrom s (length s - trailerLength - recordLength * n) n)) n u t) (room : workLength * n ≤ length u) where
-    rules-loaded : kept t n ≡ rulesOf s
-    rules-loaded = kept-holds (rulesOf s) t n (plan .rules) ((rw (rules-first s n (P .start) plan) at l) .holds)
+    rules-loaded : firstRules t n ≡ rulesOf s
+    rules-loaded = holds-first (rulesOf s) t n (plan .rules) ((rw (rules-first s n (P .start) plan) at l) .holds)
 
-    pub builds : (rowLength * n ≤ length t) × Sound (kept t n) (λ r. r)
+    pub builds : (rowLength * n ≤ length t) × Sound (firstRules t n) (λ r. r)
     builds = let same = l .beyond .same-length in (omega arith, rw rules-loaded (plan .sound))
 
-    pub filled : {t′ : List ℕ} → Built (kept t n) n n t t′ → Filled (rulesOf s) (take (rowLength * n) t′) × Within 0 (workLength * n) u t′
+    pub filled : {t′ : List ℕ} → Built (firstRules t n) n n t t′ → Filled (rulesOf s) (take (rowLength * n) t′) × Within 0 (workLength * n) u t′
     filled {t′} b =
         let same = l .beyond .same-length in
         let B : Built (rulesOf s) n n t t′ = rw rules-loaded at b in

@@ -1,8 +1,8 @@
 -- The rows of work: a row for each rule, which begins with the rule itself. Above this crate nobody reads a plan's bytes.
-use Prim.Native.Nat.{ℕ, _+_, _*_, _<_}
+use Prim.Native.Nat.{ℕ, zero, suc, _+_, _*_, _<_}
 use mathlib.Core.Path.{_≡_}
 use mathlib.Core.Bool.{cond}
-use mathlib.Core.List.{List}
+use mathlib.Core.List.{List, [], _∷_}
 use lib.ListN.{length, take, drop}
 use lib.Dec.{eqb}
 use Rattle.words.specs.Number.{number, put}
@@ -18,7 +18,7 @@ abbrev pub workLength : ℕ
 workLength = wordLength * ruleWork
 
 abbrev pub rowLength : ℕ
-rowLength = 48
+rowLength = 32
 
 -- the field of w bytes at offset o of row r, and a list with another number there
 unfoldable pub field : ℕ → List ℕ → ℕ → ℕ → ℕ
@@ -78,6 +78,14 @@ putRow t r w =
 unfoldable pub ruleIn : List ℕ → ℕ → Rule
 unfolding ruleFrom rowIn
 ruleIn t r = ruleFrom (rowIn t r)
+
+-- the rules in n rows from row i on, and those in the first n rows
+unfoldable pub rulesFrom : List ℕ → ℕ → ℕ → List Rule
+rulesFrom t i zero = []
+rulesFrom t i (suc n) = ruleIn t i ∷ rulesFrom t (suc i) n
+
+unfoldable pub firstRules : List ℕ → ℕ → List Rule
+firstRules t n = rulesFrom t 0 n
 
 -- every row below i holds its rule
 unfoldable pub Holds : List Rule → List ℕ → ℕ → Type 0

@@ -55,7 +55,7 @@ fn put32(work: &mut [u8], r: u16, offset: usize, v: u32)
 
 impl Row {
     // Bytes of a row.
-    pub const LENGTH: usize = 48;
+    pub const LENGTH: usize = 32;
 
     // Where a row keeps its rule.
     const KIND: usize = 0;
@@ -185,7 +185,8 @@ fn rule_of(d: Decoded) -> Rule
 // The plan's n rules, whose records begin at first, into the rows of work.
 fn load(plan: &[u8], first: usize, n: u16, work: &mut [u8])
     requires { ⌜ (first + recordLength * n ≤ length (now plan)) × (rowLength * n ≤ length (now work)) ⌝ }
-    ensures { λ x. ⌜ Loaded (rulesIn (recordsFrom (now (plan .entry)) first n)) n (now (work .entry)) (now (work .exit)) ⌝ }
+    ensures { λ x.
+        ⌜ Loaded (rulesIn (recordsFrom (now (plan .entry)) first n)) n (now (work .entry)) (now (work .exit)) ⌝ }
 {
     let mut i: u16 = 0;
     while i < n {
@@ -222,7 +223,10 @@ pub fn enough_work(work: &[u8], n: u16) -> bool
 // An accepted plan's n rules, which stand right before its trailer, into the rows of work.
 pub fn load_rules(plan: &[u8], work: &mut [u8], n: u16)
     requires { ⌜ (recordLength * n + trailerLength ≤ length (now plan)) × (rowLength * n ≤ length (now work)) ⌝ }
-    ensures { λ x. ⌜ Loaded (rulesIn (recordsFrom (now (plan .entry)) (length (now (plan .entry)) - trailerLength - recordLength * n) n)) n (now (work .entry)) (now (work .exit)) ⌝ }
+    ensures { λ x.
+        let s = now (plan .entry) in
+        let rules = rulesIn (recordsFrom s (length s - trailerLength - recordLength * n) n) in
+        ⌜ Loaded rules n (now (work .entry)) (now (work .exit)) ⌝ }
 {
     let first = plan.len() - Trailer::LENGTH - Record::LENGTH * (n as usize);
     load(plan, first, n, work);

@@ -1,6 +1,6 @@
 -- The invariant: the rows below r have their tally, and nothing else has changed (`Passing`). Assumes nothing.
 use Prim.Native.Nat.{_-_}
-use Rattle.count_passes.proofs.Pass.{Passing, passing-start, passing-readable, passing-more, passing-end}
+use Rattle.count_passes.proofs.Passes.{Passing, passing-start, passing-readable, passing-more, passing-end}
 use native.Mathlib.Omega.{arith}
 use Rattle.count_passes.proofs.tally_all.Statement.{statement}
 use Rattle.count_passes.proofs.tally_all.Tie as tie

@@ -1,6 +1,6 @@
 -- Each arm has the depth of its rule's hole. Assumes nothing.
 use borrow.Author.Needs.{needs}
-use Rattle.rule.specs.Rule.{join-one, join-two}
+use Rattle.rule.specs.Names.{join-one, join-two}
 use Rattle.count_rule.specs.ByRule.{depthOf}
 use Rattle.count_rule.proofs.Found.{reach-at}
 use native.Mathlib.Omega.{arith}

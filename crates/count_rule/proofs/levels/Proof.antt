@@ -1,6 +1,6 @@
 -- Each arm has its rule's levels. Assumes nothing.
 use borrow.Author.Needs.{needs}
-use Rattle.rule.specs.Rule.{pair-one, pair-two, node-one, fill-one, fill-two, part-one, part-two, join-one, join-two}
+use Rattle.rule.specs.Names.{pair-one, pair-two, node-one, fill-one, fill-two, part-one, part-two, join-one, join-two}
 use Rattle.count_rule.specs.ByRule.{levelsOf}
 use Rattle.count_rule.proofs.Found.{reach-at}
 use native.Mathlib.Omega.{arith}

@@ -1,6 +1,6 @@
 -- Each arm adds what its rule asks for; counts that are capped before they are added come to the same. Assumes nothing.
 use borrow.Author.Needs.{needs}
-use Rattle.rule.specs.Rule.{pair-one, pair-two, node-one, fill-one, fill-two, part-one, part-two, join-one, join-two}
+use Rattle.rule.specs.Names.{pair-one, pair-two, node-one, fill-one, fill-two, part-one, part-two, join-one, join-two}
 use Rattle.count_rule.specs.ByRule.{sumOf}
 use Rattle.count_rule.proofs.Found.{reach-at}
 use native.Mathlib.Omega.{arith}
@@ -37,7 +37,7 @@ enum-known-rule-3 c = search needs
 both-requires-2 : tie.Need-both-requires-2
 both-requires-2 c κs = (
   reach-at (c .before .rule3 .given .1) (c .before .before .before .before .pre) _ fill-one,
-  reach-at (c .before .rule3 .given .1) (c .before .before .before .before .pre) _ fill-two,
+  reach-at (c .before .rule3 .given .1) (c .before .before .before .before .pre) _ (search (fill-one, fill-two)),
 )
 
 enum-known-rule-4 : tie.Need-enum-known-rule-4

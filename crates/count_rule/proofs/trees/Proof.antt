@@ -1,6 +1,6 @@
 -- Each arm counts its rule's trees. Assumes nothing.
 use borrow.Author.Needs.{needs}
-use Rattle.rule.specs.Rule.{pair-one, pair-two}
+use Rattle.rule.specs.Names.{pair-one, pair-two}
 use Rattle.count_rule.specs.ByRule.{treesOf}
 use Rattle.count_rule.proofs.Found.{reach-at}
 use native.Mathlib.Omega.{arith}

@@ -2,14 +2,15 @@
 use Prim.Native.Nat.{_-_, _≤_}
 use mathlib.Core.Path.{_≡_}
 use native.Mathlib.Omega.{arith}
-use Rattle.facts.specs.Facts.{Built, kept}
+use Rattle.facts.specs.Facts.{Built}
+use Rattle.work_rows.specs.Rows.{firstRules}
 use Rattle.facts_build.proofs.Filling.{built-none, built-ready, built-more}
-use Rattle.facts.proofs.Kept.{length-kept}
+use Rattle.work_rows.proofs.Kept.{first-length}
 use Rattle.facts_build.proofs.build.Statement.{statement}
 use Rattle.facts_build.proofs.build.Tie as tie
 
 abbrev Inv-loop : tie.InvT-loop
-Inv-loop work₀ n i₀ work i = (i ≤ n) × Built (kept work₀ n) n i work₀ work
+Inv-loop work₀ n i₀ work i = (i ≤ n) × Built (firstRules work₀ n) n i work₀ work
 
 abbrev μ-loop : tie.MeasureT-loop
 μ-loop work₀ n i₀ work i = n - i
@@ -21,7 +22,7 @@ rule-at-requires : tie.Need-rule-at-requires Inv-loop μ-loop
 rule-at-requires c κs = let same = c .before .before .loop .inv .1 .beyond .same-length in omega arith
 
 of-requires : tie.Need-of-requires Inv-loop μ-loop
-of-requires c κs = built-ready (c .before .before .before .before .loop .inv .1) (c .before .before .before .before .before .before .pre .1) (length-kept _ _) (omega arith) (omega arith) (c .before .before .before .before .before .before .pre .0) (c .before .rule-at .result) (c .before .rule-at .ensures)
+of-requires c κs = built-ready (c .before .before .before .before .loop .inv .1) (c .before .before .before .before .before .before .pre .1) (first-length _ _) (omega arith) (omega arith) (c .before .before .before .before .before .before .pre .0) (c .before .rule-at .result) (c .before .rule-at .ensures)
 
 write-requires : tie.Need-write-requires Inv-loop μ-loop
 write-requires c κs = let same = c .before .before .before .before .before .before .loop .inv .1 .beyond .same-length in omega arith
@@ -35,7 +36,7 @@ loop-less c = omega arith
 loop-again : tie.Need-loop-again Inv-loop μ-loop
 loop-again c = (
   omega arith,
-  built-more (c .before .before .before .before .before .before .before .before .before .loop .inv .1) (c .before .before .before .before .before .before .before .before .before .before .before .pre .1) (length-kept _ _) (omega arith) (omega arith) (c .before .before .before .before .before .before .before .before .before .before .before .pre .0)
+  built-more (c .before .before .before .before .before .before .before .before .before .loop .inv .1) (c .before .before .before .before .before .before .before .before .before .before .before .pre .1) (first-length _ _) (omega arith) (omega arith) (c .before .before .before .before .before .before .before .before .before .before .before .pre .0)
       (c .before .before .before .before .before .before .rule-at .result) (c .before .before .before .before .of .result) _ (c .before .before .before .before .before .before .rule-at .ensures) (c .before .before .before .before .of .ensures) (omega (arith, c .before .before .before .before .of .ok)) (c .before .before .write .ensures),
 )
 

@@ -19,20 +19,20 @@ total-requires-2 : tie.Need-total-requires-2
 total-requires-2 c κs =
     startable-after (c .before .before .before .before .before .before .before .before .pre) (c .before .before .before .before .before .total .ensures)
 
-total-requires-3 : tie.Need-total-requires-3
-total-requires-3 c κs =
+trees-requires : tie.Need-trees-requires
+trees-requires c κs =
     startable-after (startable-after (c .before .before .before .before .before .before .before .before .before .before .before .before .pre) (c .before .before .before .before .before .before .before .before .before .total .ensures)) (c .before .before .before .total2 .ensures)
 
-total-requires-4 : tie.Need-total-requires-4
-total-requires-4 c κs =
-    startable-after (startable-after (startable-after (c .before .before .before .before .before .before .before .before .before .before .before .before .before .before .before .before .pre) (c .before .before .before .before .before .before .before .before .before .before .before .before .before .total .ensures)) (c .before .before .before .before .before .before .before .total2 .ensures)) (c .before .before .before .total3 .ensures)
+levels-requires : tie.Need-levels-requires
+levels-requires c κs =
+    startable-after (startable-after (startable-after (c .before .before .before .before .before .before .before .before .before .before .before .before .before .before .before .before .pre) (c .before .before .before .before .before .before .before .before .before .before .before .before .before .total .ensures)) (c .before .before .before .before .before .before .before .total2 .ensures)) (c .before .before .before .trees .ensures)
 
 same-length-2 : tie.Need-same-length-2
 same-length-2 c = search needs
 
 returns-2 : tie.Need-returns-2
 returns-2 c =
-    answered-exact _ _ _ _ (c .before .before .before .before .before .before .before .before .before .before .before .before .before .before .before .before .total .ensures) (c .before .before .before .before .before .before .before .before .before .before .before .before .if1 .left) (omega arith) (c .before .before .before .before .before .before .before .before .before .before .total2 .ensures) (c .before .before .before .before .before .before .total3 .ensures) (c .before .before .total4 .ensures)
+    answered-exact _ _ _ _ (c .before .before .before .before .before .before .before .before .before .before .before .before .before .before .before .before .total .ensures) (c .before .before .before .before .before .before .before .before .before .before .before .before .if1 .left) (omega arith) (c .before .before .before .before .before .before .before .before .before .before .total2 .ensures) (c .before .before .before .before .before .before .trees .ensures) (c .before .before .levels .ensures)
 
 pub answer-spec : {M : Type 1} → statement M
 answer-spec =
@@ -42,7 +42,7 @@ answer-spec =
     same-length
     returns
     total-requires-2
-    total-requires-3
-    total-requires-4
+    trees-requires
+    levels-requires
     same-length-2
     returns-2)

@@ -3,7 +3,8 @@ use Prim.Native.Nat.{ℕ}
 use mathlib.Core.Path.{sym, ap, _∙_}
 use denote.Ref.{now}
 use Rattle.rule.specs.declared.Rule.{Rule}
-use Rattle.forest.specs.Place.{rowOfNode, rowOfPart, orElse}
+use Rattle.forest.specs.Place.{rowOfNode, rowOfPart}
+use Rattle.forest.specs.Position.{orElse}
 use Rattle.forest.specs.Walk.{cellsIn}
 use Rattle.forest.proofs.Sides.{picked}
 use Rattle.model.specs.Model.{enter, inward, child, childOf}

@@ -1,6 +1,6 @@
 -- Each arm is the definition's; the rules named are lower, so their tasks can be read, and labels are bytes. Assumes nothing.
 use borrow.Author.Needs.{needs}
-use Rattle.rule.specs.Rule.{pair-one, pair-two, node-one, fill-one, fill-two, join-one, join-two}
+use Rattle.rule.specs.Names.{pair-one, pair-two, node-one, fill-one, fill-two, join-one, join-two}
 use Rattle.spread_step.specs.Step.{ruleStep}
 use Rattle.spread_step.proofs.Named.{at-rule, named-room, named-few, node-label}
 use native.Mathlib.Omega.{arith}
@@ -28,27 +28,24 @@ nothing-requires-2 c κs = search needs
 enum-known-rule-2 : tie.Need-enum-known-rule-2
 enum-known-rule-2 c = search needs
 
-task-requires : tie.Need-task-requires
-task-requires c κs = search needs
-
 whole-requires-3 : tie.Need-whole-requires-3
-whole-requires-3 c κs = named-room (at-rule (c .before .before .rule2 .given .1) (c .before .before .before .before .before .pre)) _ node-one
+whole-requires-3 c κs = named-room (at-rule (c .before .rule2 .given .1) (c .before .before .before .before .pre)) _ node-one
 
 opening-requires : tie.Need-opening-requires
 opening-requires c κs =
-    node-label (at-rule (c .before .before .before .rule2 .given .1) (c .before .before .before .before .before .before .pre))
+    node-label (at-rule (c .before .before .rule2 .given .1) (c .before .before .before .before .before .pre))
 
 enum-known-rule-3 : tie.Need-enum-known-rule-3
 enum-known-rule-3 c = search needs
 
-task-requires-2 : tie.Need-task-requires-2
-task-requires-2 c κs = (named-few (at-rule (c .before .rule3 .given .1) (c .before .before .before .before .pre)) _ fill-one, omega arith)
+task-requires : tie.Need-task-requires
+task-requires c κs = (named-few (at-rule (c .before .rule3 .given .1) (c .before .before .before .before .pre)) _ fill-one, omega arith)
 
 whole-requires-4 : tie.Need-whole-requires-4
 whole-requires-4 c κs = named-room (at-rule (c .before .before .rule3 .given .1) (c .before .before .before .before .before .pre)) _ fill-two
 
-task-requires-3 : tie.Need-task-requires-3
-task-requires-3 c κs =
+task-requires-2 : tie.Need-task-requires-2
+task-requires-2 c κs =
     (named-few (at-rule (c .before .before .before .rule3 .given .1) (c .before .before .before .before .before .before .pre)) _ fill-one, omega arith)
 
 nothing-requires-3 : tie.Need-nothing-requires-3
@@ -80,12 +77,12 @@ returns-2 c =
 returns-3 : tie.Need-returns-3
 unfolding ruleStep
 returns-3 c =
-    rw (c .before .before .before .before .rule2 .given .1, ← (c .before .before .task .ensures), ← (c .before .whole3 .ensures)) (c .opening .ensures)
+    rw (c .before .before .before .rule2 .given .1, ← (c .before .whole3 .ensures)) (c .opening .ensures)
 
 returns-4 : tie.Need-returns-4
 unfolding ruleStep
 returns-4 c =
-    rw (c .before .before .before .before .before .rule3 .given .1, ← (c .before .before .before .task2 .ensures), ← (c .before .before .whole4 .ensures), ← (c .before .task3 .ensures)) (c .nothing3 .ensures)
+    rw (c .before .before .before .before .before .rule3 .given .1, ← (c .before .before .before .task .ensures), ← (c .before .before .whole4 .ensures), ← (c .before .task2 .ensures)) (c .nothing3 .ensures)
 
 returns-5 : tie.Need-returns-5
 returns-5 c = rw (c .before .before .rule4 .given .1) (c .part-step .ensures)
@@ -104,13 +101,12 @@ rule-step-spec =
     whole-requires-2
     nothing-requires-2
     enum-known-rule-2
-    task-requires
     whole-requires-3
     opening-requires
     enum-known-rule-3
-    task-requires-2
+    task-requires
     whole-requires-4
-    task-requires-3
+    task-requires-2
     nothing-requires-3
     enum-known-rule-4
     part-step-requires

@@ -1,6 +1,6 @@
 -- Each arm is the definition's; the rules of a pair are lower, so their tasks can be read. Assumes nothing.
 use borrow.Author.Needs.{needs}
-use Rattle.rule.specs.Rule.{pair-one, pair-two}
+use Rattle.rule.specs.Names.{pair-one, pair-two}
 use Rattle.spread_step.specs.Task.{taskOf}
 use Rattle.spread_step.proofs.Named.{at-rule, named-room}
 use Rattle.spread_step.proofs.task_of.Statement.{statement}

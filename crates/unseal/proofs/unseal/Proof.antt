@@ -2,15 +2,16 @@
 use mathlib.Core.Path.{_≡_, sym, _∙_}
 use mathlib.Core.Bool.{true}
 use native.Mathlib.Omega.{arith}
-use Prim.Native.Nat.{_*_}
+use Prim.Native.Nat.{_+_, _*_, _≤_}
 use lib.Dec.{leb}
+use lib.ListN.{length}
 use denote.Ref.{now}
 use borrow.Author.Tests.{not-true, not-false, leb-true}
 use borrow.Author.Needs.{needs}
 use Rattle.words.specs.Number.{wordCount}
-use Rattle.record.specs.Record.{recordWords}
+use Rattle.record.specs.Record.{recordLength, recordWords}
 use Rattle.plan.specs.declared.Checked.{Checked}
-use Rattle.plan.specs.Check.{checked}
+use Rattle.plan.specs.Check.{trailerLength, checked}
 use Rattle.unseal.proofs.Unsealed.{unsealed-refused, unsealed-no-room, unsealed-roomed, unsealed-long}
 use Rattle.unseal.proofs.unseal.Statement.{statement}
 use Rattle.unseal.proofs.unseal.Tie as tie
@@ -55,11 +56,34 @@ room-is : (c : tie.Else1)
     leb (recordWords * factsIn .before .answer .given .0 .0) (wordCount (now (factsIn .before .before .before .before .before .before .args .out))) ≡ true
 room-is c = sym (c .before .roomed .ensures) ∙ not-false (c .before .roomed .result) (c .if1 .left)
 
+-- the rules and the trailer lie in the plan
+long-is : (c : tie.Else1)
+    → let factsIn = c .before .before .before in
+    recordLength * factsIn .before .answer .given .0 .0 + trailerLength ≤ length (now (factsIn .before .before .before .before .before .before .args .plan))
+long-is c =
+    let factsIn = c .before .before .before in
+    let a = factsIn .before .before .before .before .before .before .args in
+    unsealed-long (now (a .plan)) (now (a .out)) _ _ (accepted-is factsIn)
+
+cast-n : tie.Need-cast-n
+cast-n c = search needs
+
+sub-first : tie.Need-sub-first
+sub-first c = omega (arith, long-is c)
+
+mul-first : tie.Need-mul-first
+mul-first c = search needs
+
+sub-first-2 : tie.Need-sub-first-2
+sub-first-2 c = omega (arith, long-is c)
+
 copy-records-requires : tie.Need-copy-records-requires
 copy-records-requires c κs =
     let factsIn = c .before .before .before .before in
-    let a = factsIn .before .before .before .before .before .before .args in
-    (unsealed-long (now (a .plan)) (now (a .out)) _ _ (accepted-is factsIn), omega (arith, leb-true (recordWords * factsIn .before .answer .given .0 .0) (wordCount (now (a .out))) (room-is (c .before))))
+    let a = factsIn .before .before .before .before .before .before .args in (
+      omega (arith, long-is (c .before)),
+      omega (arith, leb-true (recordWords * factsIn .before .answer .given .0 .0) (wordCount (now (a .out))) (room-is (c .before))),
+    )
 
 same-length-2 : tie.Need-same-length-2
 same-length-2 c = search needs
@@ -84,6 +108,10 @@ unseal-spec =
     roomed-requires
     same-length
     returns-2
+    cast-n
+    sub-first
+    mul-first
+    sub-first-2
     copy-records-requires
     same-length-2
     returns-3)

@@ -1,7 +1,7 @@
 -- Each arm of the match is a case of `emptyOf`. Assumes nothing.
 use mathlib.Core.Path.{ap₂}
 use mathlib.Core.Bool.{Bool, _&&_}
-use Rattle.rule.specs.Rule.{Names}
+use Rattle.rule.specs.Names.{Names}
 use Rattle.facts_build.specs.RuleFacts.{emptyOf}
 use Rattle.facts.proofs.Ready.{ready-room}
 use borrow.Author.Needs.{needs}

@@ -1,6 +1,6 @@
 -- The arms of the match and the tests for emptiness are those of `representativeOf`. Assumes nothing.
 use mathlib.Core.Path.{sym, _∙_}
-use Rattle.rule.specs.Rule.{Names}
+use Rattle.rule.specs.Names.{Names}
 use Rattle.facts_build.specs.RuleFacts.{representativeOf}
 use Rattle.facts.proofs.Ready.{ready-room}
 use borrow.Author.Needs.{needs}
@@ -14,7 +14,8 @@ is-empty-at-requires : tie.Need-is-empty-at-requires
 is-empty-at-requires c κs = ready-room (rw (c .before .rule .given .1) at (c .before .before .before .before .pre)) _ Names.pair-one
 
 representative-at-requires : tie.Need-representative-at-requires
-representative-at-requires c κs = ready-room (rw (c .before .before .before .rule .given .1) at (c .before .before .before .before .before .before .pre)) _ Names.pair-two
+representative-at-requires c κs =
+    ready-room (rw (c .before .before .before .rule .given .1) at (c .before .before .before .before .before .before .pre)) _ (search (Names.pair-one, Names.pair-two))
 
 returns : tie.Need-returns
 unfolding representativeOf

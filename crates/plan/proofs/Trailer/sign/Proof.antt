@@ -1,6 +1,7 @@
 -- `Trailer::sign` puts the two bytes of the mark. Assumes nothing.
 use native.Mathlib.Omega.{arith}
 use lib.ListN.{length-set}
+use native.Mathlib.Numerals.{add-one}
 use borrow.Author.Needs.{needs}
 use Rattle.plan.proofs.Trailer.sign.Statement.{statement}
 use Rattle.plan.proofs.Trailer.sign.Tie as tie
@@ -24,7 +25,7 @@ same-length : tie.Need-same-length
 same-length c = search needs
 
 returns : tie.Need-returns
-returns c = search needs
+returns c = rw (add-one (c .args .at))
 
 pub sign-spec : {M : Type 1} → statement M
 sign-spec =

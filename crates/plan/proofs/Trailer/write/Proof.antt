@@ -3,10 +3,11 @@ use Prim.Native.Nat.{ℕ, _+_, _*_}
 use mathlib.Core.Path.{ap, _∙_}
 use mathlib.Core.List.{List}
 use native.Mathlib.Omega.{arith}
-use lib.ListN.{set}
+use lib.Seq.{sets}
 use denote.Ref.{now}
 use Rattle.words.specs.Number.{put}
 use Rattle.record.specs.Record.{recordLength}
+use Rattle.plan.specs.Check.{atStart, atDistance, atMark, magic}
 use Rattle.plan.proofs.TrailerBytes.{put-trailer}
 use borrow.Author.Needs.{needs}
 use Rattle.plan.proofs.Trailer.write.Statement.{statement}
@@ -51,10 +52,10 @@ returns c =
     let a = first .before .before .before .args in
     let at = recordLength * a .n in
     fourth .sign .ensures
-    ∙ ap (λ (l : List ℕ). set (set l (at + 8) 0x6d) (at + 8 + 1) 0x70)
+    ∙ ap (λ (l : List ℕ). sets l (at + atMark) magic)
     (third .write32 .ensures
-    ∙ ap (λ (l : List ℕ). put 4 l (at + 4) (recordLength * a .n))
-    (second .write162 .ensures ∙ ap (λ (l : List ℕ). put 2 l (at + 2) (a .start)) (first .write16 .ensures)))
+    ∙ ap (λ (l : List ℕ). put 4 l (at + atDistance) (recordLength * a .n))
+    (second .write162 .ensures ∙ ap (λ (l : List ℕ). put 2 l (at + atStart) (a .start)) (first .write16 .ensures)))
     ∙ put-trailer (now (a .out)) at (a .n) (a .start) (omega arith)
 
 pub write-spec : {M : Type 1} → statement M

@@ -1,5 +1,5 @@
 -- Four words stored one after the other are the record's bytes, by the law `record-put`. Assumes nothing.
-use Prim.Native.Nat.{ℕ, _+_}
+use Prim.Native.Nat.{ℕ, _+_, _*_}
 use mathlib.Core.Path.{ap, _∙_}
 use mathlib.Core.List.{List}
 use denote.Ref.{now}
@@ -42,11 +42,11 @@ returns c =
     let third = c .before .before .before .before .before .before .write163 .ensures in
     let fourth = c .before .before .write164 .ensures in
     fourth
-    ∙ ap (λ (l : List ℕ). put wordLength l (a .at + 6) (a .self .three))
+    ∙ ap (λ (l : List ℕ). put wordLength l (a .at + 3 * wordLength) (a .self .three))
     (third
-    ∙ ap (λ (l : List ℕ). put wordLength l (a .at + 4) (a .self .two))
+    ∙ ap (λ (l : List ℕ). put wordLength l (a .at + 2 * wordLength) (a .self .two))
     (second
-    ∙ ap (λ (l : List ℕ). put wordLength l (a .at + 2) (a .self .one)) first))
+    ∙ ap (λ (l : List ℕ). put wordLength l (a .at + wordLength) (a .self .one)) first))
     ∙ record-put (a .self) (now (a .s)) (a .at) (c .before .before .before .before .before .before .before .before .before .before .before .before .before .before .before .before .before .pre)
 
 pub write-spec : {M : Type 1} → statement M

@@ -5,30 +5,20 @@ use mathlib.Core.List.{List, _++_}
 use native.Mathlib.Omega.{arith}
 use lib.ListN.{length, take, drop}
 use denote.Ref.{now}
 use Rattle.record.specs.declared.Record.{Record}
 use Rattle.record.specs.Record.{recordLength, recordBytes}
-use Rattle.plan.specs.Check.{trailerLength}
 use Rattle.record.proofs.Copied.{copied, copied-none, copied-more}
-use Rattle.unseal.proofs.copy_records.Statement.{statement}
-use Rattle.unseal.proofs.copy_records.Tie as tie
+use Rattle.record.proofs.copy_records.Statement.{statement}
+use Rattle.record.proofs.copy_records.Tie as tie
 
 abbrev Inv-loop : tie.InvT-loop
-Inv-loop plan out₀ n n' first i₀ out i = (i ≤ n) × (out ≡ copied plan first i out₀) × (length out ≡ length out₀)
+Inv-loop s first n out₀ i₀ out i = (i ≤ n) × (out ≡ copied s first i out₀) × (length out ≡ length out₀)
 
 abbrev μ-loop : tie.MeasureT-loop
-μ-loop plan out₀ n n' first i₀ out i = n - i
-
-sub-first : tie.Need-sub-first Inv-loop μ-loop
-sub-first c = omega arith
-
-mul-first : tie.Need-mul-first Inv-loop μ-loop
-mul-first c = omega arith
-
-sub-first-2 : tie.Need-sub-first-2 Inv-loop μ-loop
-sub-first-2 c = omega arith
+μ-loop s first n out₀ i₀ out i = n - i
 
 loop-holds : tie.Need-loop-holds Inv-loop μ-loop
-loop-holds c = let a = c .before .before .args in (omega arith, sym (copied-none (now (a .plan)) _ (now (a .out))), omega arith)
+loop-holds c = let a = c .before .before .args in (omega arith, sym (copied-none (now (a .s)) _ (now (a .out))), omega arith)
 
 mul-read : tie.Need-mul-read Inv-loop μ-loop
 mul-read c = omega arith
@@ -57,7 +47,7 @@ loop-again c =
       omega arith,
       c .before .before .put .ensures
           ∙ ap₂ (λ (l : List ℕ) (w : Record). take (recordLength * i) l ++ (recordBytes w ++ drop (recordLength * i + recordLength) l)) (head .loop .inv .1) (read .read .ensures)
-          ∙ copied-more (now (a .plan)) _ i (now (a .out)) _ refl,
+          ∙ copied-more (now (a .s)) _ i (now (a .out)) _ refl,
       omega arith,
     )
 
@@ -69,7 +59,7 @@ unfolding copied
 returns c =
     let a = c .before .before .before .before .args in
     let e : c .before .loop .i ≡ a .n = omega arith in
-    c .before .loop .inv .1 ∙ ap (λ (k : ℕ). copied (now (a .plan)) (length (now (a .plan)) - trailerLength - recordLength * a .n) k (now (a .out))) e
+    c .before .loop .inv .1 ∙ ap (λ (k : ℕ). copied (now (a .s)) (a .first) k (now (a .out))) e
 
 pub copy-records-spec : {M : Type 1} → statement M
 copy-records-spec =
@@ -77,9 +67,6 @@ copy-records-spec =
     (tie.spec
     Inv-loop
     μ-loop
-    sub-first
-    mul-first
-    sub-first-2
     loop-holds
     mul-read
     add-read
