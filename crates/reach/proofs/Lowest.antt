@@ -1,6 +1,6 @@
 -- What `lowestCycle` answers: going up from rule 0, with no rule below that reaches itself, the first that does is the lowest, and where
 -- the rules end there is none. Only one answer can be so, which gives the way back. Assumes nothing.
-use Prim.Native.Nat.{ℕ, zero, suc, _+_, _≤_, _<_}
+use Prim.Native.Nat.{ℕ, zero, suc, _+_, _<_}
 use mathlib.Core.Bool.{Bool, true, false, cond, false≢true}
 use mathlib.Core.Logic.{_↔_}
 use mathlib.Core.List.{List}
@@ -12,6 +12,7 @@ use lib.ListN.{length}
 use Rattle.rule.specs.declared.Rule.{Rule}
 use Rattle.reach.specs.Reaches.{Reaches, reaches, cycleFrom, lowestCycle}
 use Rattle.reach.specs.Order.{Ranged, Acyclic}
+use Rattle.reach.proofs.Counting.{up-to}
 use Rattle.reach.proofs.Steps.{reaches-exact, reaches-from}
 
 -- no rule below i reaches itself
@@ -44,11 +45,7 @@ cycle-on R i m h = rw h
 
 module _ (R : List Rule) (ok : Ranged R) where
   pub none-more : (i : ℕ) → NoneBelow R i → reaches R i i ≡ false → NoneBelow R (suc i)
-  none-more i u h k l c =
-      elim (decLt k i) [
-        | yes m ↦ u k m c
-        | no m ↦ let e : k ≡ i = omega (arith, l, m) in absurd (false≢true (sym h ∙ reaches-exact R ok i i .1 (subst (λ (x : ℕ). Reaches R x x) e c)))
-      ]
+  none-more i u h k l = up-to i k l (λ x. Reaches R x x → ⊥) (u k) (λ c. false≢true (sym h ∙ reaches-exact R ok i i .1 c))
 
   -- from i on, with none below
   pub cycle-lowest : (i m : ℕ) → i + m ≡ length R → NoneBelow R i → Lowest R (cycleFrom R i m)
@@ -62,10 +59,20 @@ module _ (R : List Rule) (ok : Ranged R) where
 
   pub lowest-is : (x : Option ℕ) → (lowestCycle R ≡ x) ↔ Lowest R x
   unfolding lowestCycle
-  lowest-is x = let right = cycle-lowest 0 (length R) (omega arith) (λ k l c. absurd (omega (arith, l))) in ((λ e. subst (Lowest R) e right), λ h. only R (lowestCycle R) x right h)
+  lowest-is x =
+      let right = cycle-lowest 0 (length R) (omega arith) (λ k l c. absurd (omega (arith, l))) in
+      ((λ e. subst (Lowest R) e right), λ h. only R (lowestCycle R) x right h)
 
   pub lowest-none : (lowestCycle R ≡ none) ↔ Acyclic R
   lowest-none = lowest-is none
 
   pub lowest-some : (r : ℕ) → (lowestCycle R ≡ some r) ↔ ((r < length R) × Reaches R r r × ((k : ℕ) → k < r → Reaches R k k → ⊥))
   lowest-some r = lowest-is (some r)
+
+  -- a rule that reaches itself, whichever: there is a lowest
+  pub cycle-some : {r : ℕ} → Reaches R r r → (s : ℕ) × (lowestCycle R ≡ some s)
+  cycle-some {r} c = by (lowestCycle R) refl
+    where
+      by : (x : Option ℕ) → lowestCycle R ≡ x → (s : ℕ) × (lowestCycle R ≡ some s)
+      by none e = absurd (lowest-none .0 e r (reaches-from c) c)
+      by (some s) e = (s, e)

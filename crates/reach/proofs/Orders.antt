@@ -1,7 +1,7 @@
 -- In an order of the rules each stands after those that it names, so the place falls along names and no rule reaches itself. Rules that
 -- name only lower ones stand in the order of their numbers. Assumes nothing.
 use Prim.Native.Nat.{ℕ, zero, suc, _+_, _<_}
-use mathlib.Core.List.{List, [], _∷_}
+use mathlib.Core.List.{List}
 use mathlib.Core.Option.{none}
 use mathlib.Core.Path.{_≡_, refl, ap, _∙_}
 use native.Mathlib.Omega.{arith}

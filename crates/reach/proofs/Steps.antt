@@ -1,7 +1,7 @@
 -- The test `reaches` is exact. The rules from which b is reached within k steps are a set that only grows with k and that makes the next
 -- one: once it stays as it was it stays for good, and it can grow no more often than there are rules. Assumes nothing.
 use Prim.Native.Nat.{ℕ, zero, suc, _<_}
-use mathlib.Core.Bool.{Bool, true, false, _||_, or-true, false≢true}
+use mathlib.Core.Bool.{Bool, true, _||_, or-true, false≢true}
 use mathlib.Core.Logic.{_↔_, ⊎-elim}
 use mathlib.Core.List.{List}
 use mathlib.Core.Path.{_≡_, refl, subst}
@@ -28,7 +28,11 @@ pub reaches-extend : {R : List Rule} {a b c : ℕ} → Reaches R a b → Names (
 reaches-extend r m = reaches-trans r (named m)
 
 -- a property that passes from a rule to those that it names, and that those named by a have, all that a reaches have
-pub reaches-closed : {R : List Rule} {a b : ℕ} (P : ℕ → Type 0) → ((r k : ℕ) → P r → Names (rule R r) k → P k) → ((k : ℕ) → Names (rule R a) k → P k) → Reaches R a b → P b
+pub reaches-closed : {R : List Rule} {a b : ℕ} (P : ℕ → Type 0)
+    → ((r k : ℕ) → P r → Names (rule R r) k → P k)
+    → ((k : ℕ) → Names (rule R a) k → P k)
+    → Reaches R a b
+    → P b
 reaches-closed P step start (named {b} m) = start b m
 reaches-closed P step start (through {x} m r) = reaches-closed P step (λ k. step x k (start x m)) r
 
