@@ -1,5 +1,6 @@
 -- An order of the rules in which each stands after those that it names.
 use Prim.Native.Nat.{ℕ, zero, suc, _<_}
+use mathlib.Core.Bool.{Bool, cond}
 use mathlib.Core.Path.{_≡_}
 use mathlib.Core.List.{List, [], _∷_}
 use lib.ListN.{length, getD}
@@ -8,6 +9,7 @@ use Rattle.rule.specs.declared.Rule.{Rule}
 use Rattle.rule.specs.Rule.{every}
 use Rattle.rule.specs.Names.{Names}
 use Rattle.rule.specs.Sound.{rule}
+use Rattle.reach.specs.Reaches.{Reaches, reaches}
 
 -- every named rule is one of the rules (refusal 5 passed)
 abbrev pub Ranged : List Rule → Type 0
@@ -16,6 +18,20 @@ Ranged R = (r : ℕ) → r < length R → T (every (λ x. ltb x (length R)) (rul
 -- every rule names only lower ones
 abbrev pub Lower : List Rule → Type 0
 Lower R = (r : ℕ) → r < length R → T (every (λ x. ltb x r) (rule R r))
+
+-- no rule reaches itself
+abbrev pub Acyclic : List Rule → Type 0
+Acyclic R = (r : ℕ) → r < length R → Reaches R r r → ⊥
+
+-- how many numbers below n pass a test
+unfoldable pub count : (ℕ → Bool) → ℕ → ℕ
+count p zero = 0
+count p (suc n) = cond (p n) (suc (count p n)) (count p n)
+
+-- The rank of a rule: how many rules it reaches. Where no rule reaches itself it falls from a rule to those that it names, and is below
+-- the number of rules (proofs/Acyclic).
+unfoldable pub rank : List Rule → ℕ → ℕ
+rank R r = count (reaches R r) (length R)
 
 -- the order o lists each rule at exactly one place, and each after those that it names
 pub record Orders (R : List Rule) (o : List ℕ) : Type 0 where

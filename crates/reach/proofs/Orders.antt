@@ -1,0 +1,69 @@
+-- In an order of the rules each stands after those that it names, so the place falls along names and no rule reaches itself. Rules that
+-- name only lower ones stand in the order of their numbers. Assumes nothing.
+use Prim.Native.Nat.{ℕ, zero, suc, _+_, _<_}
+use mathlib.Core.List.{List}
+use mathlib.Core.Option.{none}
+use mathlib.Core.Path.{_≡_, refl, ap, _∙_}
+use native.Mathlib.Omega.{arith}
+use lib.Dec.{T, ltb, ltb→lt, lt→ltb}
+use lib.ListN.{length, getD}
+use Rattle.rule.specs.declared.Rule.{Rule}
+use Rattle.rule.specs.Rule.{every, Names}
+use Rattle.rule.specs.Sound.{rule}
+use Rattle.rule.proofs.Names.{every-named}
+use Rattle.reach.specs.Reaches.{lowestCycle}
+use Rattle.reach.specs.Order.{Ranged, Lower, Acyclic, Orders, numbersFrom}
+use Rattle.reach.proofs.Named.{named-every, names-below}
+use Rattle.reach.proofs.Acyclic.{falls-acyclic}
+use Rattle.reach.proofs.Lowest.{lowest-none}
+
+module _ {R : List Rule} {o : List ℕ} (O : Orders R o) where
+  pub orders-acyclic : Acyclic R
+  orders-acyclic = falls-acyclic R (O .place) (λ r k m. O .after r k (names-below R r k m) m)
+
+  -- the place is a rank (that it is below the number of rules, `placed` says)
+  pub orders-falls : (r : ℕ) → r < length R → T (every (λ x. ltb (O .place x) (O .place r)) (rule R r))
+  orders-falls r l = named-every (λ x. ltb (O .place x) (O .place r)) (rule R r) (λ x m. lt→ltb (O .place x) (O .place r) (O .after r x l m))
+
+  pub orders-none : Ranged R → lowestCycle R ≡ none
+  orders-none ok = lowest-none R ok .1 orders-acyclic
+
+-- numbers in a row
+pub numbers-length : (i n : ℕ) → length (numbersFrom i n) ≡ n
+unfolding numbersFrom
+numbers-length i zero = refl
+numbers-length i (suc n) = ap suc (numbers-length (suc i) n)
+
+pub numbers-at : (i n k : ℕ) → k < n → getD (numbersFrom i n) k 0 ≡ i + k
+unfolding numbersFrom
+numbers-at i zero k l = absurd (omega (arith, l))
+numbers-at i (suc n) zero l = omega arith
+numbers-at i (suc n) (suc k) l = numbers-at (suc i) n k (omega (arith, l)) ∙ omega arith
+
+module _ (R : List Rule) (lower : Lower R) where
+  lower-named : (r k : ℕ) → Names (rule R r) k → k < r
+  lower-named r k m = ltb→lt k r (every-named (λ x. ltb x r) m (lower r (names-below R r k m)))
+
+  pub lower-ranged : Ranged R
+  lower-ranged r l =
+      named-every (λ x. ltb x (length R)) (rule R r) (λ x m. let h : x < r = lower-named r x m in lt→ltb x (length R) (omega (arith, l, h)))
+
+  at : (i : ℕ) → i < length R → getD (numbersFrom 0 (length R)) i 0 ≡ i
+  at i l = numbers-at 0 (length R) i l ∙ omega arith
+
+  pub lower-orders : Orders R (numbersFrom 0 (length R))
+  lower-orders = record {
+    long = numbers-length 0 (length R);
+    inside = λ i l. rw (at i l) l;
+    place = λ r. r;
+    placed = λ r l. l;
+    there = at;
+    once = at;
+    after = λ r k l m. lower-named r k m;
+  }
+
+  pub lower-acyclic : Acyclic R
+  lower-acyclic = falls-acyclic R (λ r. r) lower-named
+
+  pub lower-none : lowestCycle R ≡ none
+  lower-none = lowest-none R lower-ranged .1 lower-acyclic
