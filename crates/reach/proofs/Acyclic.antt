@@ -8,7 +8,8 @@ use native.Mathlib.Omega.{arith}
 use lib.Dec.{T, ltb, lt→ltb}
 use lib.ListN.{length}
 use Rattle.rule.specs.declared.Rule.{Rule}
-use Rattle.rule.specs.Rule.{every, Names}
+use Rattle.rule.specs.Rule.{every}
+use Rattle.rule.specs.Names.{Names}
 use Rattle.rule.specs.Sound.{rule}
 use Rattle.reach.specs.Reaches.{Reaches, named, through, reaches}
 use Rattle.reach.specs.Order.{Ranged, Acyclic, rank}

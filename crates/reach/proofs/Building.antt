@@ -9,7 +9,7 @@ use native.Mathlib.Decide.{decLt, le-ind}
 use native.Mathlib.Omega.{arith}
 use lib.ListN.{length, getD}
 use Rattle.rule.specs.declared.Rule.{Rule}
-use Rattle.rule.specs.Rule.{Names}
+use Rattle.rule.specs.Names.{Names}
 use Rattle.rule.specs.Sound.{rule}
 use Rattle.reach.specs.Reaches.{Reaches, named}
 use Rattle.reach.specs.Order.{Orders}

@@ -11,7 +11,7 @@ use lib.Dec.{eqb, ltb, ltb→lt}
 use lib.ListN.{length}
 use borrow.Author.Tests.{eqb-true, eq-eqb}
 use Rattle.rule.specs.declared.Rule.{Rule}
-use Rattle.rule.specs.Rule.{Names}
+use Rattle.rule.specs.Names.{Names}
 use Rattle.rule.specs.Sound.{rule}
 use Rattle.rule.proofs.Names.{every-named}
 use Rattle.reach.specs.Reaches.{Reaches, named, through, within, reaches}
