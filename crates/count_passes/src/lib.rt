@@ -83,7 +83,9 @@ pub fn weights(work: &mut [u8], n: u16, weight: Weight)
 // The sum over rule r's nodes, for whatever weight the helping column holds.
 pub fn sum(work: &mut [u8], n: u16, r: u16) -> Count
     requires { ⌜ Startable (now work) n r ⌝ }
-    ensures { λ x. ⌜ ((w : ℕ → ℕ) → Weighed w n (now (work .entry)) → Counts (weigh w) n r x (now (work .entry)) (now (work .exit))) ⌝ }
+    ensures { λ x.
+        let s = now (work .entry) in
+        ⌜ ((w : ℕ → ℕ) → Weighed w n s → Counts (weigh w) n r x s (now (work .exit))) ⌝ }
 {
     pass(work, n, r, Tally::Sum)
 }
