@@ -4,7 +4,9 @@ use forest::Walked;
 use plan::Checked;
 use plan::Written;
 ghost use mathlib.Core.Path.{_≡_};
-ghost use Rattle.c_result.specs.Interface.{measuredResult, measuredPosition, treesAfter, entriesAfter, levelsAfter, checkedResult, writtenResult, checkedPosition, writtenPosition, countAfter, startAfter, lengthAfter, walkedResult, walkedPosition};
+ghost use Rattle.c_result.specs.Interface.{measuredResult, measuredPosition, treesAfter, entriesAfter, levelsAfter};
+ghost use Rattle.c_result.specs.Interface.{checkedResult, writtenResult, checkedPosition, writtenPosition, countAfter};
+ghost use Rattle.c_result.specs.Interface.{startAfter, lengthAfter, walkedResult, walkedPosition};
 
 // What a checked answer leaves behind the pointers, and the result.
 pub fn give_checked(answer: Checked, n: &mut u16, start: &mut u16, position: &mut u64) -> u32

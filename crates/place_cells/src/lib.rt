@@ -8,7 +8,8 @@ ghost use Rattle.forest.specs.Walk.{cellLength, cellAt, cellsIn};
 ghost use Rattle.model.specs.Model.{tail, popRun, under, belowRow};
 ghost use Rattle.side.specs.Side.{sideOf};
 ghost use Rattle.place_cells.specs.Cells.{cell, putCell, noCell, Lies};
-ghost use Rattle.place_cells.specs.Changes.{add, stepCells, stemCells, changed, stemNode, changeNode, high, stemHigh, changeHigh, Wrote};
+ghost use Rattle.place_cells.specs.Changes.{add, stepCells, stemCells, changed, stemNode, changeNode, high, stemHigh};
+ghost use Rattle.place_cells.specs.Changes.{changeHigh, Wrote};
 use side::Side;
 
 // The four 16-bit words of a cell.

@@ -11,7 +11,8 @@ ghost use lib.Seq.{sets};
 ghost use mathlib.Core.Bool.{_&&_};
 ghost use lib.Dec.{leb, eqb};
 ghost use Rattle.record.specs.Record.{recordLength};
-ghost use Rattle.plan.specs.Check.{trailerLength, magic, trailerBytes, countOf, startOf, distanceOf, marked, accepted, mostRules, inLimits, checked};
+ghost use Rattle.plan.specs.Check.{trailerLength, magic, trailerBytes, mostRules, countOf, startOf, distanceOf};
+ghost use Rattle.plan.specs.Check.{marked, inLimits, accepted, checked};
 
 // What check answers: document 01's n and start, or the refusal.
 pub enum Checked {
