@@ -7,7 +7,7 @@ use native.Mathlib.Omega.{arith}
 use native.Mathlib.Decide.{decLt}
 use lib.ListN.{length, getD, take, drop}
 use lib.Seq.{getD-take, getD-drop, take-take, drop-drop}
-use Rattle.words.specs.Number.{base}
+use Rattle.words.specs.Number.{base, number, put}
 use Rattle.words.proofs.Laws.{number-agrees, length-put, put-same, put-other, put-take, put-drop}
 use Rattle.rule.specs.declared.Rule.{Rule}
 use Rattle.record.specs.Record.{recordLength, recordAt}
@@ -55,14 +55,13 @@ within-wider {a} {e} {s} {t} a′ e′ low high p =
     further : (x : List ℕ) → drop e′ x ≡ drop (e′ - e) (drop e x)
     further x = let k : e + (e′ - e) ≡ e′ = omega arith in rw (drop-drop (e′ - e) e x, k)
 
+pub within-number-put : (w : ℕ) (t : List ℕ) (at v a e : ℕ) → a ≤ at → at + w ≤ e → Within a e t (put w t at v)
+within-number-put w t at v a e low high =
+    record { same-length = length-put w t at v; same-before = put-take w t at v a low; same-after = put-drop w t at v e high }
+
 pub within-put : (w : ℕ) (t : List ℕ) (r o v a e : ℕ) → a ≤ rowLength * r + o → rowLength * r + o + w ≤ e → Within a e t (putField w t r o v)
 unfolding putField
-within-put w t r o v a e low high =
-    record {
-      same-length = length-putField w t r o v;
-      same-before = put-take w t (rowLength * r + o) v a low;
-      same-after = put-drop w t (rowLength * r + o) v e high;
-    }
+within-put w t r o v a e low high = within-number-put w t (rowLength * r + o) v a e low high
 
 -- a byte outside a frame stays, and so does a field
 within-byte : {a e : ℕ} {s t : List ℕ} → Within a e s t → (i : ℕ) → (a ≤ i → e ≤ i) → getD t i 0 ≡ getD s i 0
@@ -77,12 +76,13 @@ within-byte {a} {e} {s} {t} p i apart =
           ∙ ap (λ (j : ℕ). getD s j 0) k
     ]
 
+pub within-number : {a e : ℕ} {s t : List ℕ} → Within a e s t → (w at : ℕ) → (a < at + w → e ≤ at) → number w t at ≡ number w s at
+within-number {a} {e} {s} {t} p w at apart = number-agrees w t s at at (λ i below. within-byte p (at + i) (λ h. let f : e ≤ at = apart (omega arith) in omega arith))
+
 pub within-field : {a e : ℕ} {s t : List ℕ} → Within a e s t → (w r o : ℕ) → (a < rowLength * r + o + w → e ≤ rowLength * r + o)
     → field w t r o ≡ field w s r o
 unfolding field
-within-field {a} {e} {s} {t} p w r o apart =
-    number-agrees w t s (rowLength * r + o) (rowLength * r + o)
-    (λ i below. within-byte p (rowLength * r + o + i) (λ h. let f : e ≤ rowLength * r + o = apart (omega arith) in omega arith))
+within-field p w r o apart = within-number p w (rowLength * r + o) apart
 
 -- a rule outside a frame stays
 pub within-rule : {a e : ℕ} {s t : List ℕ} → Within a e s t → (r : ℕ) → (a < rowLength * r + ownEnd → e ≤ rowLength * r) → ruleIn t r ≡ ruleIn s r

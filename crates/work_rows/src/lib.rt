@@ -1,7 +1,7 @@
 // The rows of the lent work: a row for each rule, which begins with the rule itself.
 ghost use mathlib.Core.Path.{_≡_};
-ghost use Prim.Native.Nat.{_+_, _-_, _*_, _≤_};
-ghost use lib.ListN.{length};
+ghost use Prim.Native.Nat.{_+_, _-_, _*_, _≤_, _<_};
+ghost use lib.ListN.{length, getD};
 ghost use Rattle.record.specs.Record.{recordLength, wordLength};
 ghost use Rattle.rule.specs.Rule.{ruleOf, rulesIn};
 ghost use Rattle.record.specs.Records.{recordsFrom};
@@ -9,6 +9,9 @@ ghost use Rattle.plan.specs.Check.{trailerLength};
 ghost use Rattle.forest.specs.Outcome.{workWords, enoughWork, cleared};
 ghost use Rattle.work_rows.specs.Rows.{workLength, rowLength, ownEnd, field, putField, rowOf, ruleFrom, rowIn, putRow};
 ghost use Rattle.work_rows.specs.Rows.{ruleIn, Stored, Loaded};
+ghost use Rattle.reach.specs.Order.{numbersFrom};
+ghost use Rattle.work_rows.specs.Rows.{Within};
+ghost use Rattle.work_rows.specs.Order.{orderAt, orderEnd, orderIn};
 use plan::Trailer;
 use record::Record;
 use rule::Decoded;
@@ -219,6 +222,34 @@ pub fn enough_work(work: &[u8], n: u16) -> bool
     ensures { λ r. ⌜ r ≡ enoughWork n (now (work .entry)) ⌝ }
 {
     WORK_WORDS * (n as usize) <= words::word_count(work)
+}
+
+// Where the order of n rules begins, in bytes a rule: behind the rows and a word a rule.
+const ORDER: usize = Row::LENGTH + 2;
+
+// The rule at a place of the order.
+pub fn order_at(work: &[u8], n: u16, i: u16) -> u16
+    requires { ⌜ (orderEnd n ≤ length (now work)) × (i < n) ⌝ }
+    ensures { λ r. ⌜ r ≡ getD (orderIn (now (work .entry)) n) i 0 ⌝ }
+{
+    let at = ORDER * (n as usize);
+    words::read16(work, at + 2 * (i as usize))
+}
+
+// The n rules in the order of their numbers.
+pub fn order_by_number(work: &mut [u8], n: u16)
+    requires { ⌜ orderEnd n ≤ length (now work) ⌝ }
+    ensures { λ x.
+        let work′ = now (work .exit) in
+        ⌜ (orderIn work′ n ≡ numbersFrom 0 n)
+        × Within (orderAt n) (orderEnd n) (now (work .entry)) work′ ⌝ }
+{
+    let at = ORDER * (n as usize);
+    let mut i: u16 = 0;
+    while i < n {
+        words::write16(work, at + 2 * (i as usize), i);
+        i += 1;
+    }
 }
 
 // An accepted plan's n rules, which stand right before its trailer, into the rows of work.
