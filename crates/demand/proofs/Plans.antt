@@ -40,7 +40,7 @@ walkable s n start e =
     let below = P .ends .below in
     let good : Good Sort.row w = closed-row S (P .ends) in
     let fit : Fit (factsOf (rulesOf s)) Sort.row w =
-    rules-fit (rulesOf s) (λ r. r) S (ruleNumber-expression (rulesOf s)) (unfolding-equation S) (factsOf (rulesOf s)) (λ r h. facts-agree (rulesOf s) r) Sort.row start below good (expression-known S start below) in
+    rules-fit (rulesOf s) _ S (ruleNumber-expression (rulesOf s)) (unfolding-equation S) (factsOf (rulesOf s)) (λ r h. facts-agree (rulesOf s) r) Sort.row start below good (expression-known S start below) in
     record {
       few = let h = P .greatest in omega arith;
       forgets = placedForest-forgets (rulesOf s) start;

@@ -1,41 +1,33 @@
 -- What a row is made from is there: the rows of the rules named, their representatives, and what these jump to. Assumes nothing.
-use Prim.Native.Nat.{ℕ, _<_}
+use Prim.Native.Nat.{ℕ}
 use mathlib.Core.List.{List}
-use lib.Dec.{ltb, ltb→lt}
 use Rattle.rule.specs.declared.Rule.{Rule}
 use Rattle.forest.specs.Place.{Side, pick}
 use Rattle.forest.proofs.Sides.{picked}
 use Rattle.rule.specs.Names.{Names}
-use Rattle.rule.proofs.Names.{every-named}
-use Rattle.facts.specs.Facts.{In}
-use Rattle.facts.specs.Build.{Steps, Made, Pairs, Ready}
+use Rattle.facts.specs.Facts.{In, factsIn}
+use Rattle.facts.specs.Build.{Steps, Pairs, Ready}
 
-pub made-steps : {Done : ℕ → Type 0} {t : List ℕ} → Made Done t → (s : Side) (p : ℕ) → Done p → Steps t s p
-made-steps m s p d =
-    record {
-      here = m .room p d;
-      there = m .room _ (m .jumps s p d);
-      beyond = m .room _ (m .jumps s _ (m .jumps s p d));
-      small = m .small s p d;
-    }
+module _ {x : Rule} {t : List ℕ} (h : Ready x t) where
+  pub ready-room : (k : ℕ) → Names x k → In t k
+  ready-room k n = h .reads k n .steps Side.left .here
 
--- a rule named is below
-pub ready-below : {r : ℕ} {x : Rule} {t : List ℕ} → Ready r x t → (k : ℕ) → Names x k → k < r
-ready-below {r} h k n = ltb→lt k r (every-named (λ x. ltb x r) n (h .lower))
+  -- a step to one of two rules named, and to its representative
+  steps-either : (s : Side) (b c : ℕ) → Names x b → Names x c → Steps t s (pick s b c)
+  steps-either s b c one two = picked (λ (k : ℕ). Steps t s k) s b c (h .reads b one .steps s) (h .reads c two .steps s)
 
-pub ready-room : {r : ℕ} {x : Rule} {t : List ℕ} → Ready r x t → (k : ℕ) → Names x k → In t k
-ready-room h k n = h .made .room k (ready-below h k n)
+  represents-either : (s : Side) (b c : ℕ) → Names x b → Names x c → Steps t s ((factsIn t) .representative (pick s b c))
+  represents-either s b c one two =
+      picked (λ (k : ℕ). Steps t s ((factsIn t) .representative k)) s b c (h .reads b one .represents s) (h .reads c two .represents s)
 
-pub ready-pair : {r : ℕ} {b c : ℕ} {t : List ℕ} → Ready r (Rule.Pair b c) t → (s : Side) → Pairs t s b c
-ready-pair {r} {b} {c} {t} h s =
-    let p : pick s b c < r = picked (λ (k : ℕ). k < r) s b c (ready-below h b Names.pair-one) (ready-below h c Names.pair-two) in
+pub ready-pair : {b c : ℕ} {t : List ℕ} → Ready (Rule.Pair b c) t → (s : Side) → Pairs t s b c
+ready-pair {b} {c} h s =
     record {
       first = ready-room h b Names.pair-one;
       second = ready-room h c Names.pair-two;
-      chosen = h .made .room (pick s b c) p;
-      steps = made-steps (h .made) s _ (h .made .represents (pick s b c) p);
+      chosen = steps-either h s b c Names.pair-one Names.pair-two .here;
+      steps = represents-either h s b c Names.pair-one Names.pair-two;
     }
 
-pub ready-join : {r : ℕ} {b c : ℕ} {t : List ℕ} → Ready r (Rule.Join b c) t → (s : Side) → Steps t s (pick s b c)
-ready-join {r} {b} {c} h s =
-    made-steps (h .made) s (pick s b c) (picked (λ (k : ℕ). k < r) s b c (ready-below h b Names.join-one) (ready-below h c Names.join-two))
+pub ready-join : {b c : ℕ} {t : List ℕ} → Ready (Rule.Join b c) t → (s : Side) → Steps t s (pick s b c)
+ready-join {b} {c} h s = steps-either h s b c Names.join-one Names.join-two

@@ -2,12 +2,12 @@
 use Prim.Native.Nat.{ℕ, _+_, _^_, _<_}
 use mathlib.Core.Bool.{Bool, cond, _&&_}
 use mathlib.Core.List.{List}
-use lib.Dec.{T, eqb, ltb}
+use lib.Dec.{eqb, ltb}
 use Rattle.rule.specs.declared.Rule.{Rule}
-use Rattle.rule.specs.Rule.{every}
+use Rattle.rule.specs.Names.{Names}
 use Rattle.forest.specs.Place.{Side, pick}
 use Rattle.facts.specs.declared.Link.{Link}
-use Rattle.facts.specs.Facts.{linkIn, factsIn, In, Below}
+use Rattle.facts.specs.Facts.{linkIn, factsIn, In}
 
 -- the jump of a rule whose next on side s is p (skew-binary): over p's jump and its jump if these are equally long, else p
 unfoldable pub jumpOver : List ℕ → Side → ℕ → ℕ → ℕ → Bool
@@ -48,13 +48,6 @@ pub record Steps (t : List ℕ) (s : Side) (p : ℕ) : Type 0 where
   pub beyond : In t ((linkIn t s ((linkIn t s p) .jump)) .jump)
   pub small : (factsIn t) .depth s p + 1 < 2 ^ 16
 
--- the rows of the rules that are done lead to rows of such rules
-pub record Made (Done : ℕ → Type 0) (t : List ℕ) : Type 0 where
-  pub room : (r : ℕ) → Done r → In t r
-  pub represents : (r : ℕ) → Done r → Done ((factsIn t) .representative r)
-  pub jumps : (s : Side) (r : ℕ) → Done r → Done ((linkIn t s r) .jump)
-  pub small : (s : Side) (r : ℕ) → Done r → (factsIn t) .depth s r + 1 < 2 ^ 16
-
 -- what the link of a pair of rules looks at is there
 pub record Pairs (t : List ℕ) (s : Side) (b c : ℕ) : Type 0 where
   pub first : In t b
@@ -62,7 +55,11 @@ pub record Pairs (t : List ℕ) (s : Side) (b c : ℕ) : Type 0 where
   pub chosen : In t (pick s b c)
   pub steps : Steps t s ((factsIn t) .representative (pick s b c))
 
--- the rows below r are made, and the rule names only these
-pub record Ready (r : ℕ) (x : Rule) (t : List ℕ) : Type 0 where
-  pub made : Made (Below r) t
-  pub lower : T (every (λ k. ltb k r) x)
+-- what may be looked at through rule k is there: its row and its representative's, and what a step to either looks at
+pub record Reads (t : List ℕ) (k : ℕ) : Type 0 where
+  pub steps : (s : Side) → Steps t s k
+  pub represents : (s : Side) → Steps t s ((factsIn t) .representative k)
+
+-- every rule that the rule x names may be looked at
+pub record Ready (x : Rule) (t : List ℕ) : Type 0 where
+  pub reads : (k : ℕ) → Names x k → Reads t k

@@ -108,10 +108,10 @@ pub record FactsHeld (R : List Rule) (Done : ℕ → Type 0) (t : List ℕ) : Ty
 abbrev pub Below : ℕ → ℕ → Type 0
 Below n r = r < n
 
--- n rows hold the rules R, those below i what is true of them, and nothing beyond the n rows has changed
-pub record Built (R : List Rule) (n i : ℕ) (s t : List ℕ) : Type 0 where
+-- n rows hold the rules R and what is true of them, and nothing beyond the n rows has changed
+pub record Built (R : List Rule) (n : ℕ) (s t : List ℕ) : Type 0 where
   pub holds : Holds R t n
-  pub facts-held : FactsHeld R (Below i) t
+  pub facts-held : FactsHeld R (Below n) t
   pub beyond : Beyond n s t
 
 -- The ways of the rows can be climbed: each step and each jump is a rule with a row, a step is one deeper, a jump is further on the

@@ -209,7 +209,7 @@ impl Link {
 
     // The link of rule r.
     pub fn of(work: &[u8], side: Side, r: u16, rule: Rule) -> Link
-        requires { ⌜ Ready r rule (now work) ⌝ }
+        requires { ⌜ Ready rule (now work) ⌝ }
         ensures { λ l. ⌜ l ≡ linkOf (now (work .entry)) (sideOf side) r rule ⌝ }
     {
         match rule {

@@ -21,9 +21,9 @@ use Rattle.model.specs.Facts.{Facts, factsOf}
 use Rattle.facts.specs.declared.Link.{Link}
 use Rattle.facts_build.specs.declared.RuleFacts.{RuleFacts}
 use Rattle.work_rows.specs.Rows.{rowLength, ownEnd, Within}
-use Rattle.facts.specs.Facts.{linkIn, factsEnd, In, factsIn, Leads, FactsHeld, Below}
+use Rattle.facts.specs.Facts.{linkIn, factsEnd, In, factsIn, Leads, FactsHeld}
 use Rattle.facts_build.specs.RuleFacts.{ruleFactsIn, emptyOf, representativeOf, ruleFactsOf}
-use Rattle.facts.specs.Build.{jumpOver, jumpFrom, linkFrom, linkOwn, linkPair, linkOf, Made}
+use Rattle.facts.specs.Build.{jumpOver, jumpFrom, linkFrom, linkOwn, linkPair, linkOf, Steps, Reads}
 use Rattle.facts_build.proofs.Written.{other-facts}
 use Rattle.facts.proofs.Words.{known-isEmpty, factsIn-representative, factsIn-toward, factsIn-last, factsIn-depth}
 use Rattle.facts.proofs.Along.{leads-more, leads-copy, leads-next, leads-over}
@@ -204,8 +204,13 @@ facts-held-more R Done Done′ x y r e T more less new written within room =
     ])
 
 -- no row yet
-pub facts-held-none : (R : List Rule) (t : List ℕ) → FactsHeld R (Below 0) t
-facts-held-none R t = facts-held-of R (Below 0) t (λ r d. absurd (omega arith)) (λ r d. absurd (omega arith))
+pub facts-held-none : (R : List Rule) (Done : ℕ → Type 0) (t : List ℕ) → ((r : ℕ) → Done r → ⊥) → FactsHeld R Done t
+facts-held-none R Done t none = facts-held-of R Done t (λ r d. absurd (none r d)) (λ r d. absurd (none r d))
+
+-- the same rules told in another way
+pub facts-held-same : (R : List Rule) (Done Done′ : ℕ → Type 0) (t : List ℕ) → FactsHeld R Done t → ((k : ℕ) → Done k → Done′ k) → ((k : ℕ) → Done′ k → Done k) → FactsHeld R Done′ t
+facts-held-same R Done Done′ t T more less =
+    facts-held-of R Done′ t (λ r d. T .room r (less r d)) (λ r d. facts-more more (facts-of R Done t T r (less r d)))
 
 module _ {R : List Rule} {rank : ℕ → ℕ} (S : Sound R rank) (Done : ℕ → Type 0) (in-range : (r : ℕ) → Done r → r < length R)
     (closed : (r k : ℕ) → Done r → Names (rule R r) k → Done k) (t : List ℕ) (T : FactsHeld R Done t) where
@@ -226,12 +231,23 @@ module _ {R : List Rule} {rank : ℕ → ℕ} (S : Sound R rank) (Done : ℕ →
           rw (linkOf-way t s r (rule R r) ∙ ap (linkBy t s r) (way-true R Done t T s (rule R r) named))
           (link-true R Done t T Done′ more r d s (wayOf (factsOf R) s (rule R r)) (follows S r below s) (way-done S Done in-range closed s r below named))
 
-  -- the rows lead to rows that are done
-  pub facts-held-made : length R < 2 ^ 16 → Made Done t
-  facts-held-made few =
+  -- what a rule made from them looks at is there
+  pub facts-held-reads : length R < 2 ^ 16 → (r : ℕ) → Done r → Reads t r
+  facts-held-reads few r d =
       record {
-        room = T .room;
-        represents = λ r d. rw (T .representative r d) (representative-done S Done in-range closed r d);
-        jumps = λ s r d. T .jumps s r d .inside;
-        small = λ s r d. let a = T .depth s r d in let b = depth-rank S s r (in-range r d) in let c = S .ranked r (in-range r d) in omega arith;
+        steps = λ s. steps s r d;
+        represents = λ s. rw (T .representative r d) (steps s _ (representative-done S Done in-range closed r d));
       }
+    where
+      steps : (s : Side) (k : ℕ) → Done k → Steps t s k
+      steps s k d =
+          record {
+            here = T .room k d;
+            there = T .room _ (T .jumps s k d .inside);
+            beyond = T .room _ (T .jumps s _ (T .jumps s k d .inside) .inside);
+            small =
+                let a = T .depth s k d in
+                let b = depth-rank S s k (in-range k d) in
+                let c = S .ranked k (in-range k d) in
+                omega arith;
+          }

@@ -122,7 +122,7 @@ pub record Walkable (R : List Rule) (t : List ℕ) : Type 0 where
   pub facts-are : factsIn t ≡ factsOf R
   pub climbs : Climbs t
 
-walkable : {R : List Rule} {rank : ℕ → ℕ} {s t : List ℕ} → Sound R rank → Built R (length R) (length R) s t → rowLength * length R ≤ length t
+walkable : {R : List Rule} {rank : ℕ → ℕ} {s t : List ℕ} → Sound R rank → Built R (length R) s t → rowLength * length R ≤ length t
     → Walkable R (take (rowLength * length R) t)
 unfolding Holds
 walkable {R} {rank} {s} {t} S B long =
@@ -134,6 +134,6 @@ walkable {R} {rank} {s} {t} S B long =
     (λ r (d : r < length R). rw (facts-take m t r (omega arith)) (facts-of R (Below (length R)) t (B .facts-held) r d)) in
     record { facts-are = factsIn-facts exact holds T; climbs = factsIn-climbs exact holds T S }
 
-pub built-walkable : {R : List Rule} {rank : ℕ → ℕ} {n : ℕ} {s t : List ℕ} → Sound R rank → length R ≡ n → Built R n n s t → rowLength * n ≤ length t
+pub built-walkable : {R : List Rule} {rank : ℕ → ℕ} {n : ℕ} {s t : List ℕ} → Sound R rank → length R ≡ n → Built R n s t → rowLength * n ≤ length t
     → Walkable R (take (rowLength * n) t)
 built-walkable {R} {rank} {n} {s} {t} S count B long = rw (← count) (walkable S (rw (← count) at B) (omega arith))

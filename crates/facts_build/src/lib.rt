@@ -1,11 +1,9 @@
 // What is known of each rule, made from the rows of the rules that it names and written into its row.
 ghost use mathlib.Core.Path.{_≡_};
-ghost use Prim.Native.Nat.{_*_, _≤_};
-ghost use lib.ListN.{length};
-ghost use Rattle.work_rows.specs.Rows.{rowLength, firstRules};
-ghost use Rattle.rule.specs.Sound.{Sound};
+ghost use Rattle.work_rows.specs.Rows.{firstRules};
 ghost use Rattle.facts.specs.Facts.{Built, In};
 ghost use Rattle.facts_build.specs.RuleFacts.{flag, putRuleFacts, emptyOf, representativeOf, ruleFactsOf};
+ghost use Rattle.facts_build.specs.Buildable.{Buildable};
 ghost use Rattle.facts.specs.Build.{Ready};
 use facts::Link;
 use rule::Rule;
@@ -28,8 +26,8 @@ fn flag(test: bool) -> u16
 
 impl RuleFacts {
     // Is a rule without trees?
-    fn empty_of(work: &[u8], r: u16, rule: Rule) -> bool
-        requires { ⌜ Ready r rule (now work) ⌝ }
+    fn empty_of(work: &[u8], rule: Rule) -> bool
+        requires { ⌜ Ready rule (now work) ⌝ }
         ensures { λ x. ⌜ x ≡ emptyOf (now (work .entry)) rule ⌝ }
     {
         match rule {
@@ -45,7 +43,7 @@ impl RuleFacts {
 
     // The representative of rule r.
     fn representative_of(work: &[u8], r: u16, rule: Rule) -> u16
-        requires { ⌜ Ready r rule (now work) ⌝ }
+        requires { ⌜ Ready rule (now work) ⌝ }
         ensures { λ x. ⌜ x ≡ representativeOf (now (work .entry)) r rule ⌝ }
     {
         match rule {
@@ -68,12 +66,12 @@ impl RuleFacts {
 
     // All that is known of rule r, from the rows of the rules that it names.
     fn of(work: &[u8], r: u16, rule: Rule) -> RuleFacts
-        requires { ⌜ Ready r rule (now work) ⌝ }
+        requires { ⌜ Ready rule (now work) ⌝ }
         ensures { λ e. ⌜ e ≡ ruleFactsOf (now (work .entry)) r rule ⌝ }
     {
         RuleFacts {
             representative: RuleFacts::representative_of(work, r, rule),
-            empty: RuleFacts::empty_of(work, r, rule),
+            empty: RuleFacts::empty_of(work, rule),
             left: Link::of(work, Side::Left, r, rule),
             right: Link::of(work, Side::Right, r, rule),
         }
@@ -91,16 +89,17 @@ impl RuleFacts {
     }
 }
 
-// What is known of each of n rules, into their rows, from rule 0 up: a rule names only lower ones.
+// What is known of each of n rules, into their rows, in the order that stands behind the rows: each rule after those that it names.
 pub fn build(work: &mut [u8], n: u16)
-    requires { ⌜ (rowLength * n ≤ length (now work)) × Sound (firstRules (now work) n) (λ r. r) ⌝ }
-    ensures { λ x. ⌜ Built (firstRules (now (work .entry)) n) n n (now (work .entry)) (now (work .exit)) ⌝ }
+    requires { ⌜ Buildable n (now work) ⌝ }
+    ensures { λ x. ⌜ Built (firstRules (now (work .entry)) n) n (now (work .entry)) (now (work .exit)) ⌝ }
 {
     let mut i: u16 = 0;
     while i < n {
-        let rule = work_rows::rule_at(work, i);
-        let facts = RuleFacts::of(work, i, rule);
-        facts.write(work, i);
+        let r = work_rows::order_at(work, n, i);
+        let rule = work_rows::rule_at(work, r);
+        let facts = RuleFacts::of(work, r, rule);
+        facts.write(work, r);
         i += 1;
     }
 }

@@ -31,7 +31,8 @@ rulesKept t = firstRules t (rowCount t)
 
 -- the table of a sound plan's rules, of which the closed rule r is walked
 pub record WalkedRows (r : ℕ) (t : List ℕ) : Type 0 where
-  pub sound : Sound (rulesKept t) (λ k. k)
+  pub rank : ℕ → ℕ
+  pub sound : Sound (rulesKept t) rank
   pub closed : Closed (rulesKept t) r
   pub facts-are : factsIn t ≡ factsOf (rulesKept t)
   pub climbs : Climbs t

@@ -10,19 +10,23 @@ use Rattle.record.specs.Record.{recordLength}
 use Rattle.record.specs.Records.{recordsFrom}
 use Rattle.rule.specs.Rule.{rulesIn}
 use Rattle.plan.specs.Check.{rulesOf, trailerLength, mostRules}
-use Rattle.rule.specs.Sound.{Sound}
+use Rattle.rule.specs.Sound.{Sound, Closed}
+use Rattle.reach.specs.Order.{Orders, numbersFrom}
+use Rattle.reach.proofs.Orders.{lower-orders}
 use Rattle.plan.proofs.Sound.{Plan, checked-plan, plan-long}
 use Rattle.forest.specs.Walk.{placeJudged}
 use Rattle.forest.specs.declared.Walked.{Walked}
 use Rattle.model.specs.Facts.{Facts, factsOf}
 use Rattle.work_rows.specs.Rows.{workLength, rowLength, Holds, Within, Loaded, firstRules}
+use Rattle.work_rows.specs.Order.{orderAt, orderEnd, orderIn}
 use Rattle.facts.specs.Facts.{rowCount, factsIn, Built}
-use Rattle.work_rows.proofs.Rows.{within-both}
+use Rattle.facts_build.specs.Buildable.{Buildable}
+use Rattle.work_rows.proofs.Rows.{within-both, within-wider, within-rule}
 use Rattle.facts.proofs.Words.{factsIn-rule}
-use Rattle.work_rows.proofs.Kept.{holds-first}
+use Rattle.work_rows.proofs.Kept.{holds-first, first-same}
 use Rattle.facts_build.proofs.Known.{built-walkable}
 use Rattle.work_rows.proofs.Work.{rules-first, beyond-work}
-use Rattle.letter_moves.specs.Standing.{rulesKept}
+use Rattle.letter_moves.specs.Standing.{rulesKept, WalkedRows}
 use Rattle.walk.specs.Calls.{Planned, Filled, Lendable}
 use Rattle.walk_place.specs.Travel.{Travels, Walks}
 
@@ -32,6 +36,14 @@ unfolding Holds factsOf
 walkable-rules R n t count long e =
     let all : rowCount t ≡ n = omega arith in
     ap (firstRules t) all ∙ holds-first R t n count (λ k below. sym (factsIn-rule t k (omega arith)) ∙ ap (λ (F : Facts). F .rule k) e)
+
+-- the rules of an accepted plan stand in the order of their numbers, since each names only lower ones
+plan-orders : {most : ℕ} {s : List ℕ} {n start : ℕ} → Plan most s n start → Orders (rulesOf s) (numbersFrom 0 n)
+plan-orders {s = s} P = rw (← P .rules) (lower-orders (rulesOf s) (P .sound .falls))
+
+-- rows of sound rules with an order of them behind can be built
+buildable : {R : List Rule} {rank : ℕ → ℕ} {n : ℕ} {t : List ℕ} → orderEnd n ≤ length t → firstRules t n ≡ R → Sound R rank → Orders R (orderIn t n) → Buildable n t
+buildable {rank = rank} room rules S O = record { room = room; rank = rank; sound = rw rules S; orders = rw rules O }
 
 module _ {s : List ℕ} {n : ℕ} (P : Planned s n) where
   plan : Plan mostRules s n (P .start)
@@ -44,19 +56,39 @@ module _ {s : List ℕ} {n : ℕ} (P : Planned s n) where
     rules-loaded : firstRules t n ≡ rulesOf s
     rules-loaded = holds-first (rulesOf s) t n (plan .rules) ((rw (rules-first s n (P .start) plan) at l) .holds)
 
-    pub builds : (rowLength * n ≤ length t) × Sound (firstRules t n) (λ r. r)
-    builds = let same = l .beyond .same-length in (omega arith, rw rules-loaded (plan .sound))
+    pub orderable : orderEnd n ≤ length t
+    orderable = let same = l .beyond .same-length in omega arith
 
-    pub filled : {t′ : List ℕ} → Built (firstRules t n) n n t t′ → Filled (rulesOf s) (take (rowLength * n) t′) × Within 0 (workLength * n) u t′
-    filled {t′} b =
-        let same = l .beyond .same-length in
-        let B : Built (rulesOf s) n n t t′ = rw rules-loaded at b in
-        let again = B .beyond .same-length in
-        let long : length (take (rowLength * n) t′) ≡ rowLength * n = length-take-le (rowLength * n) t′ (omega arith) in
-        let w = built-walkable (plan .sound) (plan .rules) B (omega arith) in (
-          record { rules = walkable-rules (rulesOf s) n (take (rowLength * n) t′) (plan .rules) long (w .facts-are); facts-are = w .facts-are; climbs = w .climbs },
-          within-both (beyond-work n (l .beyond)) (beyond-work n (B .beyond)),
-        )
+    -- behind the rows stands the order
+    module _ {v : List ℕ} (o : (orderIn v n ≡ numbersFrom 0 n) × Within (orderAt n) (orderEnd n) t v) where
+      rules-kept : firstRules v n ≡ rulesOf s
+      rules-kept = first-same t v n (λ k below. within-rule (o .1) k (λ h. absurd (omega arith))) ∙ rules-loaded
+
+      pub builds : Buildable n v
+      builds = let same = o .1 .same-length in buildable (omega (arith, orderable)) rules-kept (plan .sound) (rw (o .0) (plan-orders plan))
+
+      pub filled : {w : List ℕ} → Built (firstRules v n) n v w → Filled (rulesOf s) (take (rowLength * n) w) × Within 0 (workLength * n) u w
+      filled {w} b =
+          let B : Built (rulesOf s) n v w = rw rules-kept at b in
+          let first = l .beyond .same-length in
+          let second = o .1 .same-length in
+          let third = B .beyond .same-length in
+          let long : length (take (rowLength * n) w) ≡ rowLength * n = length-take-le (rowLength * n) w (omega arith) in
+          let k = built-walkable (plan .sound) (plan .rules) B (omega arith) in (
+            record { rules = walkable-rules (rulesOf s) n (take (rowLength * n) w) (plan .rules) long (k .facts-are); facts-are = k .facts-are; climbs = k .climbs },
+            within-both (beyond-work n (l .beyond)) (within-both (within-wider 0 (workLength * n) (omega arith) (omega arith) (o .1)) (beyond-work n (B .beyond))),
+          )
+
+-- the rows of sound rules, of which the closed rule r is walked
+walked-rows : {R : List Rule} {rank : ℕ → ℕ} {r : ℕ} {t : List ℕ} → Sound R rank → Closed R r → Filled R t → WalkedRows r t
+walked-rows {rank = rank} S C f =
+    record {
+      rank = rank;
+      sound = rw (f .rules) S;
+      closed = rw (f .rules) C;
+      facts-are = f .facts-are ∙ ap factsOf (sym (f .rules));
+      climbs = f .climbs;
+    }
 
 -- the table that is walked on, in the first rows of the work
 module _ {s : List ℕ} {n start : ℕ} {work cursor letters given : List ℕ} (L : Lendable s n start work cursor letters given) where
@@ -75,13 +107,7 @@ module _ {s : List ℕ} {n start : ℕ} {work cursor letters given : List ℕ} (
         record {
           place =
               record {
-                rows =
-                    record {
-                      sound = rw (f .rules) (whole .sound);
-                      closed = rw (f .rules) (whole .ends);
-                      facts-are = f .facts-are ∙ ap factsOf (sym (f .rules));
-                      climbs = f .climbs;
-                    };
+                rows = walked-rows (whole .sound) (whole .ends) f;
                 count = omega arith;
                 room = L .room;
               };

@@ -15,7 +15,7 @@ ghost use Rattle.walk.specs.Calls.{Filled, Planned, Lendable};
 ghost use Rattle.walk_place.specs.Travel.{Walks};
 use walk_lent::Found;
 
-// The table of an accepted plan's rules, in the first rows of the work.
+// The table of an accepted plan's rules, in the first rows of the work, made in the order of their numbers.
 fn fill(plan: &[u8], work: &mut [u8], n: u16)
     requires { ⌜ Planned (now plan) n × (workLength * n ≤ length (now work)) ⌝ }
     ensures { λ x.
@@ -24,6 +24,7 @@ fn fill(plan: &[u8], work: &mut [u8], n: u16)
         × Within 0 (workLength * n) (now (work .entry)) work′ ⌝ }
 {
     work_rows::load_rules(plan, work, n);
+    work_rows::order_by_number(work, n);
     facts_build::build(work, n);
 }
 
