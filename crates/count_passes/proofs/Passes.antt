@@ -30,11 +30,11 @@ tally-capped Tally.Levels d f r x = levels-capped d f x
 tally-same : (what : Tally) (d e f g : ℕ → ℕ) (n r : ℕ) (x : Rule) → r < n → ((k : ℕ) → Names x k → k < n)
     → Helped what ((k : ℕ) → k < n → d k ≡ e k) → ((k : ℕ) → Names x k → f k ≡ g k) → tallyOf what d f r x ≡ tallyOf what e g r x
 unfolding tallyOf
-tally-same (Tally.Own w) d e f g n r x below lower i h = refl
-tally-same Tally.Sum d e f g n r x below lower i h = ap (λ (m : ℕ). sumOf m f x) (i r below) ∙ sum-same f g (e r) x h
-tally-same Tally.Trees d e f g n r x below lower i h = trees-same f g x h
-tally-same Tally.Depth d e f g n r x below lower i h = depth-same f g x h
-tally-same Tally.Levels d e f g n r x below lower i h = levels-same f g d e x (λ k m. i k (lower k m)) h
+tally-same (Tally.Own w) d e f g n r x below named i h = refl
+tally-same Tally.Sum d e f g n r x below named i h = ap (λ (m : ℕ). sumOf m f x) (i r below) ∙ sum-same f g (e r) x h
+tally-same Tally.Trees d e f g n r x below named i h = trees-same f g x h
+tally-same Tally.Depth d e f g n r x below named i h = depth-same f g x h
+tally-same Tally.Levels d e f g n r x below named i h = levels-same f g d e x (λ k m. i k (named k m)) h
 
 pub helped : (what : Tally) {P Q : Type 0} → (P → Q) → Helped what P → Helped what Q
 helped (Tally.Own w) f p = tt
