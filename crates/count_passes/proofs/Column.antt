@@ -55,17 +55,14 @@ pub column-kept : {o w n : ℕ} {s t : List ℕ} (p i : ℕ) (f : ℕ → ℕ) �
     → (o < p + countLength → o + w ≤ p) → Column s p i f → Column t p i f
 column-kept p i f b fits a h k below = b .fields countLength p k fits a ∙ h k below
 
-pub column-none : (t : List ℕ) (o : ℕ) (f : ℕ → ℕ) → Column t o 0 f
-column-none t o f k below = absurd (omega arith)
+-- a write leaves the same place of every other row
+pub other-row : (w : ℕ) (t : List ℕ) (r o v k : ℕ) → o + w ≤ rowLength → (k ≡ r → ⊥) → field w (putField w t r o v) k o ≡ field w t k o
+other-row w t r o v k fits ne = field-other w w t r o v k o (λ h. omega arith)
 
--- a row's count, once written, makes the column longer by one
-pub column-more : (s : List ℕ) (o i v : ℕ) (f : ℕ → ℕ) → rowLength * (i + 1) ≤ length s → o + countLength ≤ rowLength → v ≡ capped (f i)
-    → Column s o i f → Column (putField countLength s i o v) o (i + 1) f
-column-more s o i v f room fits q h k below =
-    elim (decLt k i) as (λ (d : Dec (k < i)). field countLength (putField countLength s i o v) k o ≡ capped (f k)) [
-      | yes under ↦ field-other countLength countLength s i o v k o (λ l. absurd (omega arith)) ∙ h k under
-      | no over ↦ let e : k ≡ i = omega arith in rw e (field-same countLength s i o v (omega arith) (small q) ∙ q)
-    ]
+-- a row's count, once written, is there
+pub count-put : (t : List ℕ) (r o v m : ℕ) → rowLength * (r + 1) ≤ length t → o + countLength ≤ rowLength → v ≡ capped m
+    → field countLength (putField countLength t r o v) r o ≡ capped m
+count-put t r o v m room fits q = field-same countLength t r o v (omega arith) (small q) ∙ q
   where
-    small : v ≡ capped (f i) → v < base ^ countLength
+    small : v ≡ capped m → v < base ^ countLength
     small q = omega arith

@@ -1,6 +1,7 @@
 pub mod Meaning
 pub mod Reach
 pub mod Column
+pub mod Ordered
 pub mod Passes
 pub mod Rules
 pub mod Work

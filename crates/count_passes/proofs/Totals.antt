@@ -1,34 +1,27 @@
 -- What the passes count at a closed rule is the count of its forest, capped: each column obeys a recurrence, over the helping column where
 -- the tally looks at one, and the recurrence gives the count. The rows stay as they were for the next count. Assumes nothing.
-use Prim.Native.Nat.{ℕ, _+_, _*_, _≤_, _<_}
+use Prim.Native.Nat.{ℕ, _+_, _≤_, _<_}
 use native.Mathlib.Omega.{arith}
-use mathlib.Core.Path.{_≡_, refl, sym, ap, _∙_}
+use mathlib.Core.Path.{refl, sym, ap, _∙_}
 use mathlib.Core.List.{List}
-use lib.ListN.{length}
 use Rattle.rule.specs.declared.Rule.{Rule}
 use Rattle.forest.specs.Expression.{Expression}
 use Rattle.forest.specs.Forest.{Forest, count, weigh, levels}
-use Rattle.work_rows.specs.Rows.{rowLength, ownEnd, ruleIn}
+use Rattle.work_rows.specs.Rows.{ownEnd, ruleIn}
 use Rattle.count_capped.specs.declared.Count.{Count}
 use Rattle.count_passes.specs.declared.Tally.{Tally}
 use Rattle.count_rule.specs.declared.Weight.{Weight}
 use Rattle.count_capped.specs.Count.{capped, countLength}
 use Rattle.count_passes.specs.Recurrence.{nodesIn, treesIn, depthIn, levelsIn}
 use Rattle.count_rule.specs.ByRule.{weightOf, ownOf}
-use Rattle.count_passes.specs.Tally.{tallyOf, Besides, Unfolds, Ready, Tallied}
+use Rattle.count_passes.specs.Tally.{tallyOf, Besides, Unfolds, Tallied}
 use Rattle.count_passes.specs.Total.{atHelp, atCount, Weighed, WeightsFilled, Startable, PassMade, Counts}
 use Rattle.count_passes.proofs.Meaning.{nodes-value, trees-value, levels-value}
 use Rattle.count_passes.proofs.Column.{besides-rule, besides-both, besides-wider}
+use Rattle.count_passes.proofs.Ordered.{ready-besides}
 use Rattle.count_passes.proofs.Rules.{nodes-recurs, trees-recurs, depth-recurs, levels-recurs}
 
 -- what the rows hold stays readable, and what unfolds it unfolds it still
-ready-besides : {o w n : ℕ} {s t : List ℕ} → Besides o w n s t → ownEnd ≤ o → Ready s n → Ready t n
-ready-besides {n = n} {s = s} {t = t} b past a =
-    record {
-      room = let l : length t ≡ length s = b .beyond .same-length in let m : rowLength * n ≤ length s = a .room in omega arith;
-      lower = λ r below. rw (besides-rule b past r) (a .lower r below);
-    }
-
 startable-besides : {o w n r : ℕ} {s t : List ℕ} → Besides o w n s t → ownEnd ≤ o → Startable s n r → Startable t n r
 startable-besides b past a = record { ready = ready-besides b past (a .ready); below = a .below }
 

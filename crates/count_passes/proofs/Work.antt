@@ -11,7 +11,8 @@ use Rattle.plan.proofs.Sound.{Plan, checked-plan}
 use Rattle.forest.specs.Expression.{expression}
 use Rattle.forest.proofs.Unfold.{unfolding-equation, closed-row}
 use Rattle.forest.specs.Good.{Sort, Good}
-use Rattle.work_rows.specs.Rows.{workLength, ruleIn, Holds, Loaded}
+use Rattle.work_rows.specs.Rows.{workLength, ruleIn, firstRules, Holds}
+use Rattle.work_rows.proofs.Kept.{holds-first}
 use Rattle.work_rows.proofs.Work.{enough-room}
 use Rattle.work_load.specs.Prepared.{Loads, Prepared}
 use Rattle.count_passes.specs.Tally.{Ready, Unfolds}
@@ -24,31 +25,33 @@ pub record Held (s : List ℕ) (n start : ℕ) (t : List ℕ) : Type 0 where
   pub below : start < n
   pub closed : Good Sort.row (expression (rulesOf s) start)
   pub accepted : Plan mostRules s n start
-  pub same : (k : ℕ) → k < n → ruleIn t k ≡ rule (rulesOf s) k
+  pub rules : firstRules t n ≡ rulesOf s
   pub room : workLength * n ≤ length t
 
 pub held : {s u t : List ℕ} {x : Checked} {n start : ℕ} → Prepared s u t x → x ≡ Checked.Accepted n start → Held s n start t
 unfolding Holds
 held {s} {u} {t} {n = n} {start = start} b e =
     let loads : Loads s u t n start = b .loaded n start e in
-    let l : Loaded (rulesOf s) n u t = loads .rows in
     let p : Plan mostRules s n start = checked-plan s n start (loads .accepted) in
     let enough : workLength * n ≤ length u = enough-room n u (loads .enough) in
     let long : length (rulesOf s) ≡ n = p .rules in
-    let same : (k : ℕ) → k < n → ruleIn t k ≡ rule (rulesOf s) k = l .holds in
+    let same-long : length t ≡ length u = loads .within .same-length in
+    let same : (k : ℕ) → k < n → ruleIn t k ≡ rule (rulesOf s) k = loads .rows in
+    let all : firstRules t n ≡ rulesOf s = holds-first (rulesOf s) t n long (loads .rows) in
     let small : start < length (rulesOf s) = p .ends .below in
     record {
       ready =
           record {
-            room = let a : length t ≡ length u = l .beyond .same-length in omega arith;
-            lower = λ r below. rw (same r below) (p .sound .falls r (omega arith));
+            room = omega arith;
+            ranged = rw all (p .sound .in-range);
+            order = rw all (loads .order);
           };
       unfolds = record { unfolds = λ r below. rw (same r below) (unfolding-equation (p .sound) r (omega arith)) };
       below = omega arith;
       closed = closed-row (p .sound) (p .ends);
       accepted = p;
-      same = same;
-      room = let a : length t ≡ length u = l .beyond .same-length in omega arith;
+      rules = all;
+      room = omega arith;
     }
 
 -- what the loaded rows are good for

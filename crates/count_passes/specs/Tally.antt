@@ -3,11 +3,12 @@ use Prim.Native.Nat.{ℕ, _+_, _*_, _≤_, _<_}
 use mathlib.Core.Path.{_≡_}
 use mathlib.Core.List.{List}
 use lib.ListN.{length}
-use lib.Dec.{T, ltb}
 use Rattle.rule.specs.declared.Rule.{Rule}
-use Rattle.rule.specs.Rule.{every}
+use Rattle.rule.specs.Names.{Names}
+use Rattle.reach.specs.Order.{Ranged, Orders}
 use Rattle.forest.specs.Expression.{Expression, rhs}
-use Rattle.work_rows.specs.Rows.{rowLength, field, putField, ownEnd, ruleIn, Beyond}
+use Rattle.work_rows.specs.Rows.{rowLength, field, putField, ownEnd, ruleIn, firstRules, Beyond}
+use Rattle.work_rows.specs.Order.{orderEnd, orderIn}
 use Rattle.count_passes.specs.declared.Tally.{Tally}
 use Rattle.count_capped.specs.Count.{capped, countLength}
 use Rattle.count_rule.specs.ByRule.{weightOf, ownOf, sumOf, treesOf, depthOf, levelsOf}
@@ -29,21 +30,18 @@ Helped Tally.Trees P = Unit {0}
 Helped Tally.Depth P = Unit {0}
 Helped Tally.Levels P = P
 
--- row r lies in t with its places for counts, and names lower rules only
+-- row r lies in t with its places for counts, and so do the rows of the rules that it names
 pub record Readable (t : List ℕ) (r help o : ℕ) : Type 0 where
   pub room : rowLength * (r + 1) ≤ length t
-  pub lower : T (every (λ x. ltb x r) (ruleIn t r))
+  pub named : (k : ℕ) → Names (ruleIn t r) k → rowLength * (k + 1) ≤ length t
   pub help-fits : help + countLength ≤ rowLength
   pub fits : o + countLength ≤ rowLength
 
--- the rows hold rules that name lower ones only
-abbrev pub Lower : List ℕ → ℕ → Type 0
-Lower t n = (r : ℕ) → r < n → T (every (λ x. ltb x r) (ruleIn t r))
-
--- the rows of n rules lie in t, and name lower rules only
+-- the rows of n rules lie in t, with an order of them behind, in which each comes after those that it names
 pub record Ready (t : List ℕ) (n : ℕ) : Type 0 where
-  pub room : rowLength * n ≤ length t
-  pub lower : Lower t n
+  pub room : orderEnd n ≤ length t
+  pub ranged : Ranged (firstRules t n)
+  pub order : Orders (firstRules t n) (orderIn t n)
 
 -- rows below i have f at offset o, capped
 abbrev pub Column : List ℕ → ℕ → ℕ → (ℕ → ℕ) → Type 0
@@ -69,7 +67,7 @@ pub record Besides (o w n : ℕ) (s t : List ℕ) : Type 0 where
   pub fields : (v p k : ℕ) → p + v ≤ rowLength → (o < p + v → o + w ≤ p) → field v t k p ≡ field v s k p
   pub beyond : Beyond n s t
 
--- row r has its tally at o, from what the rows of lower rules hold
+-- row r has its tally at o, from what the rows of the rules that it names hold
 pub record RowTallied (what : Tally) (r help o : ℕ) (s t : List ℕ) : Type 0 where
   pub count : ℕ
   pub written : t ≡ putField countLength s r o count

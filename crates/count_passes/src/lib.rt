@@ -46,15 +46,16 @@ fn tally_row(work: &mut [u8], r: u16, what: Tally, help: usize, o: usize)
     count_capped::put_count(work, r, o, count);
 }
 
-// A pass over the rows of n rules: the tally of each at offset o, from a helping column at offset help where it asks for one.
+// A pass over the rows of n rules, in their order: the tally of each at offset o, from a helping column at offset help where it asks for one.
 fn tally_all(work: &mut [u8], n: u16, what: Tally, help: usize, o: usize)
     requires { ⌜ Passable (now work) n help o ⌝ }
     ensures { λ x. ⌜ Tallied what n help o (now (work .entry)) (now (work .exit)) ⌝ }
 {
-    let mut r: u16 = 0;
-    while r < n {
+    let mut i: u16 = 0;
+    while i < n {
+        let r = work_rows::order_at(work, n, i);
         tally_row(work, r, what, help, o);
-        r += 1;
+        i += 1;
     }
 }
 

@@ -28,12 +28,13 @@ use Rattle.count_passes.specs.Tally.{Besides, Unfolds}
 use Rattle.count_passes.specs.Total.{Startable, Counts}
 use Rattle.count_passes.proofs.Meaning.{told}
 use Rattle.count_passes.proofs.Column.{besides-rule}
+use Rattle.count_passes.proofs.Ordered.{order-besides, rules-besides}
 use Rattle.spread_step.specs.Task.{taskIn}
 use Rattle.spread_stack.specs.Run.{meant, workEnd, Taskable, Tasked, RowsTasked, Ran, Spreadable}
 use Rattle.spread.specs.Answer.{Answerable, Answered}
 use Rattle.spread_step.proofs.Tasks.{by-test}
 use Rattle.spread_stack.proofs.Rows.{task-recurs}
-use Rattle.work_rows.proofs.Kept.{first-length, first-rule, first-same}
+use Rattle.work_rows.proofs.Kept.{first-length, first-rule}
 
 -- two tests that say the same
 same-test : (a b c d : ℕ) → (a ≤ b → c ≤ d) → (c ≤ d → a ≤ b) → leb a b ≡ leb c d
@@ -70,7 +71,8 @@ module _ {t : List ℕ} {n r : ℕ} (a : Answerable t n r) where
         ready =
             record {
               room = omega (arith, a .room);
-              lower = λ k below. rw (← (first-rule t n k below)) (a .sound .falls k (omega (arith, first-length t n)));
+              ranged = a .sound .in-range;
+              order = a .order;
             };
         below = in-rows;
       }
@@ -78,8 +80,7 @@ module _ {t : List ℕ} {n r : ℕ} (a : Answerable t n r) where
   taskable : Taskable t n
   taskable =
       record {
-        room = omega (arith, a .room);
-        lower = startable .ready .lower;
+        ready = startable .ready;
         labels = λ k below. rw (← (first-rule t n k below)) (a .sound .labels k (omega (arith, first-length t n)));
         few = a .few;
       }
@@ -89,14 +90,18 @@ module _ {t : List ℕ} {n r : ℕ} (a : Answerable t n r) where
   unfolding forest
   rule-text = told closed-good
 
--- the rows keep their rules
-rows-kept : {o w n : ℕ} {s t : List ℕ} → Besides o w n s t → ownEnd ≤ o → firstRules t n ≡ firstRules s n
-rows-kept {n = n} {s = s} {t = t} b past = first-same s t n (λ k below. besides-rule b past k)
-
+-- the rows keep their rules, and the order
 answerable-kept : {o w n r : ℕ} {s t : List ℕ} → Besides o w n s t → ownEnd ≤ o → Answerable s n r → Answerable t n r
 answerable-kept {n = n} {r = r} {s = s} {t = t} b past a =
     let long : length t ≡ length s = b .beyond .same-length in
-    record { sound = rw (rows-kept b past) (a .sound); closed = rw (rows-kept b past) (a .closed); few = a .few; room = omega (arith, a .room) }
+    record {
+      rank = a .rank;
+      sound = rw (rules-besides b past) (a .sound);
+      order = rw (rules-besides b past, order-besides b) (a .order);
+      closed = rw (rules-besides b past) (a .closed);
+      few = a .few;
+      room = omega (arith, a .room);
+    }
 
 -- the nodes of the rule
 module _ {s t : List ℕ} {n r : ℕ} {c : Count} (a : Answerable s n r) (p : Counts (weigh (weightOf Weight.Node)) n r c s t) where
@@ -129,11 +134,12 @@ module _ {s t : List ℕ} {n r : ℕ} {c : Count} (a : Answerable s n r) (p : Co
       tasked = answerable-kept (q .besides) (omega arith) counted
 
       all-same : firstRules u n ≡ firstRules s n
-      all-same = rows-kept (q .besides) (omega arith) ∙ rows-kept (p .besides) (omega arith)
+      all-same = rules-besides (q .besides) (omega arith) ∙ rules-besides (p .besides) (omega arith)
 
       rows-tasked : RowsTasked u n
       rows-tasked =
           record {
+            rank = tasked .rank;
             sound = tasked .sound;
             few = tasked .few;
             least = let b : r < n = in-rows tasked in omega arith;

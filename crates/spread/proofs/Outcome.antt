@@ -13,10 +13,9 @@ use Rattle.plan.specs.Check.{checked, rulesOf}
 use Rattle.plan.specs.Written.{outputAfter}
 use Rattle.forest.specs.Forest.{forest, text}
 use Rattle.forest.specs.Outcome.{workWords, enoughWork, cleared, measuredWork, textRoomed, spreadFrom, spread, textOf, spreadOutput}
-use Rattle.work_rows.specs.Rows.{Holds, firstRules}
+use Rattle.work_rows.specs.Rows.{firstRules}
 use Rattle.work_rows.proofs.Rows.{within-both}
-use Rattle.work_rows.proofs.Kept.{holds-first}
-use Rattle.work_rows.proofs.Work.{work-cleared, beyond-work}
+use Rattle.work_rows.proofs.Work.{work-cleared}
 use Rattle.work_load.specs.Prepared.{Loads, Prepared}
 use Rattle.count_passes.proofs.Work.{Held, held}
 use Rattle.spread.specs.Answer.{Answerable, Answered}
@@ -25,16 +24,14 @@ use Rattle.spread.specs.Answer.{Answerable, Answered}
 abbrev pub Outcome : List ℕ → List ℕ → List ℕ → Written → List ℕ → List ℕ → Type 0
 Outcome s work out x work′ out′ = (x ≡ spread s work out) × (work′ ≡ measuredWork s work) × (out′ ≡ spreadOutput s work out)
 
--- loaded rows are the plan's rules
-rows-loaded : {s t : List ℕ} {n start : ℕ} → Held s n start t → firstRules t n ≡ rulesOf s
-unfolding Holds
-rows-loaded {s} {t} {n} h = holds-first (rulesOf s) t n (h .accepted .rules) (h .same)
-
+-- loaded rows are the plan's rules, with their order
 pub answerable : {s t : List ℕ} {n start : ℕ} → Held s n start t → Answerable t n start
 answerable {n = n} h =
     record {
-      sound = rw (rows-loaded h) (h .accepted .sound);
-      closed = rw (rows-loaded h) (h .accepted .ends);
+      rank = _;
+      sound = rw (← (h .rules)) at (h .accepted .sound);
+      order = h .ready .order;
+      closed = rw (h .rules) (h .accepted .ends);
       few = omega (arith, h .accepted .greatest);
       room = h .room;
     }
@@ -60,11 +57,11 @@ module _ {s work t : List ℕ} {x : Checked} (b : Prepared s work t x) (out : Li
     finished {y} {u} a p =
         let h : Held s n start t = held b e in
         let l : Loads s work t n start = b .loaded n start e in
-        let answer : y ≡ spread s work out = a .answer ∙ ap (λ (R : List Rule). textRoomed (forest R start) out) (rows-loaded h) ∙ sym spread-is in (
+        let answer : y ≡ spread s work out = a .answer ∙ ap (λ (R : List Rule). textRoomed (forest R start) out) (h .rules) ∙ sym spread-is in (
           answer,
-          p ∙ work-cleared (λ k. enoughWork k work) s work n start (l .accepted) (l .enough) u (within-both (beyond-work n (l .rows .beyond)) (a .within)),
+          p ∙ work-cleared (λ k. enoughWork k work) s work n start (l .accepted) (l .enough) u (within-both (l .within) (a .within)),
           a .writes
               ∙ ap (λ (z : Written). outputAfter z (text (forest (firstRules t n) start)) out) answer
-              ∙ ap (λ (R : List Rule). outputAfter (spread s work out) (text (forest R start)) out) (rows-loaded h)
+              ∙ ap (λ (R : List Rule). outputAfter (spread s work out) (text (forest R start)) out) (h .rules)
               ∙ sym output-is,
         )

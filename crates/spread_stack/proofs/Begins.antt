@@ -28,6 +28,7 @@ rows-tasked-kept : (s t : List ℕ) (n : ℕ) → Within (stackAt n) (workEnd n)
 rows-tasked-kept s t n w a =
     let long : length t ≡ length s = w .same-length in
     record {
+      rank = a .rank;
       sound = rw (first-same s t n (rule-kept n (workEnd n) w)) (a .sound);
       few = a .few;
       least = a .least;

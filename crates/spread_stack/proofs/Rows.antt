@@ -1,22 +1,21 @@
--- What a step needs to know of the rows: each rule's task stands for it, its expression unfolds, the rules that it names are lower, its
+-- What a step needs to know of the rows: each rule's task stands for it, its expression unfolds, the rules that it names have rows, its
 -- label is a byte. What is written past the rows changes none of it. Assumes nothing.
-use Prim.Native.Nat.{ℕ, _-_, _<_}
+use Prim.Native.Nat.{ℕ, _<_}
 use native.Mathlib.Omega.{arith}
 use mathlib.Core.Path.{_≡_, ap, subst, _∙_}
 use mathlib.Core.List.{List}
 use lib.ListN.{length}
-use lib.Dec.{T, ltb}
+use lib.Dec.{T}
 use Rattle.rule.specs.declared.Rule.{Rule}
-use Rattle.rule.specs.Rule.{every, labelled}
+use Rattle.rule.specs.Rule.{labelled}
 use Rattle.rule.specs.Names.{Names}
 use Rattle.record.specs.Record.{wordLength}
 use Rattle.rule.specs.Sound.{rule, Sound}
 use Rattle.forest.specs.Expression.{Expression, rhs, expression}
-use Rattle.forest.proofs.Unfold.{unfolding-equation}
+use Rattle.forest.proofs.Unfold.{named-below, unfolding-equation}
 use Rattle.work_rows.specs.Rows.{ruleIn, Within, firstRules}
 use Rattle.work_rows.proofs.Rows.{within-rule, within-field}
 use Rattle.work_rows.proofs.Kept.{first-length, first-rule}
-use Rattle.count_passes.proofs.Reach.{named-lower}
 use Rattle.spread_step.specs.Task.{taskIn}
 use Rattle.spread_step.specs.Step.{atTask, tasksAt}
 use Rattle.spread_stack.specs.Run.{meant, stackAt, RowsTasked, TaskRecurs}
@@ -26,11 +25,8 @@ use Rattle.spread_step.proofs.Tasks.{Stands, stands, task-rhs}
 pub record View (E : ℕ → Expression) (n : ℕ) (t : List ℕ) : Type 0 where
   pub stood : (k : ℕ) → k < n → Stands E n (tasksAt t k) (E k)
   pub unfolds : (k : ℕ) → k < n → E k ≡ rhs k (ruleIn t k) E
-  pub lower : (k : ℕ) → k < n → T (every (λ y. ltb y k) (ruleIn t k))
+  pub named : (k : ℕ) → k < n → (j : ℕ) → Names (ruleIn t k) j → j < n
   pub labels : (k : ℕ) → k < n → T (labelled (ruleIn t k))
-
-pub names-below : {E : ℕ → Expression} {n : ℕ} {t : List ℕ} → View E n t → (k : ℕ) → k < n → (j : ℕ) → Names (ruleIn t k) j → j < n
-names-below a k below j m = let l : j < k = named-lower k (a .lower k below) m in omega arith
 
 pub view : (s : List ℕ) (n : ℕ) → RowsTasked s n → View (meant s n) n s
 view s n a =
@@ -38,7 +34,8 @@ view s n a =
     record {
       stood = λ k below. rw (a .tasks k below) (subst (λ (m : ℕ). Stands (meant s n) m (taskIn (meant s n k)) (meant s n k)) long (stands (a .sound) k (omega arith)));
       unfolds = λ k below. rw (← (first-rule s n k below)) (unfolding-equation (a .sound) k (omega arith));
-      lower = λ k below. rw (← (first-rule s n k below)) (a .sound .falls k (omega arith));
+      named = λ k below j m.
+          let l : j < length (firstRules s n) = named-below (a .sound) k j (omega arith) (rw (first-rule s n k below) m) in omega arith;
       labels = λ k below. rw (← (first-rule s n k below)) (a .sound .labels k (omega arith));
     }
 
@@ -54,7 +51,7 @@ view-kept n e w a =
     record {
       stood = λ k below. rw (task-kept n e w k below) (a .stood k below);
       unfolds = λ k below. rw (rule-kept n e w k below) (a .unfolds k below);
-      lower = λ k below. rw (rule-kept n e w k below) (a .lower k below);
+      named = λ k below. rw (rule-kept n e w k below) (a .named k below);
       labels = λ k below. rw (rule-kept n e w k below) (a .labels k below);
     }
 

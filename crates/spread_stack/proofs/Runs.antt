@@ -18,7 +18,7 @@ use Rattle.spread_step.specs.Step.{saidBytes, tasksAt, stepIn}
 use Rattle.spread_stack.specs.Stack.{tasksText, tasksTurns, addTasks, tasksIn, taskOver, written, Turnable, TurnMade}
 use Rattle.spread_stack.specs.Run.{meant, stackAt, workEnd, stackText, Stacked, on, Runnable, Ran}
 use Rattle.spread_stack.proofs.Turns.{Turned, turn}
-use Rattle.spread_stack.proofs.Rows.{View, view, view-kept, names-below}
+use Rattle.spread_stack.proofs.Rows.{View, view, view-kept}
 
 -- the task on top
 tasks-top : (t : List ℕ) (from k : ℕ) → 0 < k → tasksIn t from k ≡ taskOver t from (k - 1) ∷ tasksIn t from (k - 1)
@@ -73,7 +73,7 @@ module _ {n first : ℕ} {s out₀ t out : List ℕ} {k at : ℕ} (a : Runnable 
   -- the turn that follows, on the model
   turned : Turned (meant s n) n (2 * n) top-task below-top (stepIn t top-task)
   turned =
-      turn (meant s n) n (2 * n) (tasksAt t) (ruleIn t) (rows .stood) (rows .unfolds) (names-below rows) top-task below-top top-stacked
+      turn (meant s n) n (2 * n) (tasksAt t) (ruleIn t) (rows .stood) (rows .unfolds) (rows .named) top-task below-top top-stacked
 
   top-text : take at out ++ (saidBytes ((stepIn t top-task) .said) ++ tasksText (meant s n) (addTasks (stepIn t top-task) below-top)) ≡ stackText s n first
   unfolding top-task below-top
@@ -105,7 +105,7 @@ module _ {n first : ℕ} {s out₀ t out : List ℕ} {k at : ℕ} (a : Runnable 
             let below : top-task / parts < n = stacked-top top-stacked .0 ruled in
             record {
               room = omega arith;
-              lower = rows .lower (top-task / parts) below;
+              named = λ j m. let l : j < n = rows .named (top-task / parts) below j m in (omega arith, omega (arith, a .rows-tasked .few));
               labels = rows .labels (top-task / parts) below;
               few = omega (arith, a .rows-tasked .few);
             };

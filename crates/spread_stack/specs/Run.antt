@@ -3,15 +3,15 @@ use Prim.Native.Nat.{ℕ, _+_, _*_, _/_, _^_, _≤_, _<_}
 use mathlib.Core.Path.{_≡_}
 use mathlib.Core.List.{List, [], _∷_}
 use lib.ListN.{length}
-use lib.Dec.{T, ltb}
+use lib.Dec.{T}
 use Rattle.words.specs.Number.{base}
-use Rattle.rule.specs.Rule.{every, labelled}
+use Rattle.rule.specs.Rule.{labelled}
 use Rattle.record.specs.Record.{wordLength}
 use Rattle.rule.specs.Sound.{Sound}
 use Rattle.words.specs.Front.{inFront}
 use Rattle.forest.specs.Expression.{Expression, expression}
 use Rattle.work_rows.specs.Rows.{workLength, rowLength, putField, ruleIn, firstRules, Within}
-use Rattle.count_passes.specs.Tally.{Besides}
+use Rattle.count_passes.specs.Tally.{Ready, Besides}
 use Rattle.count_passes.specs.Says.{whole, says}
 use Rattle.spread_step.specs.Task.{parts, closeTask, noTask, taskLimit, taskHeight, taskOf, taskIn}
 use Rattle.spread_step.specs.Step.{atTask, tasksAt}
@@ -38,10 +38,9 @@ stackAt n = rowLength * n
 abbrev pub workEnd : ℕ → ℕ
 workEnd n = workLength * n
 
--- the rows of n rules can be given their tasks
+-- the rows of n rules can be given their tasks, in the order that is kept behind them
 pub record Taskable (t : List ℕ) (n : ℕ) : Type 0 where
-  pub room : rowLength * n ≤ length t
-  pub lower : (r : ℕ) → r < n → T (every (λ y. ltb y r) (ruleIn t r))
+  pub ready : Ready t n
   pub labels : (r : ℕ) → r < n → T (labelled (ruleIn t r))
   pub few : n ≤ taskLimit
 
@@ -61,7 +60,8 @@ pub record Tasked (n : ℕ) (s t : List ℕ) : Type 0 where
 
 -- the rows are sound and have their tasks
 pub record RowsTasked (t : List ℕ) (n : ℕ) : Type 0 where
-  pub sound : Sound (firstRules t n) (λ k. k)
+  pub rank : ℕ → ℕ
+  pub sound : Sound (firstRules t n) rank
   pub few : n ≤ taskLimit
   pub least : 1 ≤ n
   pub room : workEnd n ≤ length t

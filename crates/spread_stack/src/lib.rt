@@ -87,15 +87,16 @@ fn task_row(work: &mut [u8], r: u16)
     work_rows::put16(work, r, Step::TASK, task);
 }
 
-// The tasks of all whole rules.
+// The tasks of all whole rules, in their order.
 pub fn task_rows(work: &mut [u8], n: u16)
     requires { ⌜ Taskable (now work) n ⌝ }
     ensures { λ x. ⌜ Tasked n (now (work .entry)) (now (work .exit)) ⌝ }
 {
-    let mut r: u16 = 0;
-    while r < n {
+    let mut i: u16 = 0;
+    while i < n {
+        let r = work_rows::order_at(work, n, i);
         task_row(work, r);
-        r += 1;
+        i += 1;
     }
 }
 

@@ -1,4 +1,4 @@
--- What a step may read: the rows that a rule names are lower, so they lie in work where its own does. Assumes nothing.
+-- What a step may read: the rows that a rule names. Assumes nothing.
 use Prim.Native.Nat.{ℕ, _+_, _*_, _≤_, _<_}
 use native.Mathlib.Omega.{arith}
 use mathlib.Core.Path.{_≡_}
@@ -9,7 +9,6 @@ use Rattle.rule.specs.declared.Rule.{Rule}
 use Rattle.rule.specs.Rule.{labelled}
 use Rattle.rule.specs.Names.{Names}
 use Rattle.work_rows.specs.Rows.{rowLength}
-use Rattle.count_passes.proofs.Reach.{named-lower}
 use Rattle.spread_step.specs.Task.{taskLimit}
 use Rattle.spread_step.specs.Step.{Steppable}
 
@@ -18,10 +17,10 @@ pub at-rule : {t : List ℕ} {r : ℕ} {x y : Rule} → x ≡ y → Steppable t 
 at-rule q h = rw q at h
 
 pub named-room : {t : List ℕ} {r : ℕ} {x : Rule} → Steppable t r x → (k : ℕ) → Names x k → rowLength * k + 32 ≤ length t
-named-room {r = r} h k m = let l : k < r = named-lower r (h .lower) m in omega (arith, h .room)
+named-room h k m = omega (arith, h .named k m .0)
 
 pub named-few : {t : List ℕ} {r : ℕ} {x : Rule} → Steppable t r x → (k : ℕ) → Names x k → k < taskLimit
-named-few {r = r} h k m = let l : k < r = named-lower r (h .lower) m in omega (arith, h .few)
+named-few h k m = h .named k m .1
 
 -- the labels of a node and of a part
 pub node-label : {t : List ℕ} {r a c : ℕ} → Steppable t r (Rule.Node a c) → a < 256

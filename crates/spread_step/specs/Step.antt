@@ -4,9 +4,10 @@ use mathlib.Core.Path.{_≡_}
 use mathlib.Core.Bool.{cond}
 use mathlib.Core.List.{List, [], _∷_}
 use lib.ListN.{length}
-use lib.Dec.{T, ltb, eqb}
+use lib.Dec.{T, eqb}
 use Rattle.rule.specs.declared.Rule.{Rule}
-use Rattle.rule.specs.Rule.{every, labelled}
+use Rattle.rule.specs.Rule.{labelled}
+use Rattle.rule.specs.Names.{Names}
 use Rattle.record.specs.Record.{wordLength}
 use Rattle.work_rows.specs.Rows.{rowLength, field, ruleIn}
 use Rattle.count_passes.specs.Says.{before, after, opening, closing}
@@ -50,12 +51,12 @@ atTask = 30
 abbrev pub tasksAt : List ℕ → ℕ → ℕ
 tasksAt t k = field wordLength t k atTask
 
--- row r can be read, keeps the rule x, which names lower rules, and its numbers are small enough
+-- row r can be read and keeps the rule x, and the rows that x names can be read; their numbers are small enough
 pub record Steppable (t : List ℕ) (r : ℕ) (x : Rule) : Type 0 where
   pub room : rowLength * (r + 1) ≤ length t
-  pub lower : T (every (λ y. ltb y r) x)
-  pub labels : T (labelled x)
   pub few : r < taskLimit
+  pub labels : T (labelled x)
+  pub named : (k : ℕ) → Names x k → (rowLength * (k + 1) ≤ length t) × (k < taskLimit)
 
 -- task v can be decided: the closing task needs no row
 abbrev pub Decidable : List ℕ → ℕ → Type 0

@@ -1,38 +1,40 @@
--- The invariant: the rows below r have their tally, and nothing else has changed (`Passing`). Assumes nothing.
+-- The invariant: the rows at the first i places have their tally, and nothing else has changed (`Passing`). Assumes nothing.
 use Prim.Native.Nat.{_-_}
-use Rattle.count_passes.proofs.Passes.{Passing, passing-start, passing-readable, passing-more, passing-end}
+use Rattle.count_passes.proofs.Passes.{Passing, passing-start, passing-room, passing-readable, passing-more, passing-end}
 use native.Mathlib.Omega.{arith}
 use Rattle.count_passes.proofs.tally_all.Statement.{statement}
 use Rattle.count_passes.proofs.tally_all.Tie as tie
 
 abbrev Inv-loop : tie.InvT-loop
-Inv-loop work₀ n what help o r₀ work r = Passing what n help o r work₀ work
+Inv-loop work₀ n what help o i₀ work i = Passing what n help o i work₀ work
 
 abbrev μ-loop : tie.MeasureT-loop
-μ-loop work₀ n what help o r₀ work r = n - r
+μ-loop work₀ n what help o i₀ work i = n - i
 
 loop-holds : tie.Need-loop-holds Inv-loop μ-loop
 loop-holds c = passing-start _ _ _ _ _
 
-tally-row-requires : tie.Need-tally-row-requires Inv-loop μ-loop
-tally-row-requires c κs = passing-readable (c .before .before .before .before .pre) (c .before .before .loop .inv) (c .before .loop-test .taken)
+order-at-requires : tie.Need-order-at-requires Inv-loop μ-loop
+order-at-requires c κs = (passing-room (c .before .before .before .before .pre) (c .before .before .loop .inv), omega arith)
 
-add-r : tie.Need-add-r Inv-loop μ-loop
-add-r c = omega arith
+tally-row-requires : tie.Need-tally-row-requires Inv-loop μ-loop
+tally-row-requires c κs = passing-readable (c .before .before .before .before .before .before .pre) (c .before .before .before .before .loop .inv) (c .before .order-at .ensures) (omega arith)
+
+add-i : tie.Need-add-i Inv-loop μ-loop
+add-i c = omega arith
 
 loop-less : tie.Need-loop-less Inv-loop μ-loop
 loop-less c = omega arith
 
 loop-again : tie.Need-loop-again Inv-loop μ-loop
 loop-again c =
-    passing-more (c .before .before .before .before .before .before .before .pre) (c .before .before .before .before .loop-test .taken)
-    (c .before .before .before .before .before .loop .inv) (c .before .before .tally-row .ensures)
+    passing-more (c .before .before .before .before .before .before .before .before .before .pre) (c .before .before .before .before .before .before .before .loop .inv) (c .before .before .before .before .before .before .loop-test .taken) (c .before .before .before .before .order-at .ensures) (c .before .before .tally-row .ensures)
 
 same-length : tie.Need-same-length Inv-loop μ-loop
 same-length c = c .before .loop .inv .besides .beyond .same-length
 
 returns : tie.Need-returns Inv-loop μ-loop
-returns c = passing-end (c .before .loop .inv) (c .loop-test .left)
+returns c = passing-end (c .before .before .before .pre) (c .before .loop .inv) (c .loop-test .left)
 
 pub tally-all-spec : {M : Type 1} → statement M
 tally-all-spec =
@@ -41,8 +43,9 @@ tally-all-spec =
     Inv-loop
     μ-loop
     loop-holds
+    order-at-requires
     tally-row-requires
-    add-r
+    add-i
     loop-less
     loop-again
     same-length

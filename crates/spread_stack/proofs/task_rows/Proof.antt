@@ -1,37 +1,40 @@
--- The invariant: the rows below r have their tasks (`Passing`). Assumes nothing.
+-- The invariant: the rows at the first i places have their tasks (`Passing`). Assumes nothing.
 use Prim.Native.Nat.{_-_}
-use Rattle.spread_stack.proofs.Tasking.{Passing, passing-start, passing-steps, passing-more, passing-end}
+use Rattle.spread_stack.proofs.Tasking.{Passing, passing-start, passing-room, passing-steps, passing-more, passing-end}
 use native.Mathlib.Omega.{arith}
 use Rattle.spread_stack.proofs.task_rows.Statement.{statement}
 use Rattle.spread_stack.proofs.task_rows.Tie as tie
 
 abbrev Inv-loop : tie.InvT-loop
-Inv-loop work₀ n r₀ work r = Passing n r work₀ work
+Inv-loop work₀ n i₀ work i = Passing n i work₀ work
 
 abbrev μ-loop : tie.MeasureT-loop
-μ-loop work₀ n r₀ work r = n - r
+μ-loop work₀ n i₀ work i = n - i
 
 loop-holds : tie.Need-loop-holds Inv-loop μ-loop
 loop-holds c = passing-start _ _
 
-task-row-requires : tie.Need-task-row-requires Inv-loop μ-loop
-task-row-requires c κs = passing-steps (c .before .before .before .before .pre) (c .before .before .loop .inv) (c .before .loop-test .taken)
+order-at-requires : tie.Need-order-at-requires Inv-loop μ-loop
+order-at-requires c κs = (passing-room (c .before .before .before .before .pre) (c .before .before .loop .inv), omega arith)
 
-add-r : tie.Need-add-r Inv-loop μ-loop
-add-r c = omega arith
+task-row-requires : tie.Need-task-row-requires Inv-loop μ-loop
+task-row-requires c κs = passing-steps (c .before .before .before .before .before .before .pre) (c .before .before .before .before .loop .inv) (c .before .order-at .ensures) (omega arith)
+
+add-i : tie.Need-add-i Inv-loop μ-loop
+add-i c = omega arith
 
 loop-less : tie.Need-loop-less Inv-loop μ-loop
 loop-less c = omega arith
 
 loop-again : tie.Need-loop-again Inv-loop μ-loop
 loop-again c =
-    passing-more (c .before .before .before .before .before .before .before .pre) (c .before .before .before .before .loop-test .taken) (c .before .before .before .before .before .loop .inv) (c .before .before .task-row .ensures)
+    passing-more (c .before .before .before .before .before .before .before .before .before .pre) (c .before .before .before .before .before .before .before .loop .inv) (c .before .before .before .before .before .before .loop-test .taken) (c .before .before .before .before .order-at .ensures) (c .before .before .task-row .ensures)
 
 same-length : tie.Need-same-length Inv-loop μ-loop
 same-length c = c .before .loop .inv .besides .beyond .same-length
 
 returns : tie.Need-returns Inv-loop μ-loop
-returns c = passing-end (c .before .loop .inv) (c .loop-test .left)
+returns c = passing-end (c .before .before .before .pre) (c .before .loop .inv) (c .loop-test .left)
 
 pub task-rows-spec : {M : Type 1} → statement M
 task-rows-spec =
@@ -40,8 +43,9 @@ task-rows-spec =
     Inv-loop
     μ-loop
     loop-holds
+    order-at-requires
     task-row-requires
-    add-r
+    add-i
     loop-less
     loop-again
     same-length

@@ -1,4 +1,4 @@
--- Both ways are the definition's; the rules named are lower, so their tasks can be read, and the label is a byte. Assumes nothing.
+-- Both ways are the definition's; the rules named have rows, so their tasks can be read, and the label is a byte. Assumes nothing.
 use borrow.Author.Needs.{needs}
 use borrow.Author.Tests.{eq-eqb, ne-eqb}
 use Rattle.rule.specs.Names.{part-one, part-two}

@@ -1,4 +1,4 @@
--- Each arm is the definition's; the rules named are lower, so their tasks can be read, and labels are bytes. Assumes nothing.
+-- Each arm is the definition's; the rules named have rows, so their tasks can be read, and labels are bytes. Assumes nothing.
 use borrow.Author.Needs.{needs}
 use Rattle.rule.specs.Names.{pair-one, pair-two, node-one, fill-one, fill-two, join-one, join-two}
 use Rattle.spread_step.specs.Step.{ruleStep}

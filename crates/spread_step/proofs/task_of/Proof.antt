@@ -1,4 +1,4 @@
--- Each arm is the definition's; the rules of a pair are lower, so their tasks can be read. Assumes nothing.
+-- Each arm is the definition's; the rules of a pair have rows, so their tasks can be read. Assumes nothing.
 use borrow.Author.Needs.{needs}
 use Rattle.rule.specs.Names.{pair-one, pair-two}
 use Rattle.spread_step.specs.Task.{taskOf}

@@ -1,5 +1,6 @@
 -- Refused by check, refused for the work, or loaded. Assumes nothing.
 use borrow.Author.Needs.{needs}
+use native.Mathlib.Omega.{arith}
 use mathlib.Core.Path.{sym, _∙_}
 use borrow.Author.Tests.{not-true, not-false}
 use Rattle.work_rows.proofs.Work.{loadable, enough-room}
@@ -27,6 +28,11 @@ load-rules-requires : tie.Need-load-rules-requires
 load-rules-requires c κs =
     loadable _ (c .before .before .before .before .before .before .before .before .before .before .args .work .now) _ _ (sym (c .before .before .before .before .before .before .before .check .ensures) ∙ c .before .before .before .before .before .n .given .1) (enough-room _ _ (sym (c .before .before .enough-work .ensures) ∙ not-false _ (c .before .if1 .left)))
 
+order-by-number-requires : tie.Need-order-by-number-requires
+order-by-number-requires c κs =
+    let room = enough-room _ _ (sym (c .before .before .before .before .before .before .enough-work .ensures) ∙ not-false _ (c .before .before .before .before .before .if1 .left)) in
+    let long = c .before .before .before .load-rules .ensures .beyond .same-length in omega arith
+
 enum-known-refusal : tie.Need-enum-known-refusal
 enum-known-refusal c = search needs
 
@@ -35,8 +41,8 @@ same-length-2 c = search needs
 
 returns-2 : tie.Need-returns-2
 returns-2 c =
-    let at = c .before .before .before .before in
-    loaded _ _ _ _ (sym (at .before .before .before .before .before .before .check .ensures) ∙ at .before .before .before .before .n .given .1) (sym (at .before .enough-work .ensures) ∙ not-false _ (at .if1 .left)) (c .before .before .load-rules .ensures)
+    loaded _ _ _ _ (sym (c .before .before .before .before .before .before .before .before .before .before .before .before .before .before .check .ensures) ∙ c .before .before .before .before .before .before .before .before .before .before .before .before .n .given .1) (sym (c .before .before .before .before .before .before .before .before .before .enough-work .ensures) ∙ not-false _ (c .before .before .before .before .before .before .before .before .if1 .left)) (c .before .before .before .before .before .before .load-rules .ensures)
+    (c .before .before .order-by-number .ensures)
 
 returns-3 : tie.Need-returns-3
 returns-3 c = refused _ _ _ (sym (c .before .before .before .check .ensures) ∙ c .before .refusal .given .1)
@@ -51,6 +57,7 @@ load-plan-spec =
     same-length
     returns
     load-rules-requires
+    order-by-number-requires
     enum-known-refusal
     same-length-2
     returns-2
