@@ -2,7 +2,7 @@
 -- start. Each holds by the clauses of the definition that it is about. Assumes nothing.
 use Prim.Native.Nat.{ℕ, suc, _+_, _-_, _*_, _≤_, _<_}
 use mathlib.Core.Path.{_≡_, refl, sym, ap, _∙_}
-use mathlib.Core.Bool.{Bool, cond}
+use mathlib.Core.Bool.{Bool, true, false, cond}
 use mathlib.Core.List.{List}
 use native.Mathlib.Omega.{arith}
 use borrow.Author.Tests.{le-ltb, lt-ltb}
@@ -12,29 +12,69 @@ use Rattle.record.specs.declared.Record.{Record}
 use Rattle.rule.specs.declared.Rule.{Rule}
 use Rattle.rule.specs.declared.Decoded.{Decoded}
 use Rattle.record.specs.Record.{recordLength, recordAt}
-use Rattle.rule.specs.Rule.{decode, every, sorts, closed}
-use Rattle.record.specs.Records.{recordsFrom, kindAt}
+use Rattle.rule.specs.Rule.{decode, whole, every, sorts, closed}
+use lib.ListN.{length}
+use Rattle.record.specs.Records.{recordsFrom, recordIn, kindAt}
 use Rattle.record.proofs.Records.{records-at, records-length}
 use Rattle.judge.specs.declared.Judged.{Judged}
-use Rattle.judge.specs.Judge.{namesJudged, ruleJudged, rulesJudged, andThen, startJudged, judged}
+use Rattle.judge.specs.declared.Tested.{Tested}
+use Rattle.judge.specs.Tested.{verdict, testedOf, tested}
+use Rattle.judge.specs.Judge.{namesJudged, ruleJudged, rulesJudged, andThen, startJudged, nameBound}
 
--- a rule is judged by what its bytes decode to
-pub rule-decoded : (s : List ℕ) (first n i : ℕ) (w : Record) (d : Decoded) → i < n → w ≡ recordAt s (first + recordLength * i) → d ≡ decode w
-    → ruleJudged (recordsFrom s first n) i ≡ namesJudged (recordsFrom s first n) i d
+-- a rule's record, as it is read
+pub record-read : (s : List ℕ) (first n i : ℕ) {w : Record} → i < n → w ≡ recordAt s (first + recordLength * i) → w ≡ recordIn (recordsFrom s first n) i
+record-read s first n i below read = read ∙ sym (records-at s first n i below)
+
+-- the test of one rule, by what its record means
+tested-whole : (ws : List Record) (i : ℕ) (b : Bool) (r : Rule)
+    → testedOf ws i (whole b r) ≡ verdict i b (every (λ x. ltb x (nameBound (length ws) i)) r) (sorts (kindAt ws) r) (every (λ x. ltb x i) r)
+unfolding testedOf verdict whole
+tested-whole ws i true r = refl
+tested-whole ws i false r = refl
+
+pub tested-as : (ws : List Record) (i n : ℕ) {w : Record} (b : Bool) (r : Rule) → length ws ≡ n → w ≡ recordIn ws i → decode w ≡ whole b r
+    → tested ws i ≡ verdict i b (every (λ x. ltb x (nameBound n i)) r) (sorts (kindAt ws) r) (every (λ x. ltb x i) r)
+tested-as ws i n {w} b r long read means = ap (λ (v : Record). testedOf ws i (decode v)) (sym read) ∙ ap (testedOf ws i) means ∙ tested-whole ws i b r
+    ∙ ap (λ (m : ℕ). verdict i b (every (λ x. ltb x (nameBound m i)) r) (sorts (kindAt ws) r) (every (λ x. ltb x i) r)) long
+
+pub tested-none : (ws : List Record) (i : ℕ) {w : Record} → w ≡ recordIn ws i → decode w ≡ Decoded.Malformed → tested ws i ≡ Tested.Refused (Refusal.Malformed i)
+unfolding testedOf
+tested-none ws i read means = ap (λ (v : Record). testedOf ws i (decode v)) (sym read) ∙ ap (testedOf ws i) means
+
+-- what the test says of the judgement, and of lower rules
+judged-as : Tested → Judged
+judged-as Tested.Lower = Judged.Fine
+judged-as Tested.Mixed = Judged.Fine
+judged-as (Tested.Refused r) = Judged.Refused r
+
+verdict-judged : (i : ℕ) (a b l : Bool)
+    → judged-as (verdict i true a b l) ≡ cond a (cond b Judged.Fine (Judged.Refused (Refusal.WrongSort i))) (Judged.Refused (Refusal.NotLower i))
+unfolding judged-as verdict
+verdict-judged i true true true = refl
+verdict-judged i true true false = refl
+verdict-judged i true false l = refl
+verdict-judged i false b l = refl
+
+names-judged : (ws : List Record) (i : ℕ) (d : Decoded) → judged-as (testedOf ws i d) ≡ namesJudged ws i d
+unfolding judged-as testedOf namesJudged
+names-judged ws i Decoded.Malformed = refl
+names-judged ws i (Decoded.Whole r) = verdict-judged i (every (λ x. ltb x (nameBound (length ws) i)) r) (sorts (kindAt ws) r) (every (λ x. ltb x i) r)
+
+rule-tested : (ws : List Record) (i : ℕ) {t : Tested} → t ≡ tested ws i → ruleJudged ws i ≡ judged-as t
 unfolding ruleJudged
-rule-decoded s first n i w d below read decoded =
-    ap (λ (v : Record). namesJudged (recordsFrom s first n) i (decode v)) (records-at s first n i below ∙ sym read)
-    ∙ ap (namesJudged (recordsFrom s first n) i) (sym decoded)
+rule-tested ws i e = sym (names-judged ws i (decode (recordIn ws i))) ∙ ap judged-as (sym e)
 
-pub names-malformed : (ws : List Record) (i : ℕ) → namesJudged ws i Decoded.Malformed ≡ Judged.Refused (Refusal.Malformed i)
-unfolding namesJudged
-names-malformed ws i = refl
+pub fine-lower : (ws : List Record) (i : ℕ) → Tested.Lower ≡ tested ws i → ruleJudged ws i ≡ Judged.Fine
+unfolding judged-as
+fine-lower ws i e = rule-tested ws i e
 
-pub names-whole : (ws : List Record) (i : ℕ) (r : Rule)
-    → namesJudged ws i (Decoded.Whole r)
-    ≡ cond (every (λ x. ltb x i) r) (cond (sorts (kindAt ws) r) Judged.Fine (Judged.Refused (Refusal.WrongSort i))) (Judged.Refused (Refusal.NotLower i))
-unfolding namesJudged
-names-whole ws i r = refl
+pub fine-mixed : (ws : List Record) (i : ℕ) → Tested.Mixed ≡ tested ws i → ruleJudged ws i ≡ Judged.Fine
+unfolding judged-as
+fine-mixed ws i e = rule-tested ws i e
+
+pub not-fine : (ws : List Record) (i : ℕ) (why : Refusal) → Tested.Refused why ≡ tested ws i → ruleJudged ws i ≡ Judged.Refused why
+unfolding judged-as
+not-fine ws i why e = rule-tested ws i e
 
 -- the loop over rules: a rule that is fine leaves the answer to the rules after it, the first refusal is the answer
 module _ (ws : List Record) (last : Judged) (n i : ℕ) (below : i < n) where
@@ -56,11 +96,6 @@ module _ (ws : List Record) (last : Judged) (n i : ℕ) (below : i < n) where
 pub rules-none : (ws : List Record) (last : Judged) (n : ℕ) → rulesJudged ws last n (n - n) ≡ last
 unfolding rulesJudged
 rules-none ws last n = let none : n - n ≡ 0 = omega arith in rw none
-
-pub rules-all : (s : List ℕ) (first n start : ℕ)
-    → judged (recordsFrom s first n) start ≡ rulesJudged (recordsFrom s first n) (startJudged (recordsFrom s first n) start) 0 (n - 0)
-unfolding judged
-rules-all s first n start = let all : n - 0 ≡ n = omega arith in rw (records-length s first n, all)
 
 -- the start rule
 pub start-not-below : (s : List ℕ) (first n start : ℕ) → n ≤ start → startJudged (recordsFrom s first n) start ≡ Judged.Refused Refusal.Start

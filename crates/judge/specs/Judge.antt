@@ -12,11 +12,15 @@ use Rattle.record.specs.Records.{recordIn, kindAt}
 use Rattle.judge.specs.declared.Judged.{Judged}
 
 -- "the first of: 4: kind above 5, label above 255, unused word not 0; 5: names a rule not lower; 6: names one of the wrong sort"
+-- (the rules that rule i of n may name are those below a bound: today its own number)
+abbrev pub nameBound : ℕ → ℕ → ℕ
+nameBound n i = i
+
 unfoldable pub namesJudged : List Record → ℕ → Decoded → Judged
 unfolding every sorts kindAt
 namesJudged ws i Decoded.Malformed = Judged.Refused (Refusal.Malformed i)
 namesJudged ws i (Decoded.Whole r) =
-    cond (every (λ x. ltb x i) r)
+    cond (every (λ x. ltb x (nameBound (length ws) i)) r)
     (cond (sorts (kindAt ws) r) Judged.Fine (Judged.Refused (Refusal.WrongSort i)))
     (Judged.Refused (Refusal.NotLower i))
 

@@ -1,21 +1,33 @@
 // The test of a plan's rules (document 01, "Check", refusals 4 to 7), which check and seal share.
 use record::Record;
 use refusal::Refusal;
-use rule::Decoded;
 use rule::Rule;
 ghost use mathlib.Core.Path.{_≡_};
-ghost use mathlib.Core.Bool.{cond};
 ghost use Prim.Native.Nat.{_+_, _*_, _≤_, _<_};
 ghost use lib.ListN.{length};
-ghost use lib.Dec.{ltb};
 ghost use Rattle.record.specs.Record.{recordLength};
-ghost use Rattle.rule.specs.Rule.{closed, holed, tree, every, sorts};
-ghost use Rattle.record.specs.Records.{recordsFrom, kindAt};
-ghost use Rattle.judge.specs.Judge.{ruleJudged, startJudged, judged};
+ghost use Rattle.rule.specs.Rule.{kindEmpty, kindPair, kindNode, closed, holed, tree};
+ghost use Rattle.record.specs.Records.{recordsFrom, recordIn, kindAt};
+ghost use Rattle.judge.specs.Judge.{startJudged, judged};
+ghost use Rattle.judge.specs.Tested.{verdict, tested, Tells};
 
 // What a test of rules comes to.
 pub enum Judged {
     Fine,
+    Refused(Refusal),
+}
+
+// What the test of one rule comes to: it names only lower rules, or others too, or it is turned down.
+enum Tested {
+    Lower,
+    Mixed,
+    Refused(Refusal),
+}
+
+// What the test of all rules comes to: each names only lower ones, or some name others too, or one is turned down.
+enum Rules {
+    Lower,
+    Mixed,
     Refused(Refusal),
 }
 
@@ -56,68 +68,127 @@ fn tree_at(s: &[u8], first: usize, n: u16, x: u16) -> bool
     (kind == Rule::NODE) | (kind == Rule::FILL)
 }
 
-// Is every rule that this one names below i?
-fn lower(rule: Rule, i: u16) -> bool
-    ensures { λ r. ⌜ r ≡ every (λ x. ltb x i) rule ⌝ }
-{
-    match rule {
-        Rule::Empty => true,
-        Rule::Pair { first, second } => (first < i) & (second < i),
-        Rule::Node { under, .. } => under < i,
-        Rule::Fill { outer, inner } => (outer < i) & (inner < i),
-        Rule::Part { left, right, .. } => (left < i) & (right < i),
-        Rule::Join { outer, inner } => (outer < i) & (inner < i),
-    }
-}
-
-// Are the rules that this one names of the right sort? The records begin at first, and there are n.
-fn sorted(rule: Rule, s: &[u8], first: usize, n: u16) -> bool
-    requires { ⌜ first + recordLength * n ≤ length (now s) ⌝ }
-    ensures { λ r. ⌜ r ≡ sorts (kindAt (recordsFrom (now (s .entry)) first n)) rule ⌝ }
-{
-    match rule {
-        Rule::Empty => true,
-        Rule::Pair {
-            first: b,
-            second: c,
-        } => closed_at(s, first, n, b) & closed_at(s, first, n, c),
-        Rule::Node { under: c, .. } => closed_at(s, first, n, c),
-        Rule::Fill { outer: b, inner: c } => holed_at(s, first, n, b) & tree_at(s, first, n, c),
-        Rule::Part {
-            left: b,
-            right: c,
-            ..
-        } => closed_at(s, first, n, b) & closed_at(s, first, n, c),
-        Rule::Join { outer: b, inner: c } => holed_at(s, first, n, b) & holed_at(s, first, n, c),
-    }
-}
-
-// Refusals 5 and 6 of rule i, from whether the rules that it names are lower and of the right sort.
-fn judge_names(i: usize, lower: bool, sorted: bool) -> Judged
-    ensures { λ r.
-        ⌜ r ≡ cond lower (cond sorted Judged.Fine (Judged.Refused (Refusal.WrongSort i)))
-        (Judged.Refused (Refusal.NotLower i)) ⌝ }
-{
-    if !lower {
-        return Judged::Refused(Refusal::NotLower(i));
-    }
-    if !sorted {
-        return Judged::Refused(Refusal::WrongSort(i));
-    }
-    Judged::Fine
-}
-
-// Refusals 4 to 6 of one rule.
-fn judge_rule(s: &[u8], first: usize, n: u16, i: u16) -> Judged
-    requires { ⌜ (first + recordLength * n ≤ length (now s)) × (i < n) ⌝ }
-    ensures { λ r. ⌜ r ≡ ruleJudged (recordsFrom (now (s .entry)) first n) i ⌝ }
+// The first of 4, 5 and 6 whose test failed for rule i; else whether the rule names only lower ones.
+fn verdict(i: u16, formed: bool, ranged: bool, sorted: bool, lower: bool) -> Tested
+    ensures { λ t. ⌜ t ≡ verdict i formed ranged sorted lower ⌝ }
 {
     let number = i as usize;
-    let decoded = Rule::decode(Record::read(s, first + Record::LENGTH * number));
-    let Decoded::Whole(rule) = decoded else {
-        return Judged::Refused(Refusal::Malformed(number));
-    };
-    judge_names(number, lower(rule, i), sorted(rule, s, first, n))
+    if !formed {
+        return Tested::Refused(Refusal::Malformed(number));
+    }
+    if !ranged {
+        return Tested::Refused(Refusal::NotLower(number));
+    }
+    if !sorted {
+        return Tested::Refused(Refusal::WrongSort(number));
+    }
+    if lower { Tested::Lower } else { Tested::Mixed }
+}
+
+// The test of a rule without a hole, kinds 0 to 2.
+fn test_rule(s: &[u8], first: usize, n: u16, i: u16) -> Tested
+    requires { ⌜ (first + recordLength * n ≤ length (now s)) × (i < n) ⌝ }
+    ensures { λ t. ⌜ t ≡ tested (recordsFrom (now (s .entry)) first n) i ⌝ }
+{
+    let w = Record::read(s, first + Record::LENGTH * (i as usize));
+    let kind = w.kind;
+    let one = w.one;
+    let two = w.two;
+    let unused = w.three == Record::UNUSED;
+    let bound = i;
+    if kind == Rule::PAIR {
+        return verdict(
+            i,
+            unused,
+            (one < bound) & (two < bound),
+            closed_at(s, first, n, one) & closed_at(s, first, n, two),
+            (one < i) & (two < i),
+        );
+    }
+    if kind == Rule::NODE {
+        return verdict(
+            i,
+            (one as u32 <= Rule::LARGEST_LABEL) & unused,
+            two < bound,
+            closed_at(s, first, n, two),
+            two < i,
+        );
+    }
+    if kind == Rule::EMPTY {
+        return verdict(
+            i,
+            (one == Record::UNUSED) & (two == Record::UNUSED) & unused,
+            true,
+            true,
+            true,
+        );
+    }
+    test_filled(s, first, n, i, w)
+}
+
+// The same of the kinds that have to do with a hole, from the rule's record.
+fn test_filled(s: &[u8], first: usize, n: u16, i: u16, w: Record) -> Tested
+    requires { ⌜ (first + recordLength * n ≤ length (now s))
+        × (i < n)
+        × (w ≡ recordIn (recordsFrom (now s) first n) i)
+        × (w .kind ≡ kindEmpty → ⊥)
+        × (w .kind ≡ kindPair → ⊥)
+        × (w .kind ≡ kindNode → ⊥) ⌝ }
+    ensures { λ t. ⌜ t ≡ tested (recordsFrom (now (s .entry)) first n) i ⌝ }
+{
+    let kind = w.kind;
+    let one = w.one;
+    let two = w.two;
+    let three = w.three;
+    let bound = i;
+    if kind == Rule::FILL {
+        return verdict(
+            i,
+            three == Record::UNUSED,
+            (one < bound) & (two < bound),
+            holed_at(s, first, n, one) & tree_at(s, first, n, two),
+            (one < i) & (two < i),
+        );
+    }
+    if kind == Rule::PART {
+        return verdict(
+            i,
+            one as u32 <= Rule::LARGEST_LABEL,
+            (two < bound) & (three < bound),
+            closed_at(s, first, n, two) & closed_at(s, first, n, three),
+            (two < i) & (three < i),
+        );
+    }
+    if kind == Rule::JOIN {
+        return verdict(
+            i,
+            three == Record::UNUSED,
+            (one < bound) & (two < bound),
+            holed_at(s, first, n, one) & holed_at(s, first, n, two),
+            (one < i) & (two < i),
+        );
+    }
+    Tested::Refused(Refusal::Malformed(i as usize))
+}
+
+// Refusals 4 to 6 of n rules whose records begin at first, from rule 0 up.
+fn test_rules(s: &[u8], first: usize, n: u16) -> Rules
+    requires { ⌜ first + recordLength * n ≤ length (now s) ⌝ }
+    ensures { λ x. ⌜ Tells (recordsFrom (now (s .entry)) first n) x ⌝ }
+{
+    let mut lower = true;
+    let mut i: u16 = 0;
+    while i < n {
+        match test_rule(s, first, n, i) {
+            Tested::Lower => i += 1,
+            Tested::Mixed => {
+                lower = false;
+                i += 1
+            }
+            Tested::Refused(refusal) => return Rules::Refused(refusal),
+        }
+    }
+    if lower { Rules::Lower } else { Rules::Mixed }
 }
 
 // Refusal 7: the start rule isn't below n or isn't closed.
@@ -139,12 +210,9 @@ pub fn judge(s: &[u8], first: usize, n: u16, start: u16) -> Judged
     requires { ⌜ first + recordLength * n ≤ length (now s) ⌝ }
     ensures { λ r. ⌜ r ≡ judged (recordsFrom (now (s .entry)) first n) start ⌝ }
 {
-    let mut i: u16 = 0;
-    while i < n {
-        match judge_rule(s, first, n, i) {
-            Judged::Fine => i += 1,
-            Judged::Refused(refusal) => return Judged::Refused(refusal),
-        }
+    match test_rules(s, first, n) {
+        Rules::Lower => judge_start(s, first, n, start),
+        Rules::Mixed => judge_start(s, first, n, start),
+        Rules::Refused(refusal) => Judged::Refused(refusal),
     }
-    judge_start(s, first, n, start)
 }

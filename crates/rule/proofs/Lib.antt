@@ -1,3 +1,4 @@
 pub mod Decode
 pub mod Rules
 pub mod Names
+pub mod ByKind

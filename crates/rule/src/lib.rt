@@ -47,7 +47,7 @@ impl Rule {
 
     pub const JOIN: u16 = 5;
 
-    const LARGEST_LABEL: u32 = 255;
+    pub const LARGEST_LABEL: u32 = 255;
 
     // The rule that four words mean: the table of kinds.
     pub fn decode(w: Record) -> Decoded
