@@ -1,10 +1,11 @@
 -- What measure and spread answer and leave, from what is lent (document 01, "Operations and what they turn down").
 use Prim.Native.Nat.{ℕ, _*_, _^_}
 use mathlib.Core.Bool.{Bool, cond}
-use mathlib.Core.List.{List, _++_}
-use lib.ListN.{length, drop, replicate}
+use mathlib.Core.List.{List}
+use lib.ListN.{length}
 use lib.Dec.{leb, ltb}
 use Rattle.words.specs.Number.{wordCount}
+unfoldable pub use Rattle.words.specs.Front.{cleared}
 use Rattle.rule.specs.declared.Rule.{Rule}
 use Rattle.refusal.specs.declared.Refusal.{Refusal}
 use Rattle.plan.specs.declared.Checked.{Checked}
@@ -25,10 +26,6 @@ workWords n = ruleWork * n
 unfoldable pub enoughWork : ℕ → List ℕ → Bool
 unfolding workWords
 enoughWork n work = leb (workWords n) (wordCount work)
-
--- a list whose first m bytes are zeros
-unfoldable pub cleared : ℕ → List ℕ → List ℕ
-cleared m s = replicate m 0 ++ drop m s
 
 -- "Past 8, with or without a later refusal, the first 32 × n words of work end as zeros; earlier they are untouched."
 -- enough says for each n whether 8 is passed

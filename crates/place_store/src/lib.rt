@@ -15,7 +15,7 @@ fn clear_past(cursor: &mut [u8], k: usize, n: u16)
 {
     let from = Cell::LENGTH * (k + 1);
     let to = Cell::LENGTH * Cell::A_RULE * (n as usize + 1);
-    work_rows::clear(&mut cursor[from..], to - from);
+    words::clear(&mut cursor[from..], to - from);
 }
 
 // Cell 0: the number of used cells, then three words, which are 0.

@@ -1,7 +1,6 @@
 -- What a depth-first search over the rules needs. Its stack, from the bottom up, is a chain in which each rule names the next, so a rule
 -- on the stack that the top names reaches itself; and rules written one by one, each once and each after all that it names, are an order
 -- when they are as many as there are rules, since n different numbers below n are all of them. Assumes nothing.
--- The stack and the order are functions of the place, so that a list (`λ i. getD o i 0`) and words in a slice serve alike.
 use Prim.Native.Nat.{ℕ, suc, _≤_, _<_}
 use mathlib.Core.List.{List}
 use mathlib.Core.Path.{_≡_, refl, sym, subst, _∙_}
@@ -13,12 +12,9 @@ use Rattle.rule.specs.Names.{Names}
 use Rattle.rule.specs.Sound.{rule}
 use Rattle.reach.specs.Reaches.{Reaches, named}
 use Rattle.reach.specs.Order.{Orders}
+use Rattle.reach.specs.Building.{Chain, Stands, Begun}
 use Rattle.reach.proofs.Counting.{up-to, onto}
 use Rattle.reach.proofs.Steps.{reaches-extend}
-
--- each of m rules on a stack names the next above it
-abbrev pub Chain : List Rule → (ℕ → ℕ) → ℕ → Type 0
-Chain R st m = (i : ℕ) → suc i < m → Names (rule R (st i)) (st (suc i))
 
 pub chain-none : (R : List Rule) (st : ℕ → ℕ) → Chain R st 0
 chain-none R st i l = absurd (omega (arith, l))
@@ -48,18 +44,8 @@ module _ (R : List Rule) (st : ℕ → ℕ) (m : ℕ) (c : Chain R st m) where
         | no h ↦ let q : t ≡ i = omega (arith, e, l, h) in named (subst (λ (x : ℕ). Names (rule R (st x)) (st i)) q n)
       ]
 
--- r stands at one of the first m places
-abbrev pub Stands : (ℕ → ℕ) → ℕ → ℕ → Type 0
-Stands o m r = (i : ℕ) × (i < m) × (o i ≡ r)
-
 pub stands-same : (o new : ℕ → ℕ) (m k r : ℕ) → m ≤ k → ((i : ℕ) → i < m → new i ≡ o i) → Stands o m r → Stands new k r
 stands-same o new m k r h same (i, l, e) = (i, omega (arith, h, l), same i l ∙ e)
-
--- at the first m places stand rules, each once, and each after those that it names
-pub record Begun (R : List Rule) (o : ℕ → ℕ) (m : ℕ) : Type 0 where
-  pub inside : (i : ℕ) → i < m → o i < length R
-  pub once : (i j : ℕ) → i < m → j < m → o i ≡ o j → i ≡ j
-  pub after : (i k : ℕ) → i < m → Names (rule R (o i)) k → Stands o i k
 
 pub begun-none : (R : List Rule) (o : ℕ → ℕ) → Begun R o 0
 begun-none R o = record {

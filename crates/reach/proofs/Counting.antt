@@ -65,7 +65,7 @@ count-most n p =
     ⊎-elim (λ (s : count p n < count (λ i. true) n). omega (arith, s, count-all n)) (λ (e, u). omega (arith, e, count-all n))
     (grows n p (λ i. true) (λ i l t. refl))
 
-count-same : (n : ℕ) (p q : ℕ → Bool) → ((i : ℕ) → i < n → q i ≡ p i) → count q n ≡ count p n
+pub count-same : (n : ℕ) (p q : ℕ → Bool) → ((i : ℕ) → i < n → q i ≡ p i) → count q n ≡ count p n
 unfolding count
 count-same zero p q f = refl
 count-same (suc n) p q f = rw (f n (omega arith), count-same n p q (λ i l. f i (omega (arith, l))))

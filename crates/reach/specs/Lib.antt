@@ -1,2 +1,3 @@
 pub mod Reaches
 pub mod Order
+pub mod Building

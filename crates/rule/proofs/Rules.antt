@@ -1,6 +1,6 @@
 -- Rules of records. Where every record decodes, names rules of lower numbers and has the right sorts, the kind in a record is the kind
 -- of its rule, so the rules are sound with their numbers as ranks. Assumes nothing.
-use Prim.Native.Nat.{ℕ, _≤_, _<_}
+use Prim.Native.Nat.{ℕ, zero, suc, _+_, _*_, _≤_, _<_}
 use mathlib.Core.Bool.{Bool, true, false, _&&_}
 use mathlib.Core.List.{List}
 use mathlib.Core.Path.{_≡_, sym, ap, fun-ext, _∙_}
@@ -12,6 +12,7 @@ use Rattle.record.specs.declared.Record.{Record}
 use Rattle.rule.specs.declared.Rule.{Rule}
 use Rattle.rule.specs.declared.Decoded.{Decoded}
 use Rattle.rule.specs.Rule.{kindEmpty, decode, encode, ruleOf, every, sorts, rulesIn}
+use Rattle.record.specs.Record.{recordLength, recordAt}
 use Rattle.record.specs.Records.{recordsFrom, recordIn, kindAt}
 use Rattle.record.proofs.Records.{records-length}
 use Rattle.rule.specs.Sound.{rule, kindIn, Sound}
@@ -91,3 +92,11 @@ named-sound ws each =
       sorted = λ i l. rw (is i l, ← kinds ws each) ((at i l) .sorted);
       labels = λ i l. rw (is i l) (decode-labelled (recordIn ws i) ((at i l) .means) ((at i l) .decodes));
     }
+
+-- the rule with a number is what its record means
+pub rule-recorded : (s : List ℕ) (at n i : ℕ) → i < n → rule (rulesIn (recordsFrom s at n)) i ≡ ruleOf (decode (recordAt s (at + recordLength * i)))
+unfolding rule rulesIn recordsFrom
+rule-recorded s at zero i below = absurd (omega arith)
+rule-recorded s at (suc n) zero below = ap (λ (k : ℕ). ruleOf (decode (recordAt s k))) (omega arith)
+rule-recorded s at (suc n) (suc i) below =
+    rule-recorded s (at + recordLength) n i (omega arith) ∙ ap (λ (k : ℕ). ruleOf (decode (recordAt s k))) (omega arith)

@@ -1,2 +1,4 @@
 pub mod Laws
 pub mod Front
+pub mod Within
+pub mod Words

@@ -1,2 +1,4 @@
 pub mod Number
 pub mod Front
+pub mod Within
+pub mod Words

@@ -3,6 +3,7 @@ ghost use mathlib.Core.Path.{_≡_};
 ghost use Prim.Native.Nat.{_+_, _≤_, _<_};
 ghost use lib.ListN.{length};
 ghost use Rattle.words.specs.Number.{number, put, wordCount};
+ghost use Rattle.words.specs.Front.{cleared};
 
 // A byte as a wider number.
 fn wide(x: u8) -> u32
@@ -54,4 +55,16 @@ pub fn write32(s: &mut [u8], at: usize, v: u32)
 {
     write16(s, at, (v % 65536) as u16);
     write16(s, at + 2, (v / 65536) as u16);
+}
+
+// Zeros into the first m bytes.
+pub fn clear(s: &mut [u8], m: usize)
+    requires { ⌜ m ≤ length (now s) ⌝ }
+    ensures { λ x. ⌜ now (s .exit) ≡ cleared m (now (s .entry)) ⌝ }
+{
+    let mut i: usize = 0;
+    while i < m {
+        s[i] = 0;
+        i += 1;
+    }
 }

@@ -1,42 +1,21 @@
 -- The order behind the rows: a word for each place, which stays where nothing there has changed, and one word more of the numbers in
 -- their order. Assumes nothing.
-use Prim.Native.Nat.{ℕ, zero, suc, _+_, _*_, _^_, _≤_, _<_}
+use Prim.Native.Nat.{ℕ, zero, suc, _+_, _*_, _≤_, _<_}
 use native.Mathlib.Omega.{arith}
-use native.Mathlib.Numerals.{add-one}
-use mathlib.Core.Path.{_≡_, refl, sym, ap, ap₂, _∙_}
-use mathlib.Core.List.{List, [], _∷_}
+use mathlib.Core.Path.{_≡_, refl, sym, ap₂, _∙_}
+use mathlib.Core.List.{List, _∷_}
 use mathlib.Core.Logic.{_⊎_, inl, inr}
 use native.Mathlib.Decide.{decLt}
-use lib.ListN.{length, getD, take, drop}
-use Rattle.words.specs.Number.{base, number, put}
+use lib.ListN.{length, getD}
+use Rattle.words.specs.Number.{number, put}
 use Rattle.record.specs.Record.{wordLength}
 use Rattle.reach.specs.Order.{numbersFrom}
-use Rattle.work_rows.specs.Rows.{rowLength, Within}
+use Rattle.work_rows.specs.Rows.{Within}
 use Rattle.words.proofs.Laws.{put-same, put-other}
 use Rattle.work_rows.proofs.Rows.{within-none, within-both, within-number, within-number-put}
-use Rattle.work_rows.specs.Order.{orderAt, orderEnd, wordsAt, orderIn}
-
-pub length-words : (t : List ℕ) (at n : ℕ) → length (wordsAt t at n) ≡ n
-unfolding wordsAt
-length-words t at zero = refl
-length-words t at (suc n) = ap suc (length-words t (at + wordLength) n)
-
-pub word-at : (t : List ℕ) (at n i : ℕ) → i < n → getD (wordsAt t at n) i 0 ≡ number wordLength t (at + wordLength * i)
-unfolding wordsAt
-word-at t at zero i l = absurd (omega arith)
-word-at t at (suc n) zero l = let e : at + wordLength * 0 ≡ at = omega arith in ap (number wordLength t) (sym e)
-word-at t at (suc n) (suc i) l =
-    let e : at + wordLength + wordLength * i ≡ at + wordLength * suc i = omega arith in
-    word-at t (at + wordLength) n i (omega arith) ∙ ap (number wordLength t) e
-
--- words that are the same one by one
-pub words-same : (s t : List ℕ) (at n : ℕ) → ((i : ℕ) → i < n → number wordLength t (at + wordLength * i) ≡ number wordLength s (at + wordLength * i)) → wordsAt t at n ≡ wordsAt s at n
-unfolding wordsAt
-words-same s t at zero h = refl
-words-same s t at (suc n) h =
-    let z : at + wordLength * 0 ≡ at = omega arith in
-    ap₂ (λ (v : ℕ) (l : List ℕ). v ∷ l) (rw z at (h 0 (omega arith)))
-    (words-same s t (at + wordLength) n (λ i l. let e : at + wordLength + wordLength * i ≡ at + wordLength * suc i = omega arith in rw e (h (suc i) (omega arith))))
+use Rattle.work_rows.specs.Order.{orderAt, orderEnd, orderIn}
+use Rattle.words.specs.Words.{wordsAt}
+use Rattle.words.proofs.Words.{length-words, word-at, words-same}
 
 -- words that are given numbers one by one
 pub words-numbers : (t : List ℕ) (at k n : ℕ) → ((i : ℕ) → i < n → number wordLength t (at + wordLength * i) ≡ k + i) → wordsAt t at n ≡ numbersFrom k n

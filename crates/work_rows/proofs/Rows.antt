@@ -1,18 +1,15 @@
 -- Laws of rows. A field is a number in a list of bytes, so what a write leaves alone is known from one frame, `Within`: equal bytes
 -- before it and after it. A rule's four fields lie apart in their row, so they are read back as written. Assumes nothing.
-use Prim.Native.Nat.{ℕ, zero, suc, _+_, _-_, _*_, _^_, _≤_, _<_}
-use mathlib.Core.Path.{_≡_, refl, sym, ap, _∙_}
+use Prim.Native.Nat.{ℕ, _+_, _-_, _*_, _^_, _≤_, _<_}
+use mathlib.Core.Path.{_≡_, refl, ap, _∙_}
 use mathlib.Core.List.{List}
 use native.Mathlib.Omega.{arith}
 use native.Mathlib.Decide.{decLt}
-use lib.ListN.{length, getD, take, drop}
-use lib.Seq.{getD-take, getD-drop, take-take, drop-drop}
-use Rattle.words.specs.Number.{base, number, put}
-use Rattle.words.proofs.Laws.{number-agrees, length-put, put-same, put-other, put-take, put-drop}
+use lib.ListN.{length}
+use Rattle.words.specs.Number.{base}
+use Rattle.words.proofs.Laws.{length-put, put-same, put-other}
+pub use Rattle.words.proofs.Within.{within-none, within-both, within-wider, within-number, within-number-put}
 use Rattle.rule.specs.declared.Rule.{Rule}
-use Rattle.record.specs.Record.{recordLength, recordAt}
-use Rattle.rule.specs.Rule.{decode, ruleOf, rulesIn}
-use Rattle.record.specs.Records.{recordsFrom}
 use Rattle.rule.specs.Sound.{rule}
 use Rattle.work_rows.specs.declared.Row.{Row}
 use Rattle.work_rows.specs.Rows.{rowLength, field, putField, ownEnd, atKind, atLabel, atOne, atTwo, rowOf, ruleFrom, rowIn, putRow, ruleIn, Holds, Within, Beyond, Stored, Loaded}
@@ -32,53 +29,12 @@ pub field-other : (w w′ : ℕ) (t : List ℕ) (r o v r′ o′ : ℕ)
 unfolding field putField
 field-other w w′ t r o v r′ o′ apart = put-other w w′ t (rowLength * r + o) v (rowLength * r′ + o′) apart
 
--- the frame: nothing changed, two changes one after the other, a wider frame, one write
-pub within-none : (a e : ℕ) (s : List ℕ) → Within a e s s
-within-none a e s = record { same-length = refl; same-before = refl; same-after = refl }
-
-pub within-both : {a e : ℕ} {s t u : List ℕ} → Within a e s t → Within a e t u → Within a e s u
-within-both p q =
-    record {
-      same-length = q .same-length ∙ p .same-length;
-      same-before = q .same-before ∙ p .same-before;
-      same-after = q .same-after ∙ p .same-after;
-    }
-
-pub within-wider : {a e : ℕ} {s t : List ℕ} (a′ e′ : ℕ) → a′ ≤ a → e ≤ e′ → Within a e s t → Within a′ e′ s t
-within-wider {a} {e} {s} {t} a′ e′ low high p =
-    record {
-      same-length = p .same-length;
-      same-before = sym (take-take a′ a t low) ∙ ap (take a′) (p .same-before) ∙ take-take a′ a s low;
-      same-after = further t ∙ ap (drop (e′ - e)) (p .same-after) ∙ sym (further s);
-    }
-  where
-    further : (x : List ℕ) → drop e′ x ≡ drop (e′ - e) (drop e x)
-    further x = let k : e + (e′ - e) ≡ e′ = omega arith in rw (drop-drop (e′ - e) e x, k)
-
-pub within-number-put : (w : ℕ) (t : List ℕ) (at v a e : ℕ) → a ≤ at → at + w ≤ e → Within a e t (put w t at v)
-within-number-put w t at v a e low high =
-    record { same-length = length-put w t at v; same-before = put-take w t at v a low; same-after = put-drop w t at v e high }
-
+-- a frame of one write to a field
 pub within-put : (w : ℕ) (t : List ℕ) (r o v a e : ℕ) → a ≤ rowLength * r + o → rowLength * r + o + w ≤ e → Within a e t (putField w t r o v)
 unfolding putField
 within-put w t r o v a e low high = within-number-put w t (rowLength * r + o) v a e low high
 
--- a byte outside a frame stays, and so does a field
-within-byte : {a e : ℕ} {s t : List ℕ} → Within a e s t → (i : ℕ) → (a ≤ i → e ≤ i) → getD t i 0 ≡ getD s i 0
-within-byte {a} {e} {s} {t} p i apart =
-    elim (decLt i a) as (λ (d : Dec (i < a)). getD t i 0 ≡ getD s i 0) [
-      | yes below ↦ sym (getD-take a t i 0 below) ∙ ap (λ (l : List ℕ). getD l i 0) (p .same-before) ∙ getD-take a s i 0 below
-      | no above ↦ let past : e ≤ i = apart (omega arith) in let k : e + (i - e) ≡ i = omega arith in
-          ap (λ (j : ℕ). getD t j 0) (sym k)
-          ∙ sym (getD-drop e t (i - e) 0)
-          ∙ ap (λ (l : List ℕ). getD l (i - e) 0) (p .same-after)
-          ∙ getD-drop e s (i - e) 0
-          ∙ ap (λ (j : ℕ). getD s j 0) k
-    ]
-
-pub within-number : {a e : ℕ} {s t : List ℕ} → Within a e s t → (w at : ℕ) → (a < at + w → e ≤ at) → number w t at ≡ number w s at
-within-number {a} {e} {s} {t} p w at apart = number-agrees w t s at at (λ i below. within-byte p (at + i) (λ h. let f : e ≤ at = apart (omega arith) in omega arith))
-
+-- a field outside a frame stays
 pub within-field : {a e : ℕ} {s t : List ℕ} → Within a e s t → (w r o : ℕ) → (a < rowLength * r + o + w → e ≤ rowLength * r + o)
     → field w t r o ≡ field w s r o
 unfolding field
@@ -206,11 +162,3 @@ loaded-more R s t u i h new =
           within-both (within-wider 0 (rowLength * (i + 1)) (omega arith) (omega arith) (h .beyond))
           (within-wider 0 (rowLength * (i + 1)) (omega arith) (omega arith) (new .within));
     }
-
--- the rule with a number is what its record means
-pub rule-recorded : (s : List ℕ) (at n i : ℕ) → i < n → rule (rulesIn (recordsFrom s at n)) i ≡ ruleOf (decode (recordAt s (at + recordLength * i)))
-unfolding rule rulesIn recordsFrom
-rule-recorded s at zero i below = absurd (omega arith)
-rule-recorded s at (suc n) zero below = ap (λ (k : ℕ). ruleOf (decode (recordAt s k))) (omega arith)
-rule-recorded s at (suc n) (suc i) below =
-    rule-recorded s (at + recordLength) n i (omega arith) ∙ ap (λ (k : ℕ). ruleOf (decode (recordAt s k))) (omega arith)

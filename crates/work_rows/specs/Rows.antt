@@ -3,9 +3,9 @@ use Prim.Native.Nat.{ℕ, zero, suc, _+_, _*_, _<_}
 use mathlib.Core.Path.{_≡_}
 use mathlib.Core.Bool.{cond}
 use mathlib.Core.List.{List, [], _∷_}
-use lib.ListN.{length, take, drop}
 use lib.Dec.{eqb}
 use Rattle.words.specs.Number.{number, put}
+pub use Rattle.words.specs.Within.{Within}
 use Rattle.rule.specs.declared.Rule.{Rule}
 use Rattle.record.specs.Record.{wordLength}
 use Rattle.rule.specs.Rule.{kindEmpty, kindPair, kindNode, kindFill, kindPart, kindJoin}
@@ -91,12 +91,6 @@ firstRules t n = rulesFrom t 0 n
 unfoldable pub Holds : List Rule → List ℕ → ℕ → Type 0
 unfolding ruleIn rule
 Holds R t i = (k : ℕ) → k < i → ruleIn t k ≡ rule R k
-
--- nothing but the bytes from a to e has changed
-pub record Within (a e : ℕ) (s t : List ℕ) : Type 0 where
-  pub same-length : length t ≡ length s
-  pub same-before : take a t ≡ take a s
-  pub same-after : drop e t ≡ drop e s
 
 -- nothing but rows below i has changed
 abbrev pub Beyond : ℕ → List ℕ → List ℕ → Type 0

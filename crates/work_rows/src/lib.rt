@@ -200,18 +200,6 @@ fn load(plan: &[u8], first: usize, n: u16, work: &mut [u8])
     }
 }
 
-// Zeros into the first m bytes.
-pub fn clear(s: &mut [u8], m: usize)
-    requires { ⌜ m ≤ length (now s) ⌝ }
-    ensures { λ x. ⌜ now (s .exit) ≡ cleared m (now (s .entry)) ⌝ }
-{
-    let mut i: usize = 0;
-    while i < m {
-        s[i] = 0;
-        i += 1;
-    }
-}
-
 // The 16-bit words of work that a rule needs, and their bytes.
 const WORK_WORDS: usize = 32;
 
@@ -269,5 +257,5 @@ pub fn clear_work(work: &mut [u8], n: u16)
     requires { ⌜ workLength * n ≤ length (now work) ⌝ }
     ensures { λ x. ⌜ now (work .exit) ≡ cleared (wordLength * workWords n) (now (work .entry)) ⌝ }
 {
-    clear(work, WORK_LENGTH * (n as usize));
+    words::clear(work, WORK_LENGTH * (n as usize));
 }

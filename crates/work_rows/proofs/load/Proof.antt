@@ -7,7 +7,8 @@ use Prim.Native.Nat.{_-_, _≤_}
 use native.Mathlib.Omega.{arith}
 use Rattle.record.specs.Records.{recordsFrom}
 use Rattle.work_rows.specs.Rows.{Loaded}
-use Rattle.work_rows.proofs.Rows.{loaded-none, loaded-more, rule-recorded}
+use Rattle.rule.proofs.Rules.{rule-recorded}
+use Rattle.work_rows.proofs.Rows.{loaded-none, loaded-more}
 use Rattle.work_rows.proofs.load.Statement.{statement}
 use Rattle.work_rows.proofs.load.Tie as tie
 

@@ -1,18 +1,14 @@
 -- The loop's invariant: the first i bytes are zeros and the others are as they were. Assumes nothing.
 use Prim.Native.Nat.{ℕ, _-_, _≤_}
 use mathlib.Core.Path.{_≡_, ap, _∙_}
-use mathlib.Core.List.{List}
 use denote.Ref.{now}
 use native.Mathlib.Omega.{arith}
-use lib.ListN.{length, length-append, length-drop, length-replicate}
+use lib.ListN.{length}
 use borrow.Author.Fill.{fill-none, fill-more}
-use Rattle.forest.specs.Outcome.{cleared}
-use Rattle.work_rows.proofs.clear.Statement.{statement}
-use Rattle.work_rows.proofs.clear.Tie as tie
-
-length-cleared : (m : ℕ) (s : List ℕ) → m ≤ length s → length (cleared m s) ≡ length s
-unfolding cleared
-length-cleared m s fits = simp (length-append, length-replicate, length-drop) (omega arith)
+use Rattle.words.specs.Front.{cleared}
+use Rattle.words.proofs.Front.{length-cleared}
+use Rattle.words.proofs.clear.Statement.{statement}
+use Rattle.words.proofs.clear.Tie as tie
 
 abbrev Inv-loop : tie.InvT-loop
 Inv-loop s₀ m i₀ s i = (i ≤ m) × (m ≤ length s₀) × (s ≡ cleared i s₀)

@@ -1,0 +1,6 @@
+pub mod Finding
+pub mod Placing
+pub mod Searches
+pub mod Turns
+pub mod Runs
+pub mod Queues

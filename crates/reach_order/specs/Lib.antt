@@ -1,0 +1,4 @@
+pub mod Named
+pub mod Room
+pub mod Search
+pub mod Queue
