@@ -272,9 +272,9 @@ pub fn lowest(s: &[u8], first: usize, n: u16, room: &mut [u8]) -> u16
         ⌜ (lowestCycle (rulesAt (now (s .entry)) first n) ≡ some x)
         × Within 0 (4 * n) (now (room .entry)) (now (room .exit)) ⌝ }
 {
-    let mut i: u16 = 0;
-    while !reaches_itself(s, first, n, i, room) {
-        i += 1;
+    let mut r: u16 = 0;
+    while !reaches_itself(s, first, n, r, room) {
+        r += 1;
     }
-    i
+    r
 }

@@ -1,4 +1,4 @@
--- The loop's invariant: no rule below i reaches itself (`Seeking`). Assumes nothing.
+-- The loop's invariant: no rule below r reaches itself (`Seeking`). Assumes nothing.
 use Prim.Native.Nat.{_-_}
 use native.Mathlib.Omega.{arith}
 use borrow.Author.Tests.{not-true, not-false}
@@ -8,10 +8,10 @@ use Rattle.reach_order.proofs.lowest.Statement.{statement}
 use Rattle.reach_order.proofs.lowest.Tie as tie
 
 abbrev Inv-loop : tie.InvT-loop
-Inv-loop s first n room₀ i₀ room i = Seeking s first n room₀ room i
+Inv-loop s first n room₀ r₀ room r = Seeking s first n room₀ room r
 
 abbrev μ-loop : tie.MeasureT-loop
-μ-loop s first n room₀ i₀ room i = n - i
+μ-loop s first n room₀ r₀ room r = n - r
 
 loop-holds : tie.Need-loop-holds Inv-loop μ-loop
 loop-holds c = let p = c .before .before .pre in seeking-none (p .0) (p .1)
@@ -19,8 +19,8 @@ loop-holds c = let p = c .before .before .pre in seeking-none (p .0) (p .1)
 reaches-itself-requires : tie.Need-reaches-itself-requires Inv-loop μ-loop
 reaches-itself-requires c κs = let v = c .before .loop .inv in (v .ready, v .below)
 
-add-i : tie.Need-add-i Inv-loop μ-loop
-add-i c = let p = c .before .before .before .before .before .before .before .before .pre in omega (arith, p .0 .few, seeking-below (c .before .before .before .before .before .loop .inv) (c .before .before .before .reaches-itself .ensures) (p .1) (not-true _ (c .if1 .taken)))
+add-r : tie.Need-add-r Inv-loop μ-loop
+add-r c = let p = c .before .before .before .before .before .before .before .before .pre in omega (arith, p .0 .few, seeking-below (c .before .before .before .before .before .loop .inv) (c .before .before .before .reaches-itself .ensures) (p .1) (not-true _ (c .if1 .taken)))
 
 loop-less : tie.Need-loop-less Inv-loop μ-loop
 loop-less c = let p = c .before .before .before .before .before .before .before .before .pre in omega (arith, seeking-below (c .before .before .before .before .before .loop .inv) (c .before .before .before .reaches-itself .ensures) (p .1) (not-true _ (c .if1 .taken)))
@@ -42,7 +42,7 @@ lowest-spec =
     μ-loop
     loop-holds
     reaches-itself-requires
-    add-i
+    add-r
     loop-less
     loop-again
     same-length
