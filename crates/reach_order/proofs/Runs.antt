@@ -2,17 +2,22 @@
 use Prim.Native.Nat.{ℕ, _+_, _-_, _*_, _≤_, _<_}
 use native.Mathlib.Omega.{arith}
 use mathlib.Core.Bool.{Bool, true, false, false≢true}
-use mathlib.Core.Path.{_≡_, sym, ap, subst, _∙_}
+use mathlib.Core.Option.{none}
+use mathlib.Core.Path.{_≡_, refl, sym, ap, subst, _∙_}
 use mathlib.Core.List.{List}
 use lib.ListN.{length, getD}
+use borrow.Table.Steps.{cases}
 use Rattle.words.specs.Number.{number}
 use Rattle.words.specs.Front.{cleared}
 use Rattle.words.specs.Words.{wordsAt}
 use Rattle.words.proofs.Words.{length-words, word-at}
 use Rattle.words.proofs.Within.{within-both, within-cleared, cleared-number}
 use Rattle.rule.specs.declared.Rule.{Rule}
-use Rattle.reach.specs.Order.{Orders}
+use Rattle.reach.specs.Reaches.{lowestCycle}
+use Rattle.reach.specs.Order.{Ranged, Acyclic, Orders}
 use Rattle.reach.proofs.Counting.{up-to}
+use Rattle.reach.proofs.Steps.{reaches-from}
+use Rattle.reach.proofs.Orders.{orders-none}
 use Rattle.reach.proofs.Building.{begun-same, begun-orders}
 use Rattle.reach_order.specs.declared.Step.{Step}
 use Rattle.reach_order.specs.declared.Searched.{Searched}
@@ -130,3 +135,10 @@ order-answers {n = n} {t = t} a e h = record {
   sorted = h .sorted;
   cyclic = h .cyclic;
 }
+
+-- what an answer says of all the rules: there is an order where none reaches itself, and only there
+pub answered-none : {R : List Rule} {n : ℕ} {t u : List ℕ} → Ranged R → Answered R n true t u → lowestCycle R ≡ none
+answered-none ok h = orders-none (h .sorted refl) ok
+
+pub answered-acyclic : {R : List Rule} {n : ℕ} {x : Bool} {t u : List ℕ} → Acyclic R → Answered R n x t u → x ≡ true
+answered-acyclic {x = x} acyclic h = cases x (λ q. q) (λ q. let (r, c) = h .cyclic q in absurd (acyclic r (reaches-from c) c))

@@ -1,4 +1,4 @@
--- The loop's invariant: no rule below i reaches itself (`Seeking`). Assumes nothing.
+-- The loop's invariant: no rule below r reaches itself (`Seeking`). Assumes nothing.
 use Prim.Native.Nat.{_-_}
 use native.Mathlib.Omega.{arith}
 use borrow.Author.Tests.{not-true, not-false}
@@ -8,10 +8,10 @@ use Rattle.reach_order.proofs.lowest.Statement.{statement}
 use Rattle.reach_order.proofs.lowest.Tie as tie
 
 abbrev Inv-loop : tie.InvT-loop
-Inv-loop s first n room₀ i₀ room i = Seeking s first n room₀ room i
+Inv-loop s first n room₀ r₀ room r = Seeking s first n room₀ room r
 
 abbrev μ-loop : tie.MeasureT-loop
-μ-loop s first n room₀ i₀ room i = n - i
+μ-loop s first n room₀ r₀ room r = n - r
 
 loop-holds : tie.Need-loop-holds Inv-loop μ-loop
 loop-holds c = let p = c .before .before .pre in seeking-none (p .0) (p .1)
