@@ -16,9 +16,10 @@
    slices and numbers of its own.
 
    Results. Each function returns 0 when it accepts, else the refusal's number, and
-   tests in the order in which the refusals stand in its comment. *position is the
-   rule for 4 to 6, the letter's place for 9, and else 0; it is 0 when accepted. The
-   other numbers are written only when accepted.
+   tests in the order in which the refusals stand in its comment: 12 after 6, before
+   7. *position is the rule for 4 to 6, the lowest rule that reaches itself for 12, the
+   letter's place for 9, and else 0; it is 0 when accepted. The other numbers are
+   written only when accepted.
 
    The library is for x86-64, where size_t has 64 bits. What it takes of a device is
    at the end of this file. */
@@ -62,43 +63,46 @@ enum mealplan_refusal {
     MEALPLAN_COUNT = 2,      /* n is 0 or above 1,024; the words aren't four to a rule */
     MEALPLAN_DISTANCE = 3,   /* the distance isn't 8 * n or goes back before the first byte */
     MEALPLAN_MALFORMED = 4,  /* kind above 5, label above 255, unused word not 0 */
-    MEALPLAN_NOT_LOWER = 5,  /* names a rule not lower */
-    MEALPLAN_WRONG_SORT = 6, /* names one of the wrong sort */
+    MEALPLAN_NOT_BELOW = 5,  /* names a rule not below n */
+    MEALPLAN_WRONG_SORT = 6, /* names one of the wrong sort, as one of kind above 5 is */
     MEALPLAN_START = 7,      /* start isn't below n or isn't closed */
     MEALPLAN_LENT = 8,       /* work or cursor too short, or fewer answers than letters */
     MEALPLAN_LETTER = 9,     /* a byte outside a z f l n p u s */
     MEALPLAN_PLACE = 10,     /* no letters lead from a place above this forest to these
                                 used cells, or cell 0 has a nonzero later word */
-    MEALPLAN_ROOM = 11       /* output too short; over 2^64 - 1 nodes */
+    MEALPLAN_ROOM = 11,      /* output too short; over 2^64 - 1 nodes */
+    MEALPLAN_CYCLE = 12      /* some rule reaches itself through the rules it names */
 };
 
-/* Check a plan: 1 to 7. Accepted: *n is the number of rules, *start the start rule. */
+/* Check a plan: 1 to 6, 12, 7. Accepted: *n is the number of rules, *start the start
+   rule. A rule may name lower rules and higher ones. */
 uint32_t plan_check(const uint8_t *plan, size_t plan_len,
                     uint16_t *n, uint16_t *start, uint64_t *position);
 
 /* Seal rule words, four to a rule, as a plan without cover at the front of out: 2,
-   4 to 7, 11. Accepted: *written is the plan's length and later bytes of out stay.
-   Refused: out is untouched. */
+   4 to 6, 12, 7, 11. Accepted: *written is the plan's length and later bytes of out
+   stay. Refused: out is untouched. */
 uint32_t plan_seal(const uint8_t *words, size_t words_len, uint16_t start,
                    uint8_t *out, size_t out_len,
                    uint64_t *written, uint64_t *position);
 
-/* Unseal a plan, its rule words at the front of out: 1 to 7, 11. Accepted: *n and
-   *start as plan_check gives them, and later words stay. Refused: out is untouched. */
+/* Unseal a plan, its rule words at the front of out: 1 to 6, 12, 7, 11. Accepted: *n
+   and *start as plan_check gives them, and later words stay. Refused: out is
+   untouched. */
 uint32_t plan_unseal(const uint8_t *plan, size_t plan_len,
                      uint8_t *out, size_t out_len,
                      uint16_t *n, uint16_t *start, uint64_t *position);
 
-/* Measure a plan's forest, *trees, *entries (all nodes) and *levels: 1 to 8, and 11
-   if it has more than 2^64 - 1 nodes. Unless 1 to 8 refuses, the needed bytes of
-   work end as zeros; those past them never change. */
+/* Measure a plan's forest, *trees, *entries (all nodes) and *levels: 1 to 6, 12, 7, 8,
+   and 11 if it has more than 2^64 - 1 nodes. Unless 1 to 8 or 12 refuses, the needed
+   bytes of work end as zeros; those past them never change. */
 uint32_t plan_measure(const uint8_t *plan, size_t plan_len,
                       uint8_t *work, size_t work_len,
                       uint64_t *trees, uint64_t *entries, uint64_t *levels,
                       uint64_t *position);
 
 /* Spread a plan's forest as text, "(", the label, the children, ")" for each node in
-   reading order, at the front of out: 1 to 8, 11. work as for plan_measure.
+   reading order, at the front of out: 1 to 6, 12, 7, 8, 11. work as for plan_measure.
    Accepted: *written is the text's length and later bytes of out stay. Refused: out
    is untouched. */
 uint32_t plan_spread(const uint8_t *plan, size_t plan_len,
@@ -106,13 +110,13 @@ uint32_t plan_spread(const uint8_t *plan, size_t plan_len,
                      uint8_t *out, size_t out_len,
                      uint64_t *written, uint64_t *position);
 
-/* Walk from the place in cursor, a letter at a time: 1 to 10. a, z: to the root of the
-   first, last tree; f, l: first, last child; n, p: next, previous sibling; u: parent;
-   s: stay. Each letter gives an answer: the label of the node arrived at, or nowhere,
-   and then the place is kept. A cursor whose first 8 bytes are 0 is above the forest,
-   from where only a and z lead. work as for plan_measure. Accepted: cursor holds the
-   new place and, in the needed bytes, zeros after it; its later bytes and those of
-   answers stay. Refused: cursor and answers are untouched. */
+/* Walk from the place in cursor, a letter at a time: 1 to 6, 12, 7 to 10. a, z: to the
+   root of the first, last tree; f, l: first, last child; n, p: next, previous sibling;
+   u: parent; s: stay. Each letter gives an answer: the label of the node arrived at,
+   or nowhere, and then the place is kept. A cursor whose first 8 bytes are 0 is above
+   the forest, from where only a and z lead. work as for plan_measure. Accepted: cursor
+   holds the new place and, in the needed bytes, zeros after it; its later bytes and
+   those of answers stay. Refused: cursor and answers are untouched. */
 uint32_t plan_walk(const uint8_t *plan, size_t plan_len,
                    uint8_t *work, size_t work_len,
                    uint8_t *cursor, size_t cursor_len,
@@ -126,19 +130,20 @@ uint32_t plan_walk(const uint8_t *plan, size_t plan_len,
    alone where the linker drops what isn't used (--gc-sections). There are no data and
    no bss, and the one function that the library calls is memset. */
 #define MEALPLAN_CODE_BYTES 16384
-#define MEALPLAN_CODE_BYTES_CHECK_WALK 10240
+#define MEALPLAN_CODE_BYTES_CHECK_WALK 12288
 
 /* Stack, whatever the plan: the deepest chain of calls (there is no recursion) with
    the return address, without the arguments that the caller puts on the stack and
    without what memset takes beyond its own return address. The code uses the red zone
    of the x86-64 ABI: an interrupt on the same stack leaves 128 bytes below the stack
-   pointer alone. */
-#define MEALPLAN_STACK_CHECK 256
-#define MEALPLAN_STACK_SEAL 256
-#define MEALPLAN_STACK_UNSEAL 256
-#define MEALPLAN_STACK_MEASURE 384
-#define MEALPLAN_STACK_SPREAD 384
-#define MEALPLAN_STACK_WALK 1024
+   pointer alone. Most of it is the room in which each of them orders the rules of the
+   largest plan, to see that none reaches itself. */
+#define MEALPLAN_STACK_CHECK 5120
+#define MEALPLAN_STACK_SEAL 5120
+#define MEALPLAN_STACK_UNSEAL 5120
+#define MEALPLAN_STACK_MEASURE 5120
+#define MEALPLAN_STACK_SPREAD 5120
+#define MEALPLAN_STACK_WALK 5120
 
 #ifdef __cplusplus
 }

@@ -1,6 +1,6 @@
 /* Holds include/mealplan.h to the static library, and calls each function on the sample plan as the reader's shell would. For each length of
    the header a call with exactly that length is accepted and one with a byte less is refused; each refusal of its enum is provoked. Any
-   difference from what document 01 and the header say ends the run with status 1. */
+   difference from what documents 01 and 02 and the header say ends the run with status 1. */
 #include "mealplan.h"
 #include <stdio.h>
 #include <stdlib.h>
@@ -102,7 +102,8 @@ static void refusals(void) {
     gives("words that aren't four to a rule", plan_seal(words, 14, 0, out, sizeof out, &written, &position), MEALPLAN_COUNT, 0);
     gives("a distance that isn't 8 * n", changed(68, 63), MEALPLAN_DISTANCE, 0);
     gives("kind 6 in rule 3", changed(24, 6), MEALPLAN_MALFORMED, 3);
-    gives("rule 3 names itself", changed(28, 3), MEALPLAN_NOT_LOWER, 3);
+    gives("rule 3 names rule 8 of 8", changed(28, 8), MEALPLAN_NOT_BELOW, 3);
+    gives("rule 3 names rule 255 of 8", changed(28, 255), MEALPLAN_NOT_BELOW, 3);
     gives("rule 6 fills rule 3", changed(50, 3), MEALPLAN_WRONG_SORT, 6);
     gives("a holed start", changed(66, 5), MEALPLAN_START, 0);
     gives("the sample", check(sample, sizeof sample), MEALPLAN_ACCEPTED, 0);
@@ -113,6 +114,31 @@ static void refusals(void) {
     cursor[2] = 1;
     gives("a later word of cell 0", walk(sample, sizeof sample, "a"), MEALPLAN_PLACE, 0);
     cursor[2] = 0;
+}
+
+/* Rules in any order: 12, and what comes before it and after it. */
+static void orders(void) {
+    gives("rule 1 over rule 2", changed(12, 2), MEALPLAN_ACCEPTED, 0);
+    gives("rule 2 over rule 1", changed(20, 1), MEALPLAN_ACCEPTED, 0);
+    gives("rule 3 names itself", changed(28, 3), MEALPLAN_CYCLE, 3);
+    plan[66] = 5;
+    gives("and a holed start", check(plan, sizeof sample), MEALPLAN_CYCLE, 3);
+    plan[24] = 6;
+    gives("and kind 6 in rule 3", check(plan, sizeof sample), MEALPLAN_MALFORMED, 3);
+    gives("rule 3 names rule 7, which reaches it", changed(28, 7), MEALPLAN_CYCLE, 3);
+    gives("rule 2 over rule 3, which names it", changed(20, 3), MEALPLAN_CYCLE, 2);
+    plan[58] = 9;
+    gives("and rule 7 names rule 9", check(plan, sizeof sample), MEALPLAN_NOT_BELOW, 7);
+    gives("rule 7 names itself", changed(58, 7), MEALPLAN_CYCLE, 7);
+    plan[66] = 6;
+    gives("and the start doesn't reach it", check(plan, sizeof sample), MEALPLAN_CYCLE, 7);
+    plan[38] = 7;
+    gives("and rules 4 to 6 only reach it", check(plan, sizeof sample), MEALPLAN_CYCLE, 7);
+    gives("and sealed", plan_seal(plan, 64, 6, out, 0, &written, &position), MEALPLAN_CYCLE, 7);
+    gives("and unsealed", plan_unseal(plan, sizeof sample, words, 0, &n, &start, &position), MEALPLAN_CYCLE, 7);
+    gives("and measured", plan_measure(plan, sizeof sample, work, 0, &trees, &entries, &levels, &position), MEALPLAN_CYCLE, 7);
+    gives("and spread", plan_spread(plan, sizeof sample, work, 0, out, 0, &written, &position), MEALPLAN_CYCLE, 7);
+    gives("and walked", walk(plan, sizeof sample, "x"), MEALPLAN_CYCLE, 7);
 }
 
 /* The sample plan by document 01, and what calls leave. */
@@ -164,9 +190,10 @@ int main(int argc, char **argv) {
     fclose(file);
     limits();
     refusals();
+    orders();
     sampled();
     places();
-    want("0 and every refusal came, as bits", seen, (1u << (MEALPLAN_ROOM + 1)) - 1);
-    printf("interface: %u calls as the header and document 01 say\n", calls);
+    want("0 and every refusal came, as bits", seen, (1u << (MEALPLAN_CYCLE + 1)) - 1);
+    printf("interface: %u calls as the header and documents 01 and 02 say\n", calls);
     return 0;
 }

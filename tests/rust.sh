@@ -1,7 +1,7 @@
 #!/usr/bin/env bash
 # Tries the static library of what was proved against the independent implementation in rust/reference: every call of the trials must
-# agree in its answer and in every byte, and enough must have been tried. Also runs the cases of document 01 by the safe functions: those
-# of its sample plan, and those of tests/cases.txt, whose number is printed.
+# agree in its answer and in every byte, and enough must have been tried. Also runs the cases of documents 01 and 02 by the safe functions:
+# those of the sample plan, and those of tests/cases.txt, whose number is printed; and before all, the tests of rust/reference itself.
 # TRIALS_SEED gives the seed of a run to have again; it is printed.
 set -eu
 cd "$(dirname "$0")/.."
@@ -10,4 +10,4 @@ trap 'rm -f "$log"' EXIT
 command -v cargo >/dev/null 2>&1 || { echo "rust: cargo is not installed"; exit 1; }
 rt staticlib mealplan >"$log" 2>&1 || { cat "$log"; exit 1; }
 export MEALPLAN_LIB="$PWD/target/staticlib"
-nice cargo test --manifest-path rust/Cargo.toml --package trials --release --offline --locked --jobs 1 --tests -- --nocapture
+nice cargo test --manifest-path rust/Cargo.toml --package reference --package trials --release --offline --locked --jobs 1 --tests -- --nocapture

@@ -1,4 +1,5 @@
-/* How much stack each function of the library takes on plans of 1,024 rules of several shapes, held to the bounds of include/mealplan.h.
+/* How much stack each function of the library takes on plans of 1,024 rules of several shapes, in several orders, held to the bounds of
+   include/mealplan.h.
    Each call runs on a stack of its own that was painted before: what is no longer paint, below where the function was called, was used.
    A bound that is exceeded, or that is more than twice what was used, ends the run with status 1. */
 #include "mealplan.h"
@@ -11,7 +12,7 @@ enum { RULES = MEALPLAN_MOST_RULES, LETTERS = 4096, TEXT = 1 << 20 };
 
 static uint8_t words[MEALPLAN_WORDS_BYTES(RULES)], plan[MEALPLAN_PLAN_BYTES(RULES)], work[MEALPLAN_WORK_BYTES(RULES)];
 static uint8_t cursor[MEALPLAN_CURSOR_BYTES(RULES)], letters[LETTERS], answers[MEALPLAN_ANSWERS_BYTES(LETTERS)], out[TEXT];
-static uint16_t n, start;
+static uint16_t n, start, first = RULES - 1; /* first: the start that is lent to seal */
 static uint64_t trees, entries, levels, written, position;
 static uint32_t result;
 
@@ -34,7 +35,7 @@ static uint32_t note(void) {
     for (int i = 0; i < 2; i++, callee = function) result = callee(__VA_ARGS__)
 
 static void check(void) { CALL(plan_check, plan, sizeof plan, &n, &start, &position); }
-static void seal(void) { CALL(plan_seal, words, sizeof words, RULES - 1, plan, sizeof plan, &written, &position); }
+static void seal(void) { CALL(plan_seal, words, sizeof words, first, plan, sizeof plan, &written, &position); }
 static void unseal(void) { CALL(plan_unseal, plan, sizeof plan, words, sizeof words, &n, &start, &position); }
 static void measure(void) { CALL(plan_measure, plan, sizeof plan, work, sizeof work, &trees, &entries, &levels, &position); }
 static void spread(void) { CALL(plan_spread, plan, sizeof plan, work, sizeof work, out, sizeof out, &written, &position); }
@@ -118,6 +119,63 @@ static const struct shape {
     {"nested", nested, 0},
 };
 
+/* The orders of a plan's rules: as they are made, naming lower ones only; backwards, naming higher ones only; any. In two more orders the
+   rule that all others reach, which is made first and comes last backwards, is a pair of itself, and the plan is refused. */
+static void as_made(uint16_t *number) {
+    for (unsigned r = 0; r < RULES; r++) number[r] = (uint16_t)r;
+}
+static void backwards(uint16_t *number) {
+    for (unsigned r = 0; r < RULES; r++) number[r] = (uint16_t)(RULES - 1 - r);
+}
+static void any(uint16_t *number) {
+    as_made(number);
+    for (unsigned r = RULES - 1; r; r--) {
+        unsigned other = below(r + 1);
+        uint16_t kept = number[r];
+        number[r] = number[other], number[other] = kept;
+    }
+}
+
+static const struct order {
+    const char *name;
+    void (*made)(uint16_t *number);
+    int cycle; /* the rule made first reaches itself */
+} orders[] = {
+    {"as made", as_made, 0},
+    {"backwards", backwards, 0},
+    {"in any order", any, 0},
+    {"backwards into a cycle", backwards, 1},
+    {"in any order into a cycle", any, 1},
+};
+
+/* Renumbers the rules; gives the number of the one made first. */
+static uint64_t renumber(const struct order *o) {
+    static uint8_t made[sizeof words];
+    static uint16_t number[RULES];
+    memcpy(made, words, sizeof words);
+    o->made(number);
+    for (unsigned r = 0; r < RULES; r++) {
+        unsigned word[4];
+        for (size_t i = 0; i < 4; i++) word[i] = made[8 * r + 2 * i] | (unsigned)made[8 * r + 2 * i + 1] << 8;
+        int labelled = word[0] == 2 || word[0] == 4;
+        if (word[0] && !labelled) word[1] = number[word[1]];
+        if (word[0]) word[2] = number[word[2]];
+        if (word[0] == 4) word[3] = number[word[3]];
+        rule(number[r], word[0], word[1], word[2], word[3]);
+    }
+    if (o->cycle) rule(number[0], 1, number[0], number[0], 0);
+    first = number[RULES - 1];
+    return number[0];
+}
+
+/* The plan that seal would write of the words, which it doesn't where it refuses. */
+static void lay_out(void) {
+    memcpy(plan, words, sizeof words);
+    unsigned trailer[4] = {RULES, first, 8 * RULES, 0};
+    for (size_t i = 0; i < 4; i++) plan[sizeof words + 2 * i] = (uint8_t)trailer[i], plan[sizeof words + 2 * i + 1] = (uint8_t)(trailer[i] >> 8);
+    memcpy(plan + sizeof words + 8, "mp", 2);
+}
+
 static void build(const struct shape *s) {
     rule(0, 0, 0, 0, 0);
     rule(1, 2, 97, 0, 0);
@@ -130,20 +188,30 @@ static void build(const struct shape *s) {
     memset(cursor, 0, sizeof cursor);
 }
 
+/* Every function on a shape in an order; gives how many went otherwise than they are to. */
+static int tried(const struct shape *s, const struct order *o) {
+    int wrong = 0;
+    build(s);
+    uint64_t lowest = renumber(o);
+    lay_out();
+    for (struct function *f = functions; f < functions + 6; f++) {
+        size_t bytes = used(f->call);
+        if (f->most < bytes) f->most = bytes;
+        int large = (f->call == measure || f->call == spread) && result == MEALPLAN_ROOM;
+        int fine = o->cycle ? result == MEALPLAN_CYCLE && position == lowest : !result || large;
+        if (!fine) printf("%s on %s, %s: %u at %u\n", f->name, s->name, o->name, result, (unsigned)position), wrong++;
+    }
+    if (o->cycle) return wrong;
+    size_t moved = 0;
+    for (size_t i = 0; i < LETTERS; i++) moved += MEALPLAN_ANSWER(answers, i) != MEALPLAN_NOWHERE;
+    printf("%s, %s: %zu of %d letters lead to a node\n", s->name, o->name, moved, LETTERS);
+    return wrong;
+}
+
 int main(void) {
     int failed = 0;
-    for (size_t s = 0; s < sizeof shapes / sizeof *shapes; s++) {
-        build(&shapes[s]);
-        for (struct function *f = functions; f < functions + 6; f++) {
-            size_t bytes = used(f->call);
-            if (f->most < bytes) f->most = bytes;
-            int large = (f->call == measure || f->call == spread) && result == MEALPLAN_ROOM;
-            if (result && !large) printf("%s on %s: refused %u at %u\n", f->name, shapes[s].name, result, (unsigned)position), failed = 1;
-        }
-        size_t moved = 0;
-        for (size_t i = 0; i < LETTERS; i++) moved += MEALPLAN_ANSWER(answers, i) != MEALPLAN_NOWHERE;
-        printf("%s: %zu of %d letters lead to a node\n", shapes[s].name, moved, LETTERS);
-    }
+    for (size_t s = 0; s < sizeof shapes / sizeof *shapes; s++)
+        for (size_t o = 0; o < sizeof orders / sizeof *orders; o++) failed |= tried(&shapes[s], &orders[o]) != 0;
     for (struct function *f = functions; f < functions + 6; f++) {
         int bad = f->bound < f->most || 2 * f->most < f->bound;
         printf("%s: %zu bytes of stack used, %zu stated%s\n", f->name, f->most, f->bound, bad ? ": FAILED" : "");

@@ -46,6 +46,12 @@ holds "the sample" 0 "$(cat crates/stroll/stdout)\n" ./stroll samples/plan.bin a
 cd "$room/folder" || exit 1
 holds "from another folder" 0 'a 99\nz 98\np 97\ns 97\nu -\n' "$root/stroll" "$sample" azpsu
 holds "no letters" 0 '' "$root/stroll" "$sample" ''
+printf '\1\0\1\0\4\0\0\0\3\0\2\0\6\0\0\0\5\0\3\0\3\0\0\0\4\0\143\0\4\0\5\0\1\0\6\0\5\0\0\0\2\0\142\0\7\0\0\0\2\0\141\0\7\0\0\0' >"$room/plan"
+printf '\0\0\0\0\0\0\0\0\10\0\0\0\100\0\0\0mp' >>"$room/plan"
+holds "the sample with its rules in reverse order" 0 "$(cat "$root/crates/stroll/stdout")\n" "$root/stroll" "$room/plan" afnnfnnnnununnn
+printf '\1\0\0\0\0\0\0\0\1\0\0\0\10\0\0\0mp' >"$room/plan"
+holds "rule 0 = pair 0 0" 0 'refused 12 at 0\n' "$root/stroll" "$room/plan" a
+holds "rule 0 = pair 0 0, and 4,097 letters" 0 'refused 12 at 0\n' "$root/stroll" "$room/plan" "$(many 4097 a)"
 holds "a byte that is no letter" 0 'refused 9 at 2\n' "$root/stroll" "$sample" afxn
 holds "a line end among the letters" 0 'refused 9 at 1\n' "$root/stroll" "$sample" $'a\n'
 

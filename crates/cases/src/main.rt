@@ -33,7 +33,7 @@ fn format_cases() {
     seal(b"the sample plan's rules, sealed", b"accepted 74");
     check(b"the sample plan", &sample::bytes(), b"accepted 8 7");
     check(b"10 bytes, right mark, n = 0", &NO_RULES, b"refused 2 at 0");
-    check(b"rule 0 = pair 0 0", &PAIR, b"refused 5 at 0");
+    check(b"rule 0 = pair 0 0", &PAIR, b"refused 12 at 0");
     check_empty(b"n = 1,024", &mut [0u8; 8202], 1024, b"accepted 1024 0");
     check_empty(b"n = 1,025", &mut [0u8; 8210], 1025, b"refused 2 at 0");
     check(b"label 255", &LABEL_255, b"accepted 2 1");

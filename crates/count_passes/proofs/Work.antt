@@ -35,16 +35,16 @@ held {s} {u} {t} {n = n} {start = start} b e =
     let p : Plan mostRules s n start = checked-plan s n start (loads .accepted) in
     let enough : workLength * n ≤ length u = enough-room n u (loads .enough) in
     let long : length (rulesOf s) ≡ n = p .rules in
-    let same-long : length t ≡ length u = loads .within .same-length in
-    let same : (k : ℕ) → k < n → ruleIn t k ≡ rule (rulesOf s) k = loads .rows in
-    let all : firstRules t n ≡ rulesOf s = holds-first (rulesOf s) t n long (loads .rows) in
+    let same-long : length t ≡ length u = loads .arranged .within .same-length in
+    let same : (k : ℕ) → k < n → ruleIn t k ≡ rule (rulesOf s) k = loads .arranged .rows in
+    let all : firstRules t n ≡ rulesOf s = holds-first (rulesOf s) t n long (loads .arranged .rows) in
     let small : start < length (rulesOf s) = p .ends .below in
     record {
       ready =
           record {
             room = omega arith;
             ranged = rw all (p .sound .in-range);
-            order = rw all (loads .order);
+            order = rw all (loads .arranged .order);
           };
       unfolds = record { unfolds = λ r below. rw (same r below) (unfolding-equation (p .sound) r (omega arith)) };
       below = omega arith;

@@ -12,6 +12,8 @@ use lib.ListN.{length, getD, take, drop, replicate}
 use Rattle.words.specs.Number.{number, bytes}
 use Rattle.refusal.specs.declared.Refusal.{Refusal}
 use Rattle.plan.specs.declared.Written.{Written}
+use Rattle.reach.specs.Reaches.{lowestCycle, cycleFrom, reaches, within, anyNamed}
+use Rattle.judge.specs.Judge.{cycleJudged}
 use Rattle.plan.specs.Check.{checked, rulesOf}
 use Rattle.words.specs.Front.{inFront}
 use Rattle.forest.specs.declared.Walked.{Walked}
@@ -22,6 +24,7 @@ use Rattle.forest.specs.Reference.{labelAt, answers, pathAfter}
 use Rattle.forest.specs.Outcome.{enoughWork, workJudged, textRoomed, spreadFrom, spread}
 use Rattle.forest.specs.Walk.{nowhere, cursorWords, enoughLent, andLetters, lettersOf, otherAt, firstOther, cellAt, cellsIn, usedCells, headed, sameCell, sameCells, firstOf, nodeWith, pathOf, stored, placeJudged, lettersJudged, begunFrom, begun, walked, cellsOf, placeAt, cellBytes, cellsBytes, padded, storedCursor, cursorAfter, answerWord, answersBytes, answersAfter, walkedWork}
 use Rattle.forest.specs.Sample.{sample}
+use Rattle.forest.proofs.Starred.{starred}
 use Rattle.demand.specs.Calls.{Lent, Left, Walk, Call, walkOf, lent, lefts, cursorAfterCalls}
 use Rattle.demand.specs.Demand.{turnedDown, isNone, isRefused, fingerPath, fingerAnswers, answerWords, walkAnswers, Above, someAccepted, ClearPast, SameButSixteen, laterWords, Meets, Demand3}
 
@@ -94,8 +97,8 @@ first = replicate 288 0
 
 -- what demand 3 says of that call
 said : (w : Walk) → Demand3 w → Meets 8 (forest (rulesOf sample) 7) (placedForest (rulesOf sample) 7) (turnedDown 8 first) (call ∷ []) (lefts w sample first (call ∷ [])) first (cursorAfterCalls w sample first (call ∷ [])) (fingerPath (forest (rulesOf sample) 7) (turnedDown 8 first) (call ∷ []) [])
-unfolding Demand3 checked Above cellAt number first
-said w d = d sample 8 7 first (call ∷ []) refl refl
+unfolding Demand3 Above cellAt number first
+said w d = d sample 8 7 first (call ∷ []) (starred .accepted) refl
 
 -- what demand 3 would say of another form of cells, with no call made
 pub Formed : Forest Placed → Type 0
@@ -132,7 +135,7 @@ pub record Worthless : Type 0 where
   pub room-first : roomFirst ≢ spread
 
 pub worthless : Worthless
-unfolding Formed alikeCells relabel firstCells isRoot SameButSixteen repeats ownCount stays says refuses spoils wrongCell junkPast laterWord roomFirst weigh text workJudged textRoomed spreadFrom spread someAccepted ClearPast laterWords cursorAfterCalls other alike firstOnly call first walkOf lent lefts fingerPath fingerAnswers walkAnswers answerWords isRefused turnedDown isNone checked rulesOf number bytes inFront forest placedForest letterOf labelAt answers pathAfter enoughWork cursorWords enoughLent andLetters lettersOf otherAt firstOther cellAt cellsIn usedCells headed sameCell sameCells firstOf nodeWith pathOf stored placeJudged lettersJudged begunFrom begun walked cellsOf placeAt cellBytes cellsBytes padded storedCursor cursorAfter answerWord answersBytes answersAfter walkedWork
+unfolding Formed alikeCells relabel firstCells isRoot SameButSixteen repeats ownCount stays says refuses spoils wrongCell junkPast laterWord roomFirst weigh text workJudged textRoomed spreadFrom spread someAccepted ClearPast laterWords cursorAfterCalls other alike firstOnly call first walkOf lent lefts fingerPath fingerAnswers walkAnswers answerWords isRefused turnedDown isNone checked lowestCycle cycleFrom reaches within anyNamed cycleJudged rulesOf number bytes inFront forest placedForest letterOf labelAt answers pathAfter enoughWork cursorWords enoughLent andLetters lettersOf otherAt firstOther cellAt cellsIn usedCells headed sameCell sameCells firstOf nodeWith pathOf stored placeJudged lettersJudged begunFrom begun walked cellsOf placeAt cellBytes cellsBytes padded storedCursor cursorAfter answerWord answersBytes answersAfter walkedWork
 worthless =
     record {
       first-repeated = λ d. let e : _≡_ {A = ℕ} 99 97 = ap (λ (l : List ℕ). getD l 1 0) (said repeats d .answered) in omega arith;

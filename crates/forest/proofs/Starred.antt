@@ -13,6 +13,8 @@ use Rattle.plan.specs.declared.Checked.{Checked}
 use Rattle.plan.specs.declared.Written.{Written}
 use Rattle.rule.specs.Rule.{encode}
 use Rattle.refusal.specs.Refusal.{numberOf, positionOf}
+use Rattle.reach.specs.Reaches.{lowestCycle, cycleFrom, reaches, within, anyNamed}
+use Rattle.judge.specs.Judge.{cycleJudged}
 use Rattle.plan.specs.Check.{checked, rulesOf, planBytes}
 use Rattle.words.specs.Front.{inFront}
 use Rattle.forest.specs.declared.Measured.{Measured}
@@ -100,11 +102,11 @@ pub record Starred : Type 0 where
   pub empty : answered (plan (Rule.Empty ∷ []) 0) (first ∷ last ∷ []) ≡ answersBytes (nowhere ∷ nowhere ∷ [])
   -- ★ 10 bytes, right mark, n = 0: 2
   pub no-rules : checked (0 ∷ 0 ∷ 0 ∷ 0 ∷ 0 ∷ 0 ∷ 0 ∷ 0 ∷ 109 ∷ 112 ∷ []) ≡ Checked.Refused Refusal.Count
-  -- ★ rule 0 = pair 0 0: 5 at 0
-  pub own-name : checked (plan (Rule.Pair 0 0 ∷ []) 0) ≡ Checked.Refused (Refusal.NotLower 0)
+  -- ★ rule 0 = pair 0 0: 12 at 0 since Note 1
+  pub own-name : checked (plan (Rule.Pair 0 0 ∷ []) 0) ≡ Checked.Refused (Refusal.Cycle 0)
   -- the numbers and positions of these
-  pub numbers : map numberOf (Refusal.Count ∷ Refusal.NotLower 0 ∷ Refusal.Room ∷ []) ≡ 2 ∷ 5 ∷ 11 ∷ []
-  pub positions : map positionOf (Refusal.Count ∷ Refusal.NotLower 0 ∷ Refusal.Room ∷ []) ≡ 0 ∷ 0 ∷ 0 ∷ []
+  pub numbers : map numberOf (Refusal.Count ∷ Refusal.Cycle 0 ∷ Refusal.Room ∷ []) ≡ 2 ∷ 12 ∷ 11 ∷ []
+  pub positions : map positionOf (Refusal.Count ∷ Refusal.Cycle 0 ∷ Refusal.Room ∷ []) ≡ 0 ∷ 0 ∷ 0 ∷ []
   -- check accepts the sample with n = 8, start 7
   pub accepted : checked sample ≡ Checked.Accepted 8 7
   -- a run of three left steps is one cell; a run that turns is two
@@ -122,7 +124,7 @@ pub record Starred : Type 0 where
   pub continued : cellsAfter (chain 6) (first ∷ child ∷ child ∷ []) ≡ (1, 0, 6, 0) ∷ (2, 6, 0, 0) ∷ (4, 5, 2, 0) ∷ (2, 4, 0, 0) ∷ []
 
 pub starred : Starred
-unfolding planBytes encode rulesOf checked bytes number spread spreadOutput measured enoughWork inFront letterOf labelAt answers pathAfter placedForest forest cursorWords enoughLent andLetters lettersOf otherAt firstOther cellAt cellsIn usedCells headed sameCell sameCells firstOf nodeWith pathOf stored placeJudged lettersJudged begunFrom begun walked cellsOf placeAt cellBytes cellsBytes padded storedCursor cursorAfter answerWord answersBytes answersAfter walkedWork
+unfolding planBytes encode rulesOf checked lowestCycle cycleFrom reaches within anyNamed cycleJudged bytes number spread spreadOutput measured enoughWork inFront letterOf labelAt answers pathAfter placedForest forest cursorWords enoughLent andLetters lettersOf otherAt firstOther cellAt cellsIn usedCells headed sameCell sameCells firstOf nodeWith pathOf stored placeJudged lettersJudged begunFrom begun walked cellsOf placeAt cellBytes cellsBytes padded storedCursor cursorAfter answerWord answersBytes answersAfter walkedWork
 starred =
     record {
       answers = refl;

@@ -1,8 +1,10 @@
 -- What records have that are judged fine. The judgement is the last of a row of tests, so each of them passed: each record decodes, names
--- lower rules and has the right sorts, and so the rules are sound. Assumes nothing.
+-- rules in range and has the right sorts, and no rule reaches itself, so the rules are sound, a rule's rank being the number of rules that
+-- it reaches. Assumes nothing.
 use Prim.Native.Nat.{ℕ, zero, suc, _+_, _≤_, _<_}
 use mathlib.Core.Bool.{Bool, true, false, cond, _&&_, and-eq-true-iff}
 use mathlib.Core.List.{List}
+use mathlib.Core.Option.{Option, none, some}
 use mathlib.Core.Path.{_≡_, refl, sym, subst}
 use mathlib.Core.Logic.{⊎-elim}
 use native.Mathlib.Nat.{eq-or-lt-of-le}
@@ -16,21 +18,26 @@ use Rattle.rule.specs.declared.Decoded.{Decoded}
 use Rattle.rule.specs.Rule.{decode, every, sorts, closed, rulesIn}
 use Rattle.record.specs.Records.{recordIn, kindAt}
 use Rattle.rule.specs.Sound.{Sound, Closed}
-use Rattle.rule.proofs.Rules.{Named, length-rulesIn, kinds, named-sound}
+use Rattle.rule.proofs.Rules.{Named, length-rulesIn, kinds, named-ranged, named-sound}
+use Rattle.reach.specs.Reaches.{lowestCycle}
+use Rattle.reach.specs.Order.{Ranged, Acyclic, rank}
+use Rattle.reach.proofs.Acyclic.{rank-falls, rank-below}
+use Rattle.reach.proofs.Lowest.{lowest-none}
 use Rattle.judge.specs.declared.Judged.{Judged}
-use Rattle.judge.specs.Judge.{namesJudged, ruleJudged, andThen, rulesJudged, startJudged, judged}
+use Rattle.judge.specs.Judge.{namesJudged, ruleJudged, andThen, rulesJudged, cycleJudged, startJudged, judged}
+use Rattle.judge.specs.Tested.{Passed}
 
 -- ---- tests that passed
-fine-passed : (b : Bool) (x : Judged) (e : Refusal) → cond b x (Judged.Refused e) ≡ Judged.Fine → (b ≡ true) × (x ≡ Judged.Fine)
+pub fine-passed : (b : Bool) (x : Judged) (e : Refusal) → cond b x (Judged.Refused e) ≡ Judged.Fine → (b ≡ true) × (x ≡ Judged.Fine)
 fine-passed true x e h = (refl, h)
 fine-passed false x e h = let z : _≡_ {A = ℕ} 0 1 = cc in absurd (omega arith)
 
-andThen-fine : (a b : Judged) → andThen a b ≡ Judged.Fine → (a ≡ Judged.Fine) × (b ≡ Judged.Fine)
+pub andThen-fine : (a b : Judged) → andThen a b ≡ Judged.Fine → (a ≡ Judged.Fine) × (b ≡ Judged.Fine)
 unfolding andThen
 andThen-fine Judged.Fine b h = (refl, h)
 andThen-fine (Judged.Refused e) b h = let z : _≡_ {A = ℕ} 0 1 = cc in absurd (omega arith)
 
-is-test : {b : Bool} → b ≡ true → T b
+pub is-test : {b : Bool} → b ≡ true → T b
 is-test e = subst T (sym e) tt
 
 -- the judgement of each rule
@@ -38,9 +45,9 @@ named : (ws : List Record) (i : ℕ) (d : Decoded) → namesJudged ws i d ≡ Ju
 unfolding namesJudged
 named ws i Decoded.Malformed h = let z : _≡_ {A = ℕ} 0 1 = cc in absurd (omega arith)
 named ws i (Decoded.Whole r) h =
-    let p = fine-passed (every (λ x. ltb x i) r) (cond (sorts (kindAt ws) r) Judged.Fine (Judged.Refused (Refusal.WrongSort i))) (Refusal.NotLower i) h in
+    let p = fine-passed (every (λ x. ltb x (length ws)) r) (cond (sorts (kindAt ws) r) Judged.Fine (Judged.Refused (Refusal.WrongSort i))) (Refusal.NoRule i) h in
     let q = fine-passed (sorts (kindAt ws) r) Judged.Fine (Refusal.WrongSort i) (p .1) in
-    record { means = r; decodes = refl; lower = is-test (p .0); sorted = is-test (q .0) }
+    record { means = r; decodes = refl; ranged = is-test (p .0); sorted = is-test (q .0) }
 
 -- m rules from i on, and what follows them
 rules-fine : (ws : List Record) (last : Judged) (m i : ℕ)
@@ -56,7 +63,9 @@ rules-fine ws last (suc m) i h =
 -- ---- what passed
 pub record Fit (ws : List Record) (start : ℕ) : Type 0 where
   pub each : (i : ℕ) → i < length ws → Named ws i (decode (recordIn ws i))
-  pub sound : Sound (rulesIn ws) (λ r. r)
+  pub ranged : Ranged (rulesIn ws)
+  pub acyclic : Acyclic (rulesIn ws)
+  pub sound : Sound (rulesIn ws) (rank (rulesIn ws))
   pub ends : Closed (rulesIn ws) start
 
 fit-start : (ws : List Record) (start : ℕ) → ((i : ℕ) → i < length ws → Named ws i (decode (recordIn ws i))) → startJudged ws start ≡ Judged.Fine → Closed (rulesIn ws) start
@@ -69,9 +78,31 @@ fit-start ws start each h =
       closed-kind = rw (← kinds ws each) (is-test (q .1));
     }
 
+-- rules that pass 4 to 6
+pub passed-each : (ws : List Record) → Passed ws → (i : ℕ) → i < length ws → Named ws i (decode (recordIn ws i))
+unfolding ruleJudged
+passed-each ws h i l = named ws i (decode (recordIn ws i)) (rules-fine ws Judged.Fine (length ws) 0 (h Judged.Fine) .0 i (omega arith) (omega arith))
+
+pub passed-ranged : (ws : List Record) → Passed ws → Ranged (rulesIn ws)
+passed-ranged ws h = named-ranged ws (passed-each ws h)
+
+cycle-fine : (x : Option ℕ) (later : Judged) → cycleJudged x later ≡ Judged.Fine → (x ≡ none) × (later ≡ Judged.Fine)
+unfolding cycleJudged
+cycle-fine none later h = (refl, h)
+cycle-fine (some r) later h = let z : _≡_ {A = ℕ} 0 1 = cc in absurd (omega arith)
+
 pub fine-fit : (ws : List Record) (start : ℕ) → judged ws start ≡ Judged.Fine → Fit ws start
 unfolding judged ruleJudged
 fine-fit ws start h =
-    let p = rules-fine ws (startJudged ws start) (length ws) 0 h in
+    let p = rules-fine ws (cycleJudged (lowestCycle (rulesIn ws)) (startJudged ws start)) (length ws) 0 h in
     let each : (i : ℕ) → i < length ws → Named ws i (decode (recordIn ws i)) = λ i l. named ws i (decode (recordIn ws i)) (p .0 i (omega arith) (omega arith)) in
-    record { each = each; sound = named-sound ws each; ends = fit-start ws start each (p .1) }
+    let q = cycle-fine (lowestCycle (rulesIn ws)) (startJudged ws start) (p .1) in
+    let ranged : Ranged (rulesIn ws) = named-ranged ws each in
+    let acyclic : Acyclic (rulesIn ws) = lowest-none (rulesIn ws) ranged .0 (q .0) in
+    record {
+      each = each;
+      ranged = ranged;
+      acyclic = acyclic;
+      sound = named-sound ws each (rank (rulesIn ws)) (rank-falls (rulesIn ws) ranged acyclic) (rank-below (rulesIn ws) ranged acyclic);
+      ends = fit-start ws start each (q .1);
+    }

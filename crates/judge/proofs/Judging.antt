@@ -19,7 +19,7 @@ use Rattle.record.proofs.Records.{records-at, records-length}
 use Rattle.judge.specs.declared.Judged.{Judged}
 use Rattle.judge.specs.declared.Tested.{Tested}
 use Rattle.judge.specs.Tested.{verdict, testedOf, tested}
-use Rattle.judge.specs.Judge.{namesJudged, ruleJudged, rulesJudged, andThen, startJudged, nameBound}
+use Rattle.judge.specs.Judge.{namesJudged, ruleJudged, rulesJudged, andThen, startJudged}
 
 -- a rule's record, as it is read
 pub record-read : (s : List ℕ) (first n i : ℕ) {w : Record} → i < n → w ≡ recordAt s (first + recordLength * i) → w ≡ recordIn (recordsFrom s first n) i
@@ -27,15 +27,15 @@ record-read s first n i below read = read ∙ sym (records-at s first n i below)
 
 -- the test of one rule, by what its record means
 tested-whole : (ws : List Record) (i : ℕ) (b : Bool) (r : Rule)
-    → testedOf ws i (whole b r) ≡ verdict i b (every (λ x. ltb x (nameBound (length ws) i)) r) (sorts (kindAt ws) r) (every (λ x. ltb x i) r)
+    → testedOf ws i (whole b r) ≡ verdict i b (every (λ x. ltb x (length ws)) r) (sorts (kindAt ws) r) (every (λ x. ltb x i) r)
 unfolding testedOf verdict whole
 tested-whole ws i true r = refl
 tested-whole ws i false r = refl
 
 pub tested-as : (ws : List Record) (i n : ℕ) {w : Record} (b : Bool) (r : Rule) → length ws ≡ n → w ≡ recordIn ws i → decode w ≡ whole b r
-    → tested ws i ≡ verdict i b (every (λ x. ltb x (nameBound n i)) r) (sorts (kindAt ws) r) (every (λ x. ltb x i) r)
+    → tested ws i ≡ verdict i b (every (λ x. ltb x n) r) (sorts (kindAt ws) r) (every (λ x. ltb x i) r)
 tested-as ws i n {w} b r long read means = ap (λ (v : Record). testedOf ws i (decode v)) (sym read) ∙ ap (testedOf ws i) means ∙ tested-whole ws i b r
-    ∙ ap (λ (m : ℕ). verdict i b (every (λ x. ltb x (nameBound m i)) r) (sorts (kindAt ws) r) (every (λ x. ltb x i) r)) long
+    ∙ ap (λ (m : ℕ). verdict i b (every (λ x. ltb x m) r) (sorts (kindAt ws) r) (every (λ x. ltb x i) r)) long
 
 pub tested-none : (ws : List Record) (i : ℕ) {w : Record} → w ≡ recordIn ws i → decode w ≡ Decoded.Malformed → tested ws i ≡ Tested.Refused (Refusal.Malformed i)
 unfolding testedOf
@@ -48,7 +48,7 @@ judged-as Tested.Mixed = Judged.Fine
 judged-as (Tested.Refused r) = Judged.Refused r
 
 verdict-judged : (i : ℕ) (a b l : Bool)
-    → judged-as (verdict i true a b l) ≡ cond a (cond b Judged.Fine (Judged.Refused (Refusal.WrongSort i))) (Judged.Refused (Refusal.NotLower i))
+    → judged-as (verdict i true a b l) ≡ cond a (cond b Judged.Fine (Judged.Refused (Refusal.WrongSort i))) (Judged.Refused (Refusal.NoRule i))
 unfolding judged-as verdict
 verdict-judged i true true true = refl
 verdict-judged i true true false = refl
@@ -58,7 +58,7 @@ verdict-judged i false b l = refl
 names-judged : (ws : List Record) (i : ℕ) (d : Decoded) → judged-as (testedOf ws i d) ≡ namesJudged ws i d
 unfolding judged-as testedOf namesJudged
 names-judged ws i Decoded.Malformed = refl
-names-judged ws i (Decoded.Whole r) = verdict-judged i (every (λ x. ltb x (nameBound (length ws) i)) r) (sorts (kindAt ws) r) (every (λ x. ltb x i) r)
+names-judged ws i (Decoded.Whole r) = verdict-judged i (every (λ x. ltb x (length ws)) r) (sorts (kindAt ws) r) (every (λ x. ltb x i) r)
 
 rule-tested : (ws : List Record) (i : ℕ) {t : Tested} → t ≡ tested ws i → ruleJudged ws i ≡ judged-as t
 unfolding ruleJudged

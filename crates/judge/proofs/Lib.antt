@@ -1,3 +1,6 @@
 pub mod Judging
 pub mod Testing
 pub mod Fit
+pub mod Cycles
+pub mod Searching
+pub mod Before

@@ -19,7 +19,7 @@ use Rattle.rule.proofs.Rules.{length-rulesIn, rule-decoded}
 use Rattle.judge.specs.declared.Judged.{Judged}
 use Rattle.judge.specs.declared.Tested.{Tested}
 use Rattle.judge.specs.declared.Rules.{Rules}
-use Rattle.judge.specs.Judge.{rulesJudged, nameBound}
+use Rattle.judge.specs.Judge.{rulesJudged}
 use Rattle.judge.specs.Tested.{verdict, testedOf, tested, Passed, Tells}
 use Rattle.judge.proofs.Judging.{fine-lower, fine-mixed, not-fine, rules-fine, rules-refused, rules-none}
 
@@ -41,7 +41,7 @@ unfolding isLower testedOf
 names-lower ws i Decoded.Malformed e h = absurd (false≢true h)
 names-lower ws i (Decoded.Whole r) e h =
     rw (rule-decoded ws i r (sym e))
-    (subst T (sym (verdict-lower i (every (λ x. ltb x (nameBound (length ws) i)) r) (sorts (kindAt ws) r) (every (λ x. ltb x i) r) h)) tt)
+    (subst T (sym (verdict-lower i (every (λ x. ltb x (length ws)) r) (sorts (kindAt ws) r) (every (λ x. ltb x i) r) h)) tt)
 
 told-lower : (ws : List Record) (i : ℕ) → Tested.Lower ≡ tested ws i → T (every (λ x. ltb x i) (rule (rulesIn ws) i))
 unfolding isLower

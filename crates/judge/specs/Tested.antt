@@ -14,7 +14,11 @@ use Rattle.reach.specs.Order.{Lower}
 use Rattle.judge.specs.declared.Judged.{Judged}
 use Rattle.judge.specs.declared.Tested.{Tested}
 use Rattle.judge.specs.declared.Rules.{Rules}
-use Rattle.judge.specs.Judge.{nameBound, rulesJudged}
+use Rattle.judge.specs.Judge.{rulesJudged}
+
+-- the most rules that a search for a rule that reaches itself has room for
+abbrev pub mostSearched : ℕ
+mostSearched = 1024
 
 -- the first of 4, 5 and 6 whose test failed; else whether the rule names only lower ones
 unfoldable pub verdict : ℕ → Bool → Bool → Bool → Bool → Tested
@@ -22,13 +26,13 @@ verdict i formed ranged sorted lower =
     cond formed
     (cond ranged
     (cond sorted (cond lower Tested.Lower Tested.Mixed) (Tested.Refused (Refusal.WrongSort i)))
-    (Tested.Refused (Refusal.NotLower i)))
+    (Tested.Refused (Refusal.NoRule i)))
     (Tested.Refused (Refusal.Malformed i))
 
 -- the test of rule i, from what its record means
 unfoldable pub testedOf : List Record → ℕ → Decoded → Tested
 testedOf ws i Decoded.Malformed = Tested.Refused (Refusal.Malformed i)
-testedOf ws i (Decoded.Whole r) = verdict i true (every (λ x. ltb x (nameBound (length ws) i)) r) (sorts (kindAt ws) r) (every (λ x. ltb x i) r)
+testedOf ws i (Decoded.Whole r) = verdict i true (every (λ x. ltb x (length ws)) r) (sorts (kindAt ws) r) (every (λ x. ltb x i) r)
 
 abbrev pub tested : List Record → ℕ → Tested
 tested ws i = testedOf ws i (decode (recordIn ws i))

@@ -1,4 +1,4 @@
-// The test of a plan's rules (document 01, "Check", refusals 4 to 7), which check and seal share.
+// The test of a plan's rules (document 01, "Check", refusals 4 to 7, and document 02, Note 1, refusal 12), which check and seal share.
 use record::Record;
 use refusal::Refusal;
 use rule::Rule;
@@ -6,10 +6,11 @@ ghost use mathlib.Core.Path.{_≡_};
 ghost use Prim.Native.Nat.{_+_, _*_, _≤_, _<_};
 ghost use lib.ListN.{length};
 ghost use Rattle.record.specs.Record.{recordLength};
-ghost use Rattle.rule.specs.Rule.{kindEmpty, kindPair, kindNode, closed, holed, tree};
+ghost use Rattle.rule.specs.Rule.{kindEmpty, kindPair, kindNode, closed, holed, tree, rulesIn};
 ghost use Rattle.record.specs.Records.{recordsFrom, recordIn, kindAt};
-ghost use Rattle.judge.specs.Judge.{startJudged, judged};
-ghost use Rattle.judge.specs.Tested.{verdict, tested, Tells};
+ghost use Rattle.reach.specs.Reaches.{lowestCycle};
+ghost use Rattle.judge.specs.Judge.{cycleJudged, startJudged, judged};
+ghost use Rattle.judge.specs.Tested.{mostSearched, verdict, tested, Passed, Tells};
 
 // What a test of rules comes to.
 pub enum Judged {
@@ -77,7 +78,7 @@ fn verdict(i: u16, formed: bool, ranged: bool, sorted: bool, lower: bool) -> Tes
         return Tested::Refused(Refusal::Malformed(number));
     }
     if !ranged {
-        return Tested::Refused(Refusal::NotLower(number));
+        return Tested::Refused(Refusal::NoRule(number));
     }
     if !sorted {
         return Tested::Refused(Refusal::WrongSort(number));
@@ -95,12 +96,11 @@ fn test_rule(s: &[u8], first: usize, n: u16, i: u16) -> Tested
     let one = w.one;
     let two = w.two;
     let unused = w.three == Record::UNUSED;
-    let bound = i;
     if kind == Rule::PAIR {
         return verdict(
             i,
             unused,
-            (one < bound) & (two < bound),
+            (one < n) & (two < n),
             closed_at(s, first, n, one) & closed_at(s, first, n, two),
             (one < i) & (two < i),
         );
@@ -109,7 +109,7 @@ fn test_rule(s: &[u8], first: usize, n: u16, i: u16) -> Tested
         return verdict(
             i,
             (one as u32 <= Rule::LARGEST_LABEL) & unused,
-            two < bound,
+            two < n,
             closed_at(s, first, n, two),
             two < i,
         );
@@ -140,12 +140,11 @@ fn test_filled(s: &[u8], first: usize, n: u16, i: u16, w: Record) -> Tested
     let one = w.one;
     let two = w.two;
     let three = w.three;
-    let bound = i;
     if kind == Rule::FILL {
         return verdict(
             i,
             three == Record::UNUSED,
-            (one < bound) & (two < bound),
+            (one < n) & (two < n),
             holed_at(s, first, n, one) & tree_at(s, first, n, two),
             (one < i) & (two < i),
         );
@@ -154,7 +153,7 @@ fn test_filled(s: &[u8], first: usize, n: u16, i: u16, w: Record) -> Tested
         return verdict(
             i,
             one as u32 <= Rule::LARGEST_LABEL,
-            (two < bound) & (three < bound),
+            (two < n) & (three < n),
             closed_at(s, first, n, two) & closed_at(s, first, n, three),
             (two < i) & (three < i),
         );
@@ -163,7 +162,7 @@ fn test_filled(s: &[u8], first: usize, n: u16, i: u16, w: Record) -> Tested
         return verdict(
             i,
             three == Record::UNUSED,
-            (one < bound) & (two < bound),
+            (one < n) & (two < n),
             holed_at(s, first, n, one) & holed_at(s, first, n, two),
             (one < i) & (two < i),
         );
@@ -205,14 +204,34 @@ fn judge_start(s: &[u8], first: usize, n: u16, start: u16) -> Judged
     Judged::Fine
 }
 
-// Refusals 4 to 7 of n rules whose records begin at first: rules from 0 up, then the start.
+// The most rules that a search here has room for.
+const MOST_SEARCHED: usize = 1024;
+
+// Refusal 12 and then 7, of rules that pass 4 to 6: they are searched for an order in which each stands after those that it names.
+fn judge_cycles(s: &[u8], first: usize, n: u16, start: u16) -> Judged
+    requires { ⌜ (first + recordLength * n ≤ length (now s))
+        × (n ≤ mostSearched)
+        × Passed (recordsFrom (now s) first n) ⌝ }
+    ensures { λ r.
+        let ws = recordsFrom (now (s .entry)) first n in
+        ⌜ r ≡ cycleJudged (lowestCycle (rulesIn ws)) (startJudged ws start) ⌝ }
+{
+    let mut room = [0u8; 4 * MOST_SEARCHED];
+    if reach_order::order(s, first, n, &mut room) {
+        return judge_start(s, first, n, start);
+    }
+    let lowest = reach_order::lowest(s, first, n, &mut room);
+    Judged::Refused(Refusal::Cycle(lowest as usize))
+}
+
+// Refusals 4 to 7 and 12 of n rules whose records begin at first: rules from 0 up, then one that reaches itself, then the start.
 pub fn judge(s: &[u8], first: usize, n: u16, start: u16) -> Judged
-    requires { ⌜ first + recordLength * n ≤ length (now s) ⌝ }
+    requires { ⌜ (first + recordLength * n ≤ length (now s)) × (n ≤ mostSearched) ⌝ }
     ensures { λ r. ⌜ r ≡ judged (recordsFrom (now (s .entry)) first n) start ⌝ }
 {
     match test_rules(s, first, n) {
         Rules::Lower => judge_start(s, first, n, start),
-        Rules::Mixed => judge_start(s, first, n, start),
+        Rules::Mixed => judge_cycles(s, first, n, start),
         Rules::Refused(refusal) => Judged::Refused(refusal),
     }
 }

@@ -32,5 +32,5 @@ module _ {s work t : List ℕ} {x : Checked} (b : Prepared s work t x) where
       let h : Held s n start t = held b e in
       let l : Loads s work t n start = b .loaded n start e in (
         a .answer (expression (rulesOf s)) (h .unfolds) (h .closed) ∙ ap (measuredFrom (rulesOf s)) (sym e ∙ b .answer),
-        p ∙ work-cleared (λ k. enoughWork k work) s work n start (l .accepted) (l .enough) u (within-both (l .within) (beyond-work n (a .beyond))),
+        p ∙ work-cleared (λ k. enoughWork k work) s work n start (l .accepted) (l .enough) u (within-both (l .arranged .within) (beyond-work n (a .beyond))),
       )

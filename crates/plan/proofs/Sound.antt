@@ -18,6 +18,7 @@ use Rattle.record.specs.Records.{recordsFrom, recordIn}
 use Rattle.rule.specs.Sound.{rule, Sound, Closed}
 use Rattle.record.proofs.Records.{records-length, records-at}
 use Rattle.rule.proofs.Rules.{length-rulesIn, rule-decoded}
+use Rattle.reach.specs.Order.{Ranged, Acyclic, rank}
 use Rattle.judge.specs.declared.Judged.{Judged}
 use Rattle.judge.specs.Judge.{judged}
 use Rattle.judge.proofs.Fit.{fine-fit}
@@ -66,7 +67,9 @@ pub record Plan (most : ℕ) (s : List ℕ) (n start : ℕ) : Type 0 where
   pub fine : judged (recordsOf s) start ≡ Judged.Fine
   pub records : length (recordsOf s) ≡ n
   pub rules : length (rulesOf s) ≡ n
-  pub sound : Sound (rulesOf s) (λ r. r)
+  pub ranged : Ranged (rulesOf s)
+  pub acyclic : Acyclic (rulesOf s)
+  pub sound : Sound (rulesOf s) (rank (rulesOf s))
   pub ends : Closed (rulesOf s) start
 
 pub accepted-plan : (most : ℕ) (s : List ℕ) (n start : ℕ) → checkedUpTo most s ≡ Checked.Accepted n start → Plan most s n start
@@ -94,6 +97,8 @@ accepted-plan most s n start h =
       fine = f;
       records = l;
       rules = length-rulesIn (recordsOf s) ∙ l;
+      ranged = fit .ranged;
+      acyclic = fit .acyclic;
       sound = fit .sound;
       ends = fit .ends;
     }

@@ -2,8 +2,10 @@
 -- name only lower ones stand in the order of their numbers. Assumes nothing.
 use Prim.Native.Nat.{ℕ, zero, suc, _+_, _<_}
 use mathlib.Core.List.{List}
+use mathlib.Core.Bool.{Bool, true, false, _&&_, and-eq-true-iff}
 use mathlib.Core.Option.{none}
 use mathlib.Core.Path.{_≡_, refl, ap, _∙_}
+use native.Mathlib.Decide.{decLt}
 use native.Mathlib.Omega.{arith}
 use lib.Dec.{T, ltb, ltb→lt, lt→ltb}
 use lib.ListN.{length, getD}
@@ -13,7 +15,7 @@ use Rattle.rule.specs.Names.{Names}
 use Rattle.rule.specs.Sound.{rule}
 use Rattle.rule.proofs.Names.{every-named}
 use Rattle.reach.specs.Reaches.{lowestCycle}
-use Rattle.reach.specs.Order.{Ranged, Lower, Acyclic, Orders, numbersFrom}
+use Rattle.reach.specs.Order.{Ranged, Lower, lowerBelow, Acyclic, Orders, numbersFrom}
 use Rattle.reach.proofs.Named.{named-every, names-below}
 use Rattle.reach.proofs.Acyclic.{falls-acyclic}
 use Rattle.reach.proofs.Lowest.{lowest-none}
@@ -68,3 +70,40 @@ module _ (R : List Rule) (lower : Lower R) where
 
   pub lower-none : lowestCycle R ≡ none
   lower-none = lowest-none R lower-ranged .1 lower-acyclic
+
+holds : {b : Bool} → b ≡ true → T b
+holds e = rw e tt
+
+is-true : (b : Bool) → T b → b ≡ true
+is-true true t = refl
+is-true false t = absurd t
+
+pub lower-none-below : (R : List Rule) → true ≡ lowerBelow R 0
+unfolding lowerBelow
+lower-none-below R = refl
+
+pub lower-one-more : (R : List Rule) (i : ℕ) {a b : Bool} → a ≡ lowerBelow R i → b ≡ every (λ x. ltb x i) (rule R i) → (a && b) ≡ lowerBelow R (i + 1)
+unfolding lowerBelow
+lower-one-more R i p q = let e : i + 1 ≡ suc i = omega arith in rw (e, p, q)
+
+-- the test of the rules below i says that each names only lower ones; so the test of all says it of all, and so exactly
+below-lower : (R : List Rule) (i : ℕ) → lowerBelow R i ≡ true → (r : ℕ) → r < i → T (every (λ x. ltb x r) (rule R r))
+unfolding lowerBelow
+below-lower R zero e r l = absurd (omega (arith, l))
+below-lower R (suc i) e r l =
+    let (before, own) = and-eq-true-iff (lowerBelow R i) (every (λ x. ltb x i) (rule R i)) .0 e in
+    elim (decLt r i) as (λ (d : Dec (r < i)). T (every (λ x. ltb x r) (rule R r))) [
+      | yes under ↦ below-lower R i before r under
+      | no over ↦ let q : r ≡ i = omega (arith, l, over) in rw q (holds own)
+    ]
+
+pub lower-test : (R : List Rule) → lowerBelow R (length R) ≡ true → Lower R
+lower-test R e r l = below-lower R (length R) e r l
+
+lower-below : (R : List Rule) (i : ℕ) → ((r : ℕ) → r < i → T (every (λ x. ltb x r) (rule R r))) → lowerBelow R i ≡ true
+unfolding lowerBelow
+lower-below R zero h = refl
+lower-below R (suc i) h = rw (lower-below R i (λ r l. h r (omega (arith, l))), is-true (every (λ x. ltb x i) (rule R i)) (h i (omega arith)))
+
+pub test-lower : (R : List Rule) → Lower R → lowerBelow R (length R) ≡ true
+test-lower R lower = lower-below R (length R) lower

@@ -1,6 +1,6 @@
 -- An order of the rules in which each stands after those that it names.
 use Prim.Native.Nat.{ℕ, zero, suc, _<_}
-use mathlib.Core.Bool.{Bool, cond}
+use mathlib.Core.Bool.{Bool, true, cond, _&&_}
 use mathlib.Core.Path.{_≡_}
 use mathlib.Core.List.{List, [], _∷_}
 use lib.ListN.{length, getD}
@@ -18,6 +18,11 @@ Ranged R = (r : ℕ) → r < length R → T (every (λ x. ltb x (length R)) (rul
 -- every rule names only lower ones
 abbrev pub Lower : List Rule → Type 0
 Lower R = (r : ℕ) → r < length R → T (every (λ x. ltb x r) (rule R r))
+
+-- the same as a test, of the rules below i
+unfoldable pub lowerBelow : List Rule → ℕ → Bool
+lowerBelow R zero = true
+lowerBelow R (suc i) = lowerBelow R i && every (λ x. ltb x i) (rule R i)
 
 -- no rule reaches itself
 abbrev pub Acyclic : List Rule → Type 0

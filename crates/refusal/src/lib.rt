@@ -2,23 +2,24 @@
 ghost use mathlib.Core.Path.{_≡_};
 ghost use Rattle.refusal.specs.Refusal.{numberOf, positionOf};
 
-// Why an operation turns its input down; specs/Refusal.antt gives document 01's number and position of each.
+// Why an operation turns its input down; specs/Refusal.antt gives the number and position that documents 01 and 02 have for each.
 pub enum Refusal {
     Magic,
     Count,
     Distance,
     Malformed(usize),
-    NotLower(usize),
+    NoRule(usize),
     WrongSort(usize),
     Start,
     Lent,
     Letter(usize),
     Place,
     Room,
+    Cycle(usize),
 }
 
 impl Refusal {
-    // Document 01's number.
+    // The documents' number.
     pub fn number(self) -> u32
         ensures { λ r. ⌜ r ≡ numberOf self ⌝ }
     {
@@ -27,25 +28,27 @@ impl Refusal {
             Refusal::Count => 2,
             Refusal::Distance => 3,
             Refusal::Malformed(_) => 4,
-            Refusal::NotLower(_) => 5,
+            Refusal::NoRule(_) => 5,
             Refusal::WrongSort(_) => 6,
             Refusal::Start => 7,
             Refusal::Lent => 8,
             Refusal::Letter(_) => 9,
             Refusal::Place => 10,
             Refusal::Room => 11,
+            Refusal::Cycle(_) => 12,
         }
     }
 
-    // Document 01's position.
+    // The documents' position.
     pub fn position(self) -> u64
         ensures { λ r. ⌜ r ≡ positionOf self ⌝ }
     {
         match self {
             Refusal::Malformed(rule) => rule as u64,
-            Refusal::NotLower(rule) => rule as u64,
+            Refusal::NoRule(rule) => rule as u64,
             Refusal::WrongSort(rule) => rule as u64,
             Refusal::Letter(at) => at as u64,
+            Refusal::Cycle(rule) => rule as u64,
             Refusal::Magic => 0,
             Refusal::Count => 0,
             Refusal::Distance => 0,

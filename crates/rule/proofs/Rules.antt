@@ -1,5 +1,5 @@
--- Rules of records. Where every record decodes, names rules of lower numbers and has the right sorts, the kind in a record is the kind
--- of its rule, so the rules are sound with their numbers as ranks. Assumes nothing.
+-- Rules of records. Where every record decodes, names rules in range and has the right sorts, the kind in a record is the kind of its
+-- rule, so the rules are sound for every rank that falls along names. Assumes nothing.
 use Prim.Native.Nat.{ℕ, zero, suc, _+_, _*_, _≤_, _<_}
 use mathlib.Core.Bool.{Bool, true, false, _&&_}
 use mathlib.Core.List.{List}
@@ -32,7 +32,7 @@ past-rule R r h = List·getD-eq-default R Rule.Empty h
 pub record Named (ws : List Record) (i : ℕ) (d : Decoded) : Type 0 where
   pub means : Rule
   pub decodes : d ≡ Decoded.Whole means
-  pub lower : T (every (λ x. ltb x i) means)
+  pub ranged : T (every (λ x. ltb x (length ws)) means)
   pub sorted : T (sorts (kindAt ws) means)
 
 -- the rule with a number
@@ -65,33 +65,29 @@ kinds ws each =
       | no g ↦ sym (kind-decoded ws i Rule.Empty (past ws i (omega (arith, g))))
     ]
 
-two : (a b c d : Bool) → (T a → T c) → (T b → T d) → T (a && b) → T (c && d)
-two true b true d f g h = g h
-two true b false d f g h = absurd (f tt)
-two false b true d f g h = absurd h
-two false b false d f g h = h
+-- the rule that a record means
+module _ (ws : List Record) (each : (i : ℕ) → i < length ws → Named ws i (decode (recordIn ws i))) where
+  at : (i : ℕ) → i < length (rulesIn ws) → Named ws i (decode (recordIn ws i))
+  at i l = each i (omega (arith, length-rulesIn ws))
 
-every-weaker : (p q : ℕ → Bool) → ((x : ℕ) → T (p x) → T (q x)) → (r : Rule) → T (every p r) → T (every q r)
-unfolding every
-every-weaker p q f Rule.Empty h = tt
-every-weaker p q f (Rule.Pair b c) h = two (p b) (p c) (q b) (q c) (f b) (f c) h
-every-weaker p q f (Rule.Node a c) h = f c h
-every-weaker p q f (Rule.Fill b c) h = two (p b) (p c) (q b) (q c) (f b) (f c) h
-every-weaker p q f (Rule.Part a b c) h = two (p b) (p c) (q b) (q c) (f b) (f c) h
-every-weaker p q f (Rule.Join b c) h = two (p b) (p c) (q b) (q c) (f b) (f c) h
+  means-rule : (i : ℕ) (l : i < length (rulesIn ws)) → rule (rulesIn ws) i ≡ (at i l) .means
+  means-rule i l = rule-decoded ws i ((at i l) .means) ((at i l) .decodes)
 
-pub named-sound : (ws : List Record) → ((i : ℕ) → i < length ws → Named ws i (decode (recordIn ws i))) → Sound (rulesIn ws) (λ r. r)
-named-sound ws each =
-    let e = length-rulesIn ws in
-    let at : (i : ℕ) → i < length (rulesIn ws) → Named ws i (decode (recordIn ws i)) = λ i l. each i (omega arith) in
-    let is : (i : ℕ) (l : i < length (rulesIn ws)) → rule (rulesIn ws) i ≡ (at i l) .means = λ i l. rule-decoded ws i ((at i l) .means) ((at i l) .decodes) in
-    record {
-      in-range = λ i l. rw (is i l) (every-weaker (λ x. ltb x i) (λ x. ltb x (length (rulesIn ws))) (λ x u. lt→ltb x (length (rulesIn ws)) (omega (arith, ltb→lt x i u))) ((at i l) .means) ((at i l) .lower));
-      falls = λ i l. rw (is i l) ((at i l) .lower);
-      ranked = λ i l. l;
-      sorted = λ i l. rw (is i l, ← kinds ws each) ((at i l) .sorted);
-      labels = λ i l. rw (is i l) (decode-labelled (recordIn ws i) ((at i l) .means) ((at i l) .decodes));
-    }
+  pub named-ranged : (i : ℕ) → i < length (rulesIn ws) → T (every (λ x. ltb x (length (rulesIn ws))) (rule (rulesIn ws) i))
+  named-ranged i l = rw (means-rule i l, length-rulesIn ws) ((at i l) .ranged)
+
+  pub named-sound : (rank : ℕ → ℕ)
+      → ((i : ℕ) → i < length (rulesIn ws) → T (every (λ x. ltb (rank x) (rank i)) (rule (rulesIn ws) i)))
+      → ((i : ℕ) → i < length (rulesIn ws) → rank i < length (rulesIn ws))
+      → Sound (rulesIn ws) rank
+  named-sound rank falls ranked =
+      record {
+        in-range = named-ranged;
+        falls = falls;
+        ranked = ranked;
+        sorted = λ i l. rw (means-rule i l, ← kinds ws each) ((at i l) .sorted);
+        labels = λ i l. rw (means-rule i l) (decode-labelled (recordIn ws i) ((at i l) .means) ((at i l) .decodes));
+      }
 
 -- the rule with a number is what its record means
 pub rule-recorded : (s : List ℕ) (at n i : ℕ) → i < n → rule (rulesIn (recordsFrom s at n)) i ≡ ruleOf (decode (recordAt s (at + recordLength * i)))

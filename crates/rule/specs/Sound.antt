@@ -1,5 +1,5 @@
--- What every accepted plan has, and all that the meaning of a plan rests on (document 01, "A plan's bytes": rules named
--- are in range and of the right sort, and "a rule names only lower-numbered rules").
+-- What every accepted plan has, and all that the meaning of a plan rests on: rules named are in range and of the right sort (document 01,
+-- "A plan's bytes"), and no rule reaches itself (document 02, Note 1), so there is a rank that falls from a rule to those that it names.
 use Prim.Native.Nat.{ℕ, _<_}
 use mathlib.Core.List.{List}
 use lib.ListN.{length}
@@ -13,7 +13,7 @@ unfoldable pub kindIn : List Rule → ℕ → ℕ
 unfolding rule encode
 kindIn R r = (encode (rule R r)) .kind
 
--- The rules name rules in range, of the right sort, and of a lower rank. The rank is today the rule's number.
+-- The rules name rules in range, of the right sort, and of a lower rank; an accepted plan's rank is the number of rules that a rule reaches.
 pub record Sound (R : List Rule) (rank : ℕ → ℕ) : Type 0 where
   pub in-range : (r : ℕ) → r < length R → T (every (λ x. ltb x (length R)) (rule R r))
   pub falls : (r : ℕ) → r < length R → T (every (λ x. ltb (rank x) (rank r)) (rule R r))

@@ -59,7 +59,7 @@ module _ {s work t : List ℕ} {x : Checked} (b : Prepared s work t x) (out : Li
         let l : Loads s work t n start = b .loaded n start e in
         let answer : y ≡ spread s work out = a .answer ∙ ap (λ (R : List Rule). textRoomed (forest R start) out) (h .rules) ∙ sym spread-is in (
           answer,
-          p ∙ work-cleared (λ k. enoughWork k work) s work n start (l .accepted) (l .enough) u (within-both (l .within) (a .within)),
+          p ∙ work-cleared (λ k. enoughWork k work) s work n start (l .accepted) (l .enough) u (within-both (l .arranged .within) (a .within)),
           a .writes
               ∙ ap (λ (z : Written). outputAfter z (text (forest (firstRules t n) start)) out) answer
               ∙ ap (λ (R : List Rule). outputAfter (spread s work out) (text (forest R start)) out) (h .rules)

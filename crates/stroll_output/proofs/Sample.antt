@@ -5,6 +5,8 @@ use mathlib.Core.Path.{_≡_, refl}
 use mathlib.Core.List.{List, [], _∷_, map}
 use Rattle.words.specs.Number.{number}
 use Rattle.refusal.specs.declared.Refusal.{Refusal}
+use Rattle.reach.specs.Reaches.{lowestCycle, cycleFrom, reaches, within, anyNamed}
+use Rattle.judge.specs.Judge.{cycleJudged}
 use Rattle.plan.specs.Check.{checked, rulesOf}
 use Rattle.forest.specs.Forest.{forest}
 use Rattle.forest.specs.Letter.{letterOf}
@@ -38,5 +40,5 @@ pub record Sample : Type 0 where
   pub numbers : map decimal (0 ∷ 9 ∷ 10 ∷ 255 ∷ 4095 ∷ []) ≡ (48 ∷ []) ∷ (57 ∷ []) ∷ (49 ∷ 48 ∷ []) ∷ (50 ∷ 53 ∷ 53 ∷ []) ∷ (52 ∷ 48 ∷ 57 ∷ 53 ∷ []) ∷ []
 
 pub printed : Sample
-unfolding strollOutput checkPrinted walkPrinted refusedLine lines line shown decimal digits checked rulesOf number forest answers letterOf andLetters lettersOf otherAt firstOther
+unfolding strollOutput checkPrinted walkPrinted refusedLine lines line shown decimal digits checked cycleJudged lowestCycle cycleFrom reaches within anyNamed rulesOf number forest answers letterOf andLetters lettersOf otherAt firstOther
 printed = record { whole = refl; none = refl; absent = refl; other = refl; long = refl; numbers = refl }

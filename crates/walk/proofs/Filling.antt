@@ -6,28 +6,25 @@ use mathlib.Core.List.{List}
 use lib.ListN.{length, take}
 use lib.Seq.{length-take-le}
 use Rattle.rule.specs.declared.Rule.{Rule}
-use Rattle.record.specs.Record.{recordLength}
-use Rattle.record.specs.Records.{recordsFrom}
-use Rattle.rule.specs.Rule.{rulesIn}
-use Rattle.plan.specs.Check.{rulesOf, trailerLength, mostRules}
+use Rattle.plan.specs.Check.{rulesOf, mostRules}
 use Rattle.rule.specs.Sound.{Sound, Closed}
-use Rattle.reach.specs.Order.{Orders, numbersFrom}
-use Rattle.reach.proofs.Orders.{lower-orders}
-use Rattle.plan.proofs.Sound.{Plan, checked-plan, plan-long}
+use Rattle.reach.specs.Order.{Orders}
+use Rattle.plan.proofs.Sound.{Plan, checked-plan}
 use Rattle.forest.specs.Walk.{placeJudged}
 use Rattle.forest.specs.declared.Walked.{Walked}
 use Rattle.model.specs.Facts.{Facts, factsOf}
-use Rattle.work_rows.specs.Rows.{workLength, rowLength, Holds, Within, Loaded, firstRules}
-use Rattle.work_rows.specs.Order.{orderAt, orderEnd, orderIn}
+use Rattle.work_rows.specs.Rows.{workLength, rowLength, Holds, Within, firstRules}
+use Rattle.work_rows.specs.Order.{orderEnd, orderIn}
 use Rattle.facts.specs.Facts.{rowCount, factsIn, Built}
 use Rattle.facts_build.specs.Buildable.{Buildable}
-use Rattle.work_rows.proofs.Rows.{within-both, within-wider, within-rule}
+use Rattle.work_rows.proofs.Rows.{within-both}
 use Rattle.facts.proofs.Words.{factsIn-rule}
-use Rattle.work_rows.proofs.Kept.{holds-first, first-same}
+use Rattle.work_rows.proofs.Kept.{holds-first}
 use Rattle.facts_build.proofs.Known.{built-walkable}
-use Rattle.work_rows.proofs.Work.{rules-first, beyond-work}
+use Rattle.work_rows.proofs.Work.{beyond-work}
+use Rattle.work_load.specs.Prepared.{Arrangeable, Arranged}
 use Rattle.letter_moves.specs.Standing.{rulesKept, WalkedRows}
-use Rattle.walk.specs.Calls.{Planned, Filled, Lendable}
+use Rattle.walk.specs.Calls.{Filled, Lendable}
 use Rattle.walk_place.specs.Travel.{Travels, Walks}
 
 -- rows that are known as the facts of rules keep these
@@ -37,47 +34,32 @@ walkable-rules R n t count long e =
     let all : rowCount t ≡ n = omega arith in
     ap (firstRules t) all ∙ holds-first R t n count (λ k below. sym (factsIn-rule t k (omega arith)) ∙ ap (λ (F : Facts). F .rule k) e)
 
--- the rules of an accepted plan stand in the order of their numbers, since each names only lower ones
-plan-orders : {most : ℕ} {s : List ℕ} {n start : ℕ} → Plan most s n start → Orders (rulesOf s) (numbersFrom 0 n)
-plan-orders {s = s} P = rw (← P .rules) (lower-orders (rulesOf s) (P .sound .falls))
-
 -- rows of sound rules with an order of them behind can be built
 buildable : {R : List Rule} {rank : ℕ → ℕ} {n : ℕ} {t : List ℕ} → orderEnd n ≤ length t → firstRules t n ≡ R → Sound R rank → Orders R (orderIn t n) → Buildable n t
 buildable {rank = rank} room rules S O = record { room = room; rank = rank; sound = rw rules S; orders = rw rules O }
 
-module _ {s : List ℕ} {n : ℕ} (P : Planned s n) where
-  plan : Plan mostRules s n (P .start)
-  plan = checked-plan s n (P .start) (P .accepted)
+-- the rules of an accepted plan, arranged in the work
+module _ {s : List ℕ} {n : ℕ} {u : List ℕ} (A : Arrangeable s n u) {v : List ℕ} (a : Arranged (rulesOf s) n u v) where
+  plan : Plan mostRules s n (A .start)
+  plan = checked-plan s n (A .start) (A .accepted)
 
-  pub loads : (u : List ℕ) → workLength * n ≤ length u → (recordLength * n + trailerLength ≤ length s) × (rowLength * n ≤ length u)
-  loads u e = (plan-long mostRules s n (P .start) plan, omega arith)
+  rules-kept : firstRules v n ≡ rulesOf s
+  rules-kept = holds-first (rulesOf s) v n (plan .rules) (a .rows)
 
-  module _ {u t : List ℕ} (l : Loaded (rulesIn (recordsFrom s (length s - trailerLength - recordLength * n) n)) n u t) (room : workLength * n ≤ length u) where
-    rules-loaded : firstRules t n ≡ rulesOf s
-    rules-loaded = holds-first (rulesOf s) t n (plan .rules) ((rw (rules-first s n (P .start) plan) at l) .holds)
+  pub builds : Buildable n v
+  builds = let same = a .within .same-length in let room = A .room in buildable (omega arith) rules-kept (plan .sound) (a .order)
 
-    pub orderable : orderEnd n ≤ length t
-    orderable = let same = l .beyond .same-length in omega arith
-
-    -- behind the rows stands the order
-    module _ {v : List ℕ} (o : (orderIn v n ≡ numbersFrom 0 n) × Within (orderAt n) (orderEnd n) t v) where
-      rules-kept : firstRules v n ≡ rulesOf s
-      rules-kept = first-same t v n (λ k below. within-rule (o .1) k (λ h. absurd (omega arith))) ∙ rules-loaded
-
-      pub builds : Buildable n v
-      builds = let same = o .1 .same-length in buildable (omega (arith, orderable)) rules-kept (plan .sound) (rw (o .0) (plan-orders plan))
-
-      pub filled : {w : List ℕ} → Built (firstRules v n) n v w → Filled (rulesOf s) (take (rowLength * n) w) × Within 0 (workLength * n) u w
-      filled {w} b =
-          let B : Built (rulesOf s) n v w = rw rules-kept at b in
-          let first = l .beyond .same-length in
-          let second = o .1 .same-length in
-          let third = B .beyond .same-length in
-          let long : length (take (rowLength * n) w) ≡ rowLength * n = length-take-le (rowLength * n) w (omega arith) in
-          let k = built-walkable (plan .sound) (plan .rules) B (omega arith) in (
-            record { rules = walkable-rules (rulesOf s) n (take (rowLength * n) w) (plan .rules) long (k .facts-are); facts-are = k .facts-are; climbs = k .climbs },
-            within-both (beyond-work n (l .beyond)) (within-both (within-wider 0 (workLength * n) (omega arith) (omega arith) (o .1)) (beyond-work n (B .beyond))),
-          )
+  pub filled : {w : List ℕ} → Built (firstRules v n) n v w → Filled (rulesOf s) (take (rowLength * n) w) × Within 0 (workLength * n) u w
+  filled {w} b =
+      let B : Built (rulesOf s) n v w = rw rules-kept at b in
+      let room = A .room in
+      let first = a .within .same-length in
+      let second = B .beyond .same-length in
+      let long : length (take (rowLength * n) w) ≡ rowLength * n = length-take-le (rowLength * n) w (omega arith) in
+      let k = built-walkable (plan .sound) (plan .rules) B (omega arith) in (
+        record { rules = walkable-rules (rulesOf s) n (take (rowLength * n) w) (plan .rules) long (k .facts-are); facts-are = k .facts-are; climbs = k .climbs },
+        within-both (a .within) (beyond-work n (B .beyond)),
+      )
 
 -- the rows of sound rules, of which the closed rule r is walked
 walked-rows : {R : List Rule} {rank : ℕ → ℕ} {r : ℕ} {t : List ℕ} → Sound R rank → Closed R r → Filled R t → WalkedRows r t
@@ -92,8 +74,8 @@ walked-rows {rank = rank} S C f =
 
 -- the table that is walked on, in the first rows of the work
 module _ {s : List ℕ} {n start : ℕ} {work cursor letters given : List ℕ} (L : Lendable s n start work cursor letters given) where
-  pub planned : Planned s n
-  planned = record { start = start; accepted = L .accepted }
+  pub arrangeable : Arrangeable s n work
+  arrangeable = record { start = start; accepted = L .accepted; room = L .worked }
 
   pub prefix-long : {t : List ℕ} → Within 0 (workLength * n) work t → length (take (rowLength * n) t) ≡ rowLength * n
   prefix-long {t} w = let room = L .worked in let same = w .same-length in length-take-le (rowLength * n) t (omega arith)

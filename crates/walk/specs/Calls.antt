@@ -13,11 +13,6 @@ use Rattle.place_cells.specs.Cells.{cursorLength}
 use Rattle.letter_moves.specs.Standing.{rulesKept}
 use Rattle.letter_run.specs.Ran.{Answerable}
 
--- an accepted plan of n rules
-pub record Planned (plan : List ℕ) (n : ℕ) : Type 0 where
-  pub start : ℕ
-  pub accepted : checked plan ≡ Checked.Accepted n start
-
 -- the table is that of the rules R
 pub record Filled (R : List Rule) (t : List ℕ) : Type 0 where
   pub rules : rulesKept t ≡ R

@@ -11,20 +11,20 @@ ghost use Rattle.plan.specs.Check.{checked, rulesOf};
 ghost use Rattle.forest.specs.Walk.{firstOther, placeJudged, lettersJudged};
 ghost use Rattle.demand.specs.Calls.{walkOf, lends, leaves};
 ghost use Rattle.work_rows.specs.Rows.{workLength, rowLength, Within};
-ghost use Rattle.walk.specs.Calls.{Filled, Planned, Lendable};
+ghost use Rattle.work_load.specs.Prepared.{Arrangeable};
+ghost use Rattle.walk.specs.Calls.{Filled, Lendable};
 ghost use Rattle.walk_place.specs.Travel.{Walks};
 use walk_lent::Found;
 
-// The table of an accepted plan's rules, in the first rows of the work, made in the order of their numbers.
+// The table of an accepted plan's rules, in the first rows of the work, made in an order in which each comes after those that it names.
 fn fill(plan: &[u8], work: &mut [u8], n: u16)
-    requires { ⌜ Planned (now plan) n × (workLength * n ≤ length (now work)) ⌝ }
+    requires { ⌜ Arrangeable (now plan) n (now work) ⌝ }
     ensures { λ x.
         let work′ = now (work .exit) in
         ⌜ Filled (rulesOf (now (plan .entry))) (take (rowLength * n) work′)
         × Within 0 (workLength * n) (now (work .entry)) work′ ⌝ }
 {
-    work_rows::load_rules(plan, work, n);
-    work_rows::order_by_number(work, n);
+    work_load::arrange(plan, work, n);
     facts_build::build(work, n);
 }
 

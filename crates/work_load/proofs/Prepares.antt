@@ -1,40 +1,88 @@
--- What load_plan answers and leaves, by the ways through its code: refused by check, refused for the work, or loaded.
+-- An accepted plan's rules in the rows and an order of them behind these, by number or by a search; and what load_plan answers and leaves, by
+-- the ways through its code: refused by check, refused for the work, or loaded.
 -- Assumes nothing.
-use Prim.Native.Nat.{ℕ, _-_, _*_}
+use Prim.Native.Nat.{ℕ, _+_, _-_, _*_, _≤_}
 use native.Mathlib.Omega.{arith}
 use mathlib.Core.Path.{_≡_, subst, _∙_}
-use mathlib.Core.Bool.{true, false}
-use mathlib.Core.List.{List}
-use lib.ListN.{length}
+use mathlib.Core.Bool.{Bool, true, false}
+use mathlib.Core.List.{List, _++_}
+use lib.ListN.{length, take, drop}
 use Rattle.refusal.specs.declared.Refusal.{Refusal}
-use Rattle.record.specs.Record.{recordLength}
+use Rattle.words.proofs.Parts.{part-length, within-part, words-part}
+use Rattle.record.specs.Record.{wordLength, recordLength}
 use Rattle.record.specs.Records.{recordsFrom}
 use Rattle.rule.specs.declared.Rule.{Rule}
 use Rattle.rule.specs.Rule.{rulesIn}
 use Rattle.plan.specs.declared.Checked.{Checked}
 use Rattle.plan.specs.Check.{checked, rulesOf, mostRules, trailerLength}
-use Rattle.plan.proofs.Sound.{Plan, checked-plan}
+use Rattle.plan.proofs.Sound.{Plan, checked-plan, plan-long}
 use Rattle.forest.specs.Outcome.{enoughWork, workJudged, measuredWork}
-use Rattle.reach.specs.Order.{Orders, numbersFrom}
-use Rattle.reach.proofs.Orders.{lower-orders}
-use Rattle.work_rows.specs.Rows.{workLength, Holds, Within, Loaded}
+use Rattle.reach.specs.Order.{numbersFrom, lowerBelow}
+use Rattle.reach.proofs.Orders.{lower-orders, lower-test}
+use Rattle.reach_order.specs.Room.{rulesAt, Ready}
+use Rattle.reach_order.specs.Search.{Answered}
+use Rattle.reach_order.proofs.Runs.{answered-acyclic}
+use Rattle.work_rows.specs.Rows.{workLength, rowLength, Holds, Within, Loaded}
 use Rattle.work_rows.specs.Order.{orderAt, orderEnd, orderIn}
 use Rattle.work_rows.proofs.Rows.{within-both, within-wider, within-rule}
 use Rattle.work_rows.proofs.Work.{work-refused, work-lent, rules-first, beyond-work}
-use Rattle.work_load.specs.Prepared.{Loads, Prepared}
+use Rattle.work_load.specs.Prepared.{Arrangeable, Ordered, Arranged, Loads, Prepared}
 
--- an accepted plan's rules name only lower ones, so they stand in the order of their numbers
-plan-orders : (s : List ℕ) (n start : ℕ) {o : List ℕ} → Plan mostRules s n start → o ≡ numbersFrom 0 n → Orders (rulesOf s) o
-plan-orders s n start p e = rw (e, ← (p .rules)) (lower-orders (rulesOf s) (p .sound .falls))
+-- ---- the order by a search, in the work behind the rows
+module _ {s : List ℕ} {n : ℕ} {work : List ℕ} (A : Arrangeable s n work) where
+  plan : Plan mostRules s n (A .start)
+  plan = checked-plan s n (A .start) (A .accepted)
 
--- the rules in the rows, and then their order behind the rows
-module _ {R : List Rule} {n : ℕ} {work t u : List ℕ} (l : Loaded R n work t) (w : Within (orderAt n) (orderEnd n) t u) where
-  rows-stay : Holds R u n
-  unfolding Holds
-  rows-stay k below = within-rule w k (λ h. absurd (omega arith)) ∙ l .holds k below
+  pub first-rules : rulesAt s (length s - trailerLength - recordLength * n) n ≡ rulesOf s
+  first-rules = rules-first s n (A .start) plan
 
-  all-within : Within 0 (workLength * n) work u
-  all-within = within-both (beyond-work n (l .beyond)) (within-wider 0 (workLength * n) (omega arith) (omega arith) w)
+  pub first-lower : {x : Bool} → x ≡ lowerBelow (rulesAt s (length s - trailerLength - recordLength * n) n) n → x ≡ lowerBelow (rulesOf s) n
+  first-lower e = rw first-rules at e
+
+  pub loadable : (recordLength * n + trailerLength ≤ length s) × (rowLength * n ≤ length work)
+  loadable = let room = A .room in (plan-long mostRules s n (A .start) plan, omega arith)
+
+  pub orderable : orderEnd n ≤ length work
+  orderable = let room = A .room in omega arith
+
+  pub searchable : Ready s (length s - trailerLength - recordLength * n) n (take (length work - rowLength * n) (drop (rowLength * n) work))
+  searchable =
+      let room = A .room in
+      let long = plan-long mostRules s n (A .start) plan in
+      let left : length (take (length work - rowLength * n) (drop (rowLength * n) work)) ≡ length work - rowLength * n = part-length (rowLength * n) work in
+      record { lies = omega arith; few = omega (arith, plan .greatest); ranged = rw first-rules (plan .ranged); fits = omega arith }
+
+  -- the search can't fail, since no rule of an accepted plan reaches itself
+  pub search-orders : {x : Bool} {v : List ℕ} → Answered (rulesAt s (length s - trailerLength - recordLength * n) n) n x (take (length work - rowLength * n) (drop (rowLength * n) work)) v
+      → Ordered (rulesOf s) n work (take (rowLength * n) work ++ (v ++ drop (length work - rowLength * n) (drop (rowLength * n) work)))
+  unfolding orderIn
+  search-orders {x} {v} h =
+      let a : Answered (rulesOf s) n x (take (length work - rowLength * n) (drop (rowLength * n) work)) v = rw first-rules at h in
+      record {
+        order = rw (words-part (rowLength * n) (wordLength * n) n work v (loadable .1)) (a .sorted (answered-acyclic (plan .acyclic) a));
+        within = within-wider (rowLength * n) (orderEnd n) (omega arith) (omega arith) (within-part (rowLength * n) (4 * n) (loadable .1) (a .within));
+      }
+
+  pub number-orders : {u : List ℕ} → lowerBelow (rulesOf s) n ≡ true → (orderIn u n ≡ numbersFrom 0 n) × Within (orderAt n) (orderEnd n) work u → Ordered (rulesOf s) n work u
+  number-orders e (o, w) = record {
+    order = rw (o, ← (plan .rules)) (lower-orders (rulesOf s) (lower-test (rulesOf s) (rw (plan .rules) e)));
+    within = within-wider (rowLength * n) (orderEnd n) (omega arith) (omega arith) w;
+  }
+
+  -- the rules in the rows, and then their order behind the rows
+  module _ {t : List ℕ} (l : Loaded (rulesIn (recordsFrom s (length s - trailerLength - recordLength * n) n)) n work t) where
+    pub still-arrangeable : Arrangeable s n t
+    still-arrangeable = let e = l .beyond .same-length in record { start = A .start; accepted = A .accepted; room = rw e (A .room) }
+
+    pub arranged : {u : List ℕ} → Ordered (rulesOf s) n t u → Arranged (rulesOf s) n work u
+    unfolding Holds
+    arranged o =
+        let loads : Loaded (rulesOf s) n work t = rw first-rules at l in
+        record {
+          rows = λ k below. within-rule (o .within) k (λ h. absurd (omega arith)) ∙ loads .holds k below;
+          order = o .order;
+          within = within-both (beyond-work n (l .beyond)) (within-wider 0 (workLength * n) (omega arith) (omega arith) (o .within));
+        }
 
 -- what holds of an answer, by its case
 unfoldable ByAnswer : List ℕ → List ℕ → List ℕ → Checked → Type 0
@@ -61,11 +109,6 @@ module _ (s work : List ℕ) where
     unfolding workJudged ByAnswer measuredWork
     lent e = prepared s work work (Checked.Refused Refusal.Lent) (rw (q, e)) (work-lent (λ m. enoughWork m work) s work n start q e)
 
-    pub loaded : {t u : List ℕ} → enoughWork n work ≡ true → Loaded (rulesIn (recordsFrom s (length s - trailerLength - recordLength * n) n)) n work t
-        → (orderIn u n ≡ numbersFrom 0 n) × Within (orderAt n) (orderEnd n) t u → Prepared s work u (Checked.Accepted n start)
+    pub loaded : {t : List ℕ} → enoughWork n work ≡ true → Arranged (rulesOf s) n work t → Prepared s work t (Checked.Accepted n start)
     unfolding workJudged ByAnswer
-    loaded {t} {u} e l o =
-        let p : Plan mostRules s n start = checked-plan s n start q in
-        let l′ : Loaded (rulesOf s) n work t = rw (rules-first s n start p) at l in
-        prepared s work u (Checked.Accepted n start) (rw (q, e))
-        (record { accepted = q; enough = e; rows = rows-stay l′ (o .1); order = plan-orders s n start p (o .0); within = all-within l′ (o .1) })
+    loaded {t} e l = prepared s work t (Checked.Accepted n start) (rw (q, e)) (record { accepted = q; enough = e; arranged = l })

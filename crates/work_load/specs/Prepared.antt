@@ -1,24 +1,41 @@
--- What measure and spread begin with, once load_plan has answered x: the rules of an accepted plan with enough work are in the rows, and
--- an order of them behind; refused, the work is as they leave it.
-use Prim.Native.Nat.{ℕ, _*_}
+-- What measure, spread and walk begin with: the rules of an accepted plan with enough work are in the rows, and an order of them behind; and
+-- what load_plan's answer x says of it. Refused, the work is as measure and spread leave it.
+use Prim.Native.Nat.{ℕ, _*_, _≤_}
 use mathlib.Core.Path.{_≡_}
 use mathlib.Core.Bool.{true}
 use mathlib.Core.List.{List}
+use lib.ListN.{length}
 use Rattle.refusal.specs.declared.Refusal.{Refusal}
+use Rattle.rule.specs.declared.Rule.{Rule}
 use Rattle.plan.specs.declared.Checked.{Checked}
 use Rattle.plan.specs.Check.{checked, rulesOf}
 use Rattle.forest.specs.Outcome.{enoughWork, workJudged, measuredWork}
 use Rattle.reach.specs.Order.{Orders}
-use Rattle.work_rows.specs.Rows.{workLength, Holds, Within}
-use Rattle.work_rows.specs.Order.{orderIn}
+use Rattle.work_rows.specs.Rows.{workLength, rowLength, Holds, Within}
+use Rattle.work_rows.specs.Order.{orderEnd, orderIn}
 
--- the rules of s in the rows of t, and an order in which each comes after those that it names
+-- an accepted plan of n rules, and work for them
+pub record Arrangeable (s : List ℕ) (n : ℕ) (work : List ℕ) : Type 0 where
+  pub start : ℕ
+  pub accepted : checked s ≡ Checked.Accepted n start
+  pub room : workLength * n ≤ length work
+
+-- an order of the rules R behind the rows, and nothing but what is behind these has changed
+pub record Ordered (R : List Rule) (n : ℕ) (t u : List ℕ) : Type 0 where
+  pub order : Orders R (orderIn u n)
+  pub within : Within (rowLength * n) (orderEnd n) t u
+
+-- the rules R in the rows, and an order in which each comes after those that it names
+pub record Arranged (R : List Rule) (n : ℕ) (t u : List ℕ) : Type 0 where
+  pub rows : Holds R u n
+  pub order : Orders R (orderIn u n)
+  pub within : Within 0 (workLength * n) t u
+
+-- the rules of a plan s that is accepted, with enough work
 pub record Loads (s work t : List ℕ) (n start : ℕ) : Type 0 where
   pub accepted : checked s ≡ Checked.Accepted n start
   pub enough : enoughWork n work ≡ true
-  pub rows : Holds (rulesOf s) t n
-  pub order : Orders (rulesOf s) (orderIn t n)
-  pub within : Within 0 (workLength * n) work t
+  pub arranged : Arranged (rulesOf s) n work t
 
 pub record Prepared (s work t : List ℕ) (x : Checked) : Type 0 where
   pub answer : x ≡ workJudged work (checked s)

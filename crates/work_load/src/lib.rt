@@ -1,8 +1,45 @@
-// What measure and spread begin with (document 01, "As check; 8"): a plan's rules in the rows of the lent work, and behind them an order in
-// which each stands after those that it names; or why not.
+// What measure, spread and walk begin with: a plan's rules in the rows of the lent work, and behind them an order in which each stands after
+// those that it names; for measure and spread with their refusals (document 01, "As check; 8").
 use plan::Checked;
+use plan::Trailer;
+use record::Record;
 use refusal::Refusal;
-ghost use Rattle.work_load.specs.Prepared.{Prepared};
+use work_rows::Row;
+ghost use mathlib.Core.Path.{_≡_};
+ghost use Rattle.plan.specs.Check.{rulesOf};
+ghost use Rattle.reach.specs.Order.{lowerBelow};
+ghost use Rattle.work_load.specs.Prepared.{Arrangeable, Ordered, Arranged, Prepared};
+
+// An order of an accepted plan's rules, found by a search: it ends behind the rows and a word a rule.
+fn search_order(plan: &[u8], work: &mut [u8], n: u16)
+    requires { ⌜ Arrangeable (now plan) n (now work) ⌝ }
+    ensures { λ x. ⌜ Ordered (rulesOf (now (plan .entry))) n (now (work .entry)) (now (work .exit)) ⌝ }
+{
+    let first = plan.len() - Trailer::LENGTH - Record::LENGTH * (n as usize);
+    let rows = Row::LENGTH * (n as usize);
+    reach_order::order(plan, first, n, &mut work[rows..]);
+}
+
+// An order of an accepted plan's rules; nothing is searched where each names only lower ones.
+fn order_rules(plan: &[u8], work: &mut [u8], n: u16, lower: bool)
+    requires { ⌜ Arrangeable (now plan) n (now work) × (lower ≡ lowerBelow (rulesOf (now plan)) n) ⌝ }
+    ensures { λ x. ⌜ Ordered (rulesOf (now (plan .entry))) n (now (work .entry)) (now (work .exit)) ⌝ }
+{
+    if lower {
+        work_rows::order_by_number(work, n);
+    } else {
+        search_order(plan, work, n);
+    }
+}
+
+// An accepted plan's rules in the rows of work, and behind them an order of these.
+pub fn arrange(plan: &[u8], work: &mut [u8], n: u16)
+    requires { ⌜ Arrangeable (now plan) n (now work) ⌝ }
+    ensures { λ x. ⌜ Arranged (rulesOf (now (plan .entry))) n (now (work .entry)) (now (work .exit)) ⌝ }
+{
+    let lower = work_rows::load_rules(plan, work, n);
+    order_rules(plan, work, n, lower);
+}
 
 // n and start of a plan whose rules are then in the rows of work, with their order behind them, or why it is turned down.
 pub fn load_plan(plan: &[u8], work: &mut [u8]) -> Checked
@@ -13,8 +50,7 @@ pub fn load_plan(plan: &[u8], work: &mut [u8]) -> Checked
             if !work_rows::enough_work(work, n) {
                 return Checked::Refused(Refusal::Lent);
             }
-            work_rows::load_rules(plan, work, n);
-            work_rows::order_by_number(work, n);
+            arrange(plan, work, n);
             Checked::Accepted { n, start }
         }
         Checked::Refused(refusal) => Checked::Refused(refusal),

@@ -1,15 +1,19 @@
 -- Laws of rows. A field is a number in a list of bytes, so what a write leaves alone is known from one frame, `Within`: equal bytes
 -- before it and after it. A rule's four fields lie apart in their row, so they are read back as written. Assumes nothing.
-use Prim.Native.Nat.{ℕ, _+_, _-_, _*_, _^_, _≤_, _<_}
+use Prim.Native.Nat.{ℕ, zero, suc, _+_, _-_, _*_, _^_, _≤_, _<_}
+use mathlib.Core.Bool.{_&&_, _||_, and-true}
 use mathlib.Core.Path.{_≡_, refl, ap, _∙_}
 use mathlib.Core.List.{List}
 use native.Mathlib.Omega.{arith}
 use native.Mathlib.Decide.{decLt}
 use lib.ListN.{length}
+use lib.Dec.{eqb, ltb}
+use borrow.Author.Tests.{lt-ltb, le-ltb}
 use Rattle.words.specs.Number.{base}
 use Rattle.words.proofs.Laws.{length-put, put-same, put-other}
 pub use Rattle.words.proofs.Within.{within-none, within-both, within-wider, within-number, within-number-put}
 use Rattle.rule.specs.declared.Rule.{Rule}
+use Rattle.rule.specs.Rule.{kindEmpty, every}
 use Rattle.rule.specs.Sound.{rule}
 use Rattle.work_rows.specs.declared.Row.{Row}
 use Rattle.work_rows.specs.Rows.{rowLength, field, putField, ownEnd, atKind, atLabel, atOne, atTwo, rowOf, ruleFrom, rowIn, putRow, ruleIn, Holds, Within, Beyond, Stored, Loaded}
@@ -140,6 +144,20 @@ stored s t r x w e fits small p =
       keeps = ap ruleFrom (rowIn-putRow s r w fits small ∙ e) ∙ ruleFrom-rowOf x;
       within = within-putRow s r w fits small;
     })
+
+-- the words of a row tell whether its rule names only rules below i
+one-below : (c i : ℕ) → (ltb c i && ltb 0 i) ≡ ltb c i
+one-below c zero = rw (le-ltb c 0 (omega arith))
+one-below c (suc i) = rw (lt-ltb 0 (suc i) (omega arith)) (and-true (ltb c (suc i)))
+
+pub row-below : (x : Rule) (i : ℕ) → (eqb (rowOf x .kind) kindEmpty || (ltb (rowOf x .one) i && ltb (rowOf x .two) i)) ≡ every (λ k. ltb k i) x
+unfolding rowOf every
+row-below Rule.Empty i = refl
+row-below (Rule.Pair b c) i = refl
+row-below (Rule.Node a c) i = one-below c i
+row-below (Rule.Fill b c) i = refl
+row-below (Rule.Part a b c) i = refl
+row-below (Rule.Join b c) i = refl
 
 -- the rows hold rules: none at first, and one more after each write
 pub loaded-none : (R : List Rule) (s : List ℕ) → Loaded R 0 s s

@@ -2,14 +2,16 @@
 ghost use mathlib.Core.Path.{_≡_};
 ghost use Prim.Native.Nat.{_+_, _-_, _*_, _≤_, _<_};
 ghost use lib.ListN.{length, getD};
+ghost use lib.Dec.{eqb, ltb};
+ghost use mathlib.Core.Bool.{_&&_, _||_};
 ghost use Rattle.record.specs.Record.{recordLength, wordLength};
-ghost use Rattle.rule.specs.Rule.{ruleOf, rulesIn};
+ghost use Rattle.rule.specs.Rule.{kindEmpty, ruleOf, rulesIn, every};
 ghost use Rattle.record.specs.Records.{recordsFrom};
 ghost use Rattle.plan.specs.Check.{trailerLength};
 ghost use Rattle.forest.specs.Outcome.{workWords, enoughWork, cleared};
 ghost use Rattle.work_rows.specs.Rows.{workLength, rowLength, ownEnd, field, putField, rowOf, ruleFrom, rowIn, putRow};
 ghost use Rattle.work_rows.specs.Rows.{ruleIn, Stored, Loaded};
-ghost use Rattle.reach.specs.Order.{numbersFrom};
+ghost use Rattle.reach.specs.Order.{numbersFrom, lowerBelow};
 ghost use Rattle.work_rows.specs.Rows.{Within};
 ghost use Rattle.work_rows.specs.Order.{orderAt, orderEnd, orderIn};
 use plan::Trailer;
@@ -135,6 +137,13 @@ impl Row {
         Rule::Empty
     }
 
+    // Whether its rule names only rules below i: what a rule with one name lacks is 0, which is below i where that name is.
+    fn names_below(self, i: u16) -> bool
+        ensures { λ x. ⌜ x ≡ (eqb (self .kind) kindEmpty || (ltb (self .one) i && ltb (self .two) i)) ⌝ }
+    {
+        (self.kind == Rule::EMPTY) | ((self.one < i) & (self.two < i))
+    }
+
     // What row r keeps of its rule.
     fn read(work: &[u8], r: u16) -> Row
         requires { ⌜ rowLength * r + ownEnd ≤ length (now work) ⌝ }
@@ -168,12 +177,15 @@ pub fn rule_at(work: &[u8], r: u16) -> Rule
     Row::read(work, r).rule()
 }
 
-// A rule into row r.
-fn put_rule(work: &mut [u8], r: u16, rule: Rule)
+// A rule into row r; and whether it names only rules below r.
+fn put_rule(work: &mut [u8], r: u16, rule: Rule) -> bool
     requires { ⌜ rowLength * (r + 1) ≤ length (now work) ⌝ }
-    ensures { λ x. ⌜ Stored r rule (now (work .entry)) (now (work .exit)) ⌝ }
+    ensures { λ x.
+        ⌜ Stored r rule (now (work .entry)) (now (work .exit)) × (x ≡ every (λ k. ltb k r) rule) ⌝ }
 {
-    Row::of(rule).write(work, r);
+    let row = Row::of(rule);
+    row.write(work, r);
+    row.names_below(r)
 }
 
 // The rule that a record means, and the empty rule where it means none.
@@ -186,18 +198,22 @@ fn rule_of(d: Decoded) -> Rule
     }
 }
 
-// The plan's n rules, whose records begin at first, into the rows of work.
-fn load(plan: &[u8], first: usize, n: u16, work: &mut [u8])
+// The plan's n rules, whose records begin at first, into the rows of work; and whether each names only lower ones.
+fn load(plan: &[u8], first: usize, n: u16, work: &mut [u8]) -> bool
     requires { ⌜ (first + recordLength * n ≤ length (now plan)) × (rowLength * n ≤ length (now work)) ⌝ }
     ensures { λ x.
-        ⌜ Loaded (rulesIn (recordsFrom (now (plan .entry)) first n)) n (now (work .entry)) (now (work .exit)) ⌝ }
+        let rules = rulesIn (recordsFrom (now (plan .entry)) first n) in
+        ⌜ Loaded rules n (now (work .entry)) (now (work .exit)) × (x ≡ lowerBelow rules n) ⌝ }
 {
+    let mut lower = true;
     let mut i: u16 = 0;
     while i < n {
         let record = Record::read(plan, first + Record::LENGTH * (i as usize));
-        put_rule(work, i, rule_of(Rule::decode(record)));
+        let below = put_rule(work, i, rule_of(Rule::decode(record)));
+        lower = lower & below;
         i += 1;
     }
+    lower
 }
 
 // The 16-bit words of work that a rule needs, and their bytes.
@@ -240,16 +256,16 @@ pub fn order_by_number(work: &mut [u8], n: u16)
     }
 }
 
-// An accepted plan's n rules, which stand right before its trailer, into the rows of work.
-pub fn load_rules(plan: &[u8], work: &mut [u8], n: u16)
+// An accepted plan's n rules, which stand right before its trailer, into the rows of work; and whether each names only lower ones.
+pub fn load_rules(plan: &[u8], work: &mut [u8], n: u16) -> bool
     requires { ⌜ (recordLength * n + trailerLength ≤ length (now plan)) × (rowLength * n ≤ length (now work)) ⌝ }
     ensures { λ x.
         let s = now (plan .entry) in
         let rules = rulesIn (recordsFrom s (length s - trailerLength - recordLength * n) n) in
-        ⌜ Loaded rules n (now (work .entry)) (now (work .exit)) ⌝ }
+        ⌜ Loaded rules n (now (work .entry)) (now (work .exit)) × (x ≡ lowerBelow rules n) ⌝ }
 {
     let first = plan.len() - Trailer::LENGTH - Record::LENGTH * (n as usize);
-    load(plan, first, n, work);
+    load(plan, first, n, work)
 }
 
 // Zeros into the words of work that n rules need.

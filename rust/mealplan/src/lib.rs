@@ -1,12 +1,13 @@
 //! The meal plan walker for Rust: safe functions over the proved C interface (include/mealplan.h).
 //!
-//! Each function answers `Ok` with the values that document 01 gives, or `Err` with the refusal. Slices of 16-bit words are bytes, two
+//! Each function answers `Ok` with the values that documents 01 and 02 give, or `Err` with the refusal. Slices of 16-bit words are bytes, two
 //! to a word, low first; an odd last byte isn't counted. What a call writes is lent by `&mut`, so it lies apart from all else, and a
 //! Rust slice's pointer is never null: the borrow checker meets all that the header asks of a caller.
 
 pub mod c;
 
-/// A call turned down: document 01's number, and the position (the rule for 4 to 6, the letter's place for 9, else 0).
+/// A call turned down: the documents' number, 1 to 12, and the position (the rule for 4 to 6, the lowest rule that reaches itself for 12, the
+/// letter's place for 9, else 0).
 #[derive(Clone, Copy, PartialEq, Eq, Debug)]
 pub struct Refused {
     pub number: u32,

@@ -1,4 +1,4 @@
-//! The six operations on meal plans, written from document 01 and Reh and Sieber's paper alone, so that the proved library has
+//! The six operations on meal plans, written from documents 01 and 02 and Reh and Sieber's paper alone, so that the proved library has
 //! something to be compared with. It is written twice over the same format ([`plan`]):
 //!
 //! - [`unfolded`] unfolds the forest into memory, gives every node its place and walks with a finger, word for word as document 01
@@ -10,6 +10,7 @@
 
 pub mod place;
 pub mod plan;
+mod reach;
 pub mod refusal;
 pub mod rules;
 pub mod unfolded;

@@ -52,6 +52,17 @@ impl Cell {
     pub fn is_run(self, side: Side) -> bool {
         self.kind() == Cell::RUN + side as u16
     }
+
+    /// The cell of the same place when rule r has become `number[r]`.
+    pub fn renumbered(self, number: &[u16]) -> Cell {
+        let of = |rule: u16| number[usize::from(rule)];
+        let [kind, first, second, last] = self.0;
+        match kind {
+            Cell::ROW => Cell([kind, first, of(second), last]),
+            Cell::SPINE => Cell([kind, of(first), second, last]),
+            _ => Cell([kind, of(first), of(second), last]),
+        }
+    }
 }
 
 /// The used cells of a cursor that has all the words it needs, cell 0 not counted; refusal 10 if cell 0 can't be right.

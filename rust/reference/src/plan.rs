@@ -1,4 +1,5 @@
 //! The format of a plan: rules, check, seal and unseal.
+use crate::reach;
 use crate::words;
 use crate::{Checked, Refused, Why};
 
@@ -71,6 +72,16 @@ impl Rule {
             Rule::Join(b, c) => [5, b, c, 0],
         }
     }
+
+    /// The rules named, in the order of the words.
+    pub fn named(self) -> impl Iterator<Item = u16> {
+        let (first, second) = match self {
+            Rule::Empty => (None, None),
+            Rule::Node(_, c) => (Some(c), None),
+            Rule::Pair(b, c) | Rule::Fill(b, c) | Rule::Part(_, b, c) | Rule::Join(b, c) => (Some(b), Some(c)),
+        };
+        first.into_iter().chain(second)
+    }
 }
 
 /// The rules that four words name, with the sort that each must have (the only one of a node twice), or none; an error if the words are
@@ -114,44 +125,54 @@ impl<'a> Rules<'a> {
         Rule::of(words::unpack(self.0[usize::from(rule)]))
     }
 
-    /// Refusals 4 to 6 of one rule.
-    fn judge_rule(self, number: usize) -> Result<(), Why> {
-        let Some([(b, sort_of_b), (c, sort_of_c)]) = names(words::unpack(self.0[number]))? else { return Ok(()) };
-        if usize::from(b.max(c)) >= number {
-            return Err(Why::NotLower);
+    /// Refusals 4 to 6 of one rule; gives whether all that it names is lower. A named rule may be one that isn't judged yet: of that only
+    /// the kind is looked at, and a kind above 5 is of no sort.
+    fn judge_rule(self, number: usize) -> Result<bool, Why> {
+        let Some([(b, sort_of_b), (c, sort_of_c)]) = names(words::unpack(self.0[number]))? else { return Ok(true) };
+        let highest = usize::from(b.max(c));
+        if highest >= self.count() {
+            return Err(Why::NotBelow);
         }
         if !sort_of_b.has(self.kind(b)) || !sort_of_c.has(self.kind(c)) {
             return Err(Why::Sort);
         }
-        Ok(())
+        Ok(highest < number)
     }
 
-    /// Refusals 4 to 7, in document 01's order.
-    fn judge(self, start: u16) -> Result<(), Refused> {
+    /// Refusals 4 to 6, then 12, then 7; gives an order of the rules in which each comes after those that it names, or none where that of
+    /// their numbers is one.
+    fn judge(self, start: u16) -> Result<Option<Vec<u16>>, Refused> {
+        let mut lower = true;
         for number in 0..self.count() {
-            self.judge_rule(number).map_err(|why| why.at(number))?;
+            lower &= self.judge_rule(number).map_err(|why| why.at(number))?;
         }
+        let order = if lower { None } else { Some(reach::order(self).map_err(|lowest| Why::Cycle.at(lowest))?) };
         if usize::from(start) >= self.count() || !Sort::CLOSED.has(self.kind(start)) {
             return Err(Why::Start.here());
         }
-        Ok(())
+        Ok(order)
     }
 }
 
 /// An accepted plan.
-#[derive(Clone, Copy)]
 pub struct Plan<'a> {
     pub rules: Rules<'a>,
     pub start: u16,
+    order: Option<Vec<u16>>,
 }
 
 impl Plan<'_> {
     pub fn checked(&self) -> Checked {
         Checked { n: self.rules.count() as u16, start: self.start }
     }
+
+    /// All rules, each after those that it names.
+    pub fn order(&self) -> impl Iterator<Item = u16> {
+        (0..self.rules.count()).map(|place| self.order.as_ref().map_or(place as u16, |order| order[place]))
+    }
 }
 
-/// Reads and checks a plan: refusals 1 to 7.
+/// Reads and checks a plan: refusals 1 to 6, 12 and 7.
 pub fn read(bytes: &[u8]) -> Result<Plan<'_>, Refused> {
     let (body, trailer) = bytes.split_last_chunk::<TRAILER>().ok_or(Why::Mark.here())?;
     let [n0, n1, s0, s1, d0, d1, d2, d3, mark @ ..] = *trailer;
@@ -168,8 +189,8 @@ pub fn read(bytes: &[u8]) -> Result<Plan<'_>, Refused> {
     }
     let rules = Rules::of(&body[body.len() - distance..]);
     let start = u16::from_le_bytes([s0, s1]);
-    rules.judge(start)?;
-    Ok(Plan { rules, start })
+    let order = rules.judge(start)?;
+    Ok(Plan { rules, start, order })
 }
 
 pub fn check(plan: &[u8]) -> Result<Checked, Refused> {

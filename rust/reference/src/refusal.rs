@@ -1,13 +1,13 @@
-//! The refusals of document 01.
+//! The refusals of documents 01 and 02.
 
-/// A call turned down: the refusal's number, and the position (the rule for 4 to 6, the letter's place for 9, else 0).
+/// A call turned down: the refusal's number, and the position (the rule for 4 to 6 and 12, the letter's place for 9, else 0).
 #[derive(Clone, Copy, PartialEq, Eq, Debug)]
 pub struct Refused {
     pub number: u32,
     pub position: u64,
 }
 
-/// What a call is turned down for; the value is document 01's number.
+/// What a call is turned down for; the value is the documents' number.
 #[derive(Clone, Copy, PartialEq, Eq, Debug)]
 pub enum Why {
     /// Fewer than 10 bytes, or a wrong mark.
@@ -18,9 +18,9 @@ pub enum Why {
     Distance = 3,
     /// A kind above 5, a label above 255, an unused word that isn't 0.
     Record = 4,
-    /// A rule names one that isn't lower.
-    NotLower = 5,
-    /// A rule names one of the wrong sort.
+    /// A rule names one that isn't below n.
+    NotBelow = 5,
+    /// A rule names one of the wrong sort, as each of a kind above 5 is.
     Sort = 6,
     /// The start isn't below n or isn't closed.
     Start = 7,
@@ -32,6 +32,8 @@ pub enum Why {
     Place = 10,
     /// Output too short, or more than 2^64 − 1 nodes.
     Output = 11,
+    /// Some rule reaches itself; tested after 4 to 6 and before 7.
+    Cycle = 12,
 }
 
 impl Why {

@@ -1,5 +1,6 @@
-//! Every way in which a plan can be refused (1 to 7), done to a valid plan.
-use crate::draft::Draft;
+//! Every way in which a plan can be refused (1 to 7, and 12), done to a valid plan that names lower rules only.
+use crate::cycles;
+use crate::draft::{Draft, NAMES, names_of};
 use crate::random::Random;
 use reference::plan::{MARK, MAX_RULES, Rule, Sort, TRAILER};
 use reference::{Refused, Why};
@@ -28,6 +29,8 @@ pub fn all() -> Vec<Damage> {
     all.extend(in_record());
     all.extend(in_names());
     all.extend(in_start());
+    all.extend(in_cycles());
+    all.extend(in_any_order());
     all
 }
 
@@ -83,69 +86,103 @@ fn in_word(
     kind: u16,
     word: usize,
     why: Why,
-    value: impl Fn(&Draft, usize, &mut Random) -> u16 + 'static,
+    value: impl Fn(&mut Draft, usize, &mut Random) -> u16 + 'static,
 ) -> Damage {
     damage(way, move |mut draft, random| {
-        let candidates = draft.of_kind(kind, draft.n() - 1);
-        let high: Vec<u16> = candidates.into_iter().filter(|rule| *rule >= Rule::KINDS).collect();
-        let rule = usize::from(random.pick(&high));
-        draft.records[rule][word] = value(&draft, rule, random);
+        let rule = high_of_kind(kind, &draft, random);
+        draft.records[rule][word] = value(&mut draft, rule, random);
         Damaged { plan: draft.plan(), refused: why.at(rule), draft: Some(draft) }
     })
 }
+
+/// A rule of a kind that has every kind below it and a rule above it.
+fn high_of_kind(kind: u16, draft: &Draft, random: &mut Random) -> usize {
+    let candidates = draft.of_kind(kind, draft.n() - 1);
+    let high: Vec<u16> = candidates.into_iter().filter(|rule| *rule >= Rule::KINDS).collect();
+    random.pick(&high).into()
+}
+
+const ABOVE_KINDS: [u16; 5] = [6, 7, 255, 256, 65_535];
 
 /// 4: kinds above 5, labels above 255, unused words.
 fn in_record() -> Vec<Damage> {
     let mut all = Vec::new();
     for kind in 0..Rule::KINDS {
-        let above = |_: &Draft, _: usize, random: &mut Random| random.pick(&[6, 7, 255, 256, 65_535]);
+        let above = |_: &mut Draft, _: usize, random: &mut Random| random.pick(&ABOVE_KINDS);
         all.push(in_word(format!("kind {kind} made a kind above 5"), kind, 0, Why::Record, above));
     }
     for kind in [2, 4] {
-        let above = |_: &Draft, _: usize, random: &mut Random| random.between(256, 65_535) as u16;
-        let just = |_: &Draft, _: usize, _: &mut Random| 256;
+        let above = |_: &mut Draft, _: usize, random: &mut Random| random.between(256, 65_535) as u16;
+        let just = |_: &mut Draft, _: usize, _: &mut Random| 256;
         all.push(in_word(format!("label of kind {kind} above 255"), kind, 1, Why::Record, above));
         all.push(in_word(format!("label of kind {kind} just above 255"), kind, 1, Why::Record, just));
     }
     for (kind, word) in [(0, 1), (0, 2), (0, 3), (1, 3), (2, 3), (3, 3), (5, 3)] {
-        let nonzero = |_: &Draft, _: usize, random: &mut Random| random.pick(&[1, 255, 256, 65_535]);
+        let nonzero = |_: &mut Draft, _: usize, random: &mut Random| random.pick(&[1, 255, 256, 65_535]);
         all.push(in_word(format!("unused word {word} of kind {kind}"), kind, word, Why::Record, nonzero));
     }
     all
 }
 
-/// The words that name rules: kind, word, sort.
-const NAMES: [(u16, usize, Sort); 9] = [
-    (1, 1, Sort::CLOSED),
-    (1, 2, Sort::CLOSED),
-    (2, 2, Sort::CLOSED),
-    (3, 1, Sort::HOLED),
-    (3, 2, Sort::TREE),
-    (4, 2, Sort::CLOSED),
-    (4, 3, Sort::CLOSED),
-    (5, 1, Sort::HOLED),
-    (5, 2, Sort::HOLED),
-];
-
-/// 5 and 6: a rule that isn't lower, or one of each kind of the wrong sort.
+/// 5, 6 and 12: a rule that isn't there, one of each kind of the wrong sort and of a kind above 5, lower or higher, and one that reaches the
+/// rule that names it.
 fn in_names() -> Vec<Damage> {
     let mut all = Vec::new();
     for (kind, word, sort) in NAMES {
         let name = format!("word {word} of kind {kind}");
-        all.push(in_word(format!("{name} names its own rule"), kind, word, Why::NotLower, |_, rule, _| rule as u16));
-        all.push(in_word(format!("{name} names a higher rule"), kind, word, Why::NotLower, |draft, rule, random| {
-            random.between(rule + 1, draft.n() - 1) as u16
-        }));
-        all.push(in_word(format!("{name} names no rule"), kind, word, Why::NotLower, |draft, _, random| {
-            let any = random.between(draft.n(), 65_535);
-            random.pick(&[draft.n(), 65_535, any]) as u16
+        let itself = if sort.has(kind) { Why::Cycle } else { Why::Sort };
+        all.push(in_word(format!("{name} names its own rule"), kind, word, itself, |_, rule, _| rule as u16));
+        all.push(in_word(
+            format!("{name} names a higher rule over it"),
+            kind,
+            word,
+            Why::Cycle,
+            move |draft, rule, random| {
+                let least = random.between(1, 4);
+                cycles::way_up(draft, rule as u16, least, sort, random)
+            },
+        ));
+        all.push(in_word(format!("{name} names rule n"), kind, word, Why::NotBelow, |draft, _, _| draft.n() as u16));
+        all.push(in_word(format!("{name} names a number above n"), kind, word, Why::NotBelow, |draft, _, random| {
+            let any = random.between(draft.n() + 1, 65_535);
+            random.pick(&[draft.n() + 1, 65_535, any]) as u16
         }));
         for wrong in (0..Rule::KINDS).filter(|wrong| !sort.has(*wrong)) {
-            let value = move |draft: &Draft, rule: usize, random: &mut Random| random.pick(&draft.of_kind(wrong, rule));
-            all.push(in_word(format!("{name} names kind {wrong}"), kind, word, Why::Sort, value));
+            let lower =
+                move |draft: &mut Draft, rule: usize, random: &mut Random| a_rule_of_kind(wrong, rule, draft, random);
+            all.push(in_word(format!("{name} names kind {wrong}"), kind, word, Why::Sort, lower));
+            let higher = move |draft: &mut Draft, rule: usize, random: &mut Random| {
+                let like = a_rule_of_kind(wrong, rule, draft, random);
+                draft.records.push(draft.records[usize::from(like)]);
+                draft.n() as u16 - 1
+            };
+            all.push(in_word(format!("{name} names a higher rule of kind {wrong}"), kind, word, Why::Sort, higher));
         }
+        all.extend(above_kinds(&name, kind, word));
     }
     all
+}
+
+/// A rule of a kind below a bound; any of the kind where there is none below.
+fn a_rule_of_kind(kind: u16, below: usize, draft: &Draft, random: &mut Random) -> u16 {
+    let lower = draft.of_kind(kind, below);
+    random.pick(&if lower.is_empty() { draft.of_kind(kind, draft.n()) } else { lower })
+}
+
+/// A word that names a rule of a kind above 5: 6 where the naming rule comes first, 4 at the one named where that does.
+fn above_kinds(name: &str, kind: u16, word: usize) -> [Damage; 2] {
+    [
+        in_word(format!("{name} names a higher rule of a kind above 5"), kind, word, Why::Sort, |draft, _, random| {
+            draft.records.push([random.pick(&ABOVE_KINDS), 0, 0, 0]);
+            draft.n() as u16 - 1
+        }),
+        damage(format!("{name} names a lower rule of a kind above 5"), move |mut draft, random| {
+            let rule = high_of_kind(kind, &draft, random);
+            let named = usize::from(draft.records[rule][word]).min(draft.n() - 1);
+            draft.records[named][0] = random.pick(&ABOVE_KINDS);
+            Damaged { plan: draft.plan(), refused: Why::Record.at(named), draft: Some(draft) }
+        }),
+    ]
 }
 
 /// 7: the start.
@@ -164,4 +201,130 @@ fn in_start() -> Vec<Damage> {
         })
     });
     made.into_iter().collect()
+}
+
+/// A fault of a rule that leaves its kind, so that it is refused at this rule alone; or none, where the rule has no word for it.
+type Fault = fn(&mut Draft, usize, &mut Random) -> Option<()>;
+
+const FAULTS: [(&str, Why, Fault); 3] = [
+    ("a rule that isn't whole", Why::Record, |draft, rule, random| {
+        let record = &mut draft.records[rule];
+        match record[0] {
+            0 => record[random.between(1, 3)] = random.between(1, 65_535) as u16,
+            2 if random.once_in(2) => record[1] = random.between(256, 65_535) as u16,
+            4 => record[1] = random.between(256, 65_535) as u16,
+            _ => record[3] = random.between(1, 65_535) as u16,
+        }
+        Some(())
+    }),
+    ("a rule that names one not below n", Why::NotBelow, |draft, rule, random| {
+        let names: Vec<_> = names_of(draft.kind(rule)).collect();
+        let any = random.between(draft.n(), 65_535);
+        let (word, _) = if names.is_empty() { return None } else { random.pick(&names) };
+        draft.records[rule][word] = random.pick(&[draft.n(), any]) as u16;
+        Some(())
+    }),
+    ("a rule that names one of the wrong sort", Why::Sort, |draft, rule, random| {
+        let names: Vec<_> = names_of(draft.kind(rule)).collect();
+        let (word, sort) = if names.is_empty() { return None } else { random.pick(&names) };
+        let wrong: Vec<u16> = (0..draft.n() as u16).filter(|named| !sort.has(draft.kind((*named).into()))).collect();
+        draft.records[rule][word] = random.pick(&wrong);
+        Some(())
+    }),
+];
+
+/// Where a fault stands to the rules that reach themselves.
+#[derive(Clone, Copy, PartialEq, Eq)]
+enum Stands {
+    Below,
+    Above,
+    Among,
+}
+
+/// 12: rules that reach themselves, of every shape, in plans of any order; with a start that would be refused; and with a fault that 4, 5 or 6
+/// refuses first, wherever it stands.
+fn in_cycles() -> Vec<Damage> {
+    let mut all = Vec::new();
+    for (name, shape) in cycles::SHAPES {
+        all.push(damage(name.to_string(), move |draft, random| {
+            let cyclic = cycles::added(draft, shape, random);
+            let refused = Why::Cycle.at(cyclic.lowest());
+            Damaged { plan: cyclic.draft.plan(), draft: Some(cyclic.draft), refused }
+        }));
+    }
+    type Start = fn(&Draft, &mut Random) -> u16;
+    let starts: [(&str, Start); 2] = [
+        ("a rule that reaches itself, and start isn't below n", |draft, random| {
+            random.between(draft.n(), 65_535) as u16
+        }),
+        ("a rule that reaches itself, and start is holed", |draft, random| {
+            random.pick(&draft.of_sort(Sort::HOLED, draft.n()))
+        }),
+    ];
+    for (name, start) in starts {
+        all.push(damage(name.to_string(), move |draft, random| {
+            let mut cyclic = cycles::any(draft, random);
+            cyclic.draft.start = start(&cyclic.draft, random);
+            let refused = Why::Cycle.at(cyclic.lowest());
+            Damaged { plan: cyclic.draft.plan(), draft: Some(cyclic.draft), refused }
+        }));
+    }
+    for (fault, why, apply) in FAULTS {
+        for (place, stands) in [("below", Stands::Below), ("above", Stands::Above), ("among", Stands::Among)] {
+            all.push(damage(format!("{fault}, {place} those that reach themselves"), move |draft, random| {
+                let (draft, rule) = loop {
+                    let mut cyclic = cycles::any(draft.clone(), random);
+                    let lowest = cyclic.lowest();
+                    let fits = |rule: usize| match stands {
+                        Stands::Below => rule < lowest,
+                        Stands::Above => rule > lowest && !cyclic.members.contains(&(rule as u16)),
+                        Stands::Among => cyclic.members.contains(&(rule as u16)),
+                    };
+                    let fitting: Vec<usize> = (0..cyclic.draft.n()).filter(|rule| fits(*rule)).collect();
+                    if fitting.is_empty() {
+                        continue;
+                    }
+                    let rule = random.pick(&fitting);
+                    if apply(&mut cyclic.draft, rule, random).is_some() {
+                        break (cyclic.draft, rule);
+                    }
+                };
+                Damaged { plan: draft.plan(), draft: Some(draft), refused: why.at(rule) }
+            }));
+        }
+    }
+    all
+}
+
+/// 4 to 6 of one rule in plans of any order.
+fn in_any_order() -> Vec<Damage> {
+    let mut all = Vec::new();
+    for (way, why) in [("that a lower rule names", Why::Sort), ("that no lower rule names", Why::Record)] {
+        all.push(damage(format!("a kind above 5 {way}, in any order"), move |draft, random| {
+            loop {
+                let mut draft = draft.renumbered(&random.numbering(draft.n()));
+                let rule = random.below(draft.n());
+                draft.records[rule][0] = random.pick(&ABOVE_KINDS);
+                let names_it =
+                    |record: &[u16; 4]| names_of(record[0]).any(|(word, _)| usize::from(record[word]) == rule);
+                let lower = draft.records[..rule].iter().position(names_it);
+                if lower.is_some() == (why == Why::Sort) {
+                    return Damaged { plan: draft.plan(), draft: Some(draft), refused: why.at(lower.unwrap_or(rule)) };
+                }
+            }
+        }));
+    }
+    for (fault, why, apply) in FAULTS {
+        all.push(damage(format!("{fault}, in any order"), move |draft, random| {
+            let mut draft = draft.renumbered(&random.numbering(draft.n()));
+            let rule = loop {
+                let rule = random.below(draft.n());
+                if apply(&mut draft, rule, random).is_some() {
+                    break rule;
+                }
+            };
+            Damaged { plan: draft.plan(), draft: Some(draft), refused: why.at(rule) }
+        }));
+    }
+    all
 }

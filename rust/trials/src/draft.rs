@@ -1,6 +1,24 @@
 //! A plan being made: rules that may still be damaged, and the start.
-use reference::plan::{RECORD, Rule, trailer};
+use reference::plan::{self, RECORD, Rule, Sort, trailer};
 use reference::words;
+
+/// The words that name rules: kind, word, and the sort that the rule named must have.
+pub const NAMES: [(u16, usize, Sort); 9] = [
+    (1, 1, Sort::CLOSED),
+    (1, 2, Sort::CLOSED),
+    (2, 2, Sort::CLOSED),
+    (3, 1, Sort::HOLED),
+    (3, 2, Sort::TREE),
+    (4, 2, Sort::CLOSED),
+    (4, 3, Sort::CLOSED),
+    (5, 1, Sort::HOLED),
+    (5, 2, Sort::HOLED),
+];
+
+/// Those of a kind: word and sort.
+pub fn names_of(kind: u16) -> impl Iterator<Item = (usize, Sort)> {
+    NAMES.into_iter().filter(move |name| name.0 == kind).map(|(_, word, sort)| (word, sort))
+}
 
 #[derive(Clone, Default)]
 pub struct Draft {
@@ -35,6 +53,23 @@ impl Draft {
         (0..below).filter(|rule| self.kind(*rule) == kind).map(|rule| rule as u16).collect()
     }
 
+    /// The rules of a sort below a bound.
+    pub fn of_sort(&self, sort: Sort, below: usize) -> Vec<u16> {
+        (0..below).filter(|rule| sort.has(self.kind(*rule))).map(|rule| rule as u16).collect()
+    }
+
+    /// The same plan with its rules renumbered, rule r as `number[r]`; a number that is no rule's stays.
+    pub fn renumbered(&self, number: &[u16]) -> Draft {
+        let of = |rule: u16| number.get(usize::from(rule)).copied().unwrap_or(rule);
+        let mut records = self.records.clone();
+        for (record, to) in self.records.iter().zip(number) {
+            let renumbered = &mut records[usize::from(*to)];
+            *renumbered = *record;
+            names_of(record[0]).for_each(|(word, _)| renumbered[word] = of(record[word]));
+        }
+        Draft { records, start: of(self.start), prefix: self.prefix.clone() }
+    }
+
     /// The rule words, as seal takes them.
     pub fn words(&self) -> Vec<u8> {
         self.records.iter().flat_map(|record| words::pack(*record)).collect()
@@ -49,11 +84,12 @@ impl Draft {
         plan
     }
 
-    /// The stand-in of every rule, for an empty one none.
+    /// The stand-in of every rule of a valid plan, for an empty one none.
     pub fn representatives(&self) -> Vec<Option<u16>> {
-        let mut known: Vec<Option<u16>> = Vec::with_capacity(self.n());
-        for number in 0..self.n() as u16 {
-            let one = match self.rule(number) {
+        let plan = self.plan();
+        let mut known: Vec<Option<u16>> = vec![None; self.n()];
+        for number in plan::read(&plan).expect("a valid plan").order() {
+            known[usize::from(number)] = match self.rule(number) {
                 Rule::Empty => None,
                 Rule::Pair(b, c) => match (known[usize::from(b)], known[usize::from(c)]) {
                     (Some(_), Some(_)) => Some(number),
@@ -61,7 +97,6 @@ impl Draft {
                 },
                 _ => Some(number),
             };
-            known.push(one);
         }
         known
     }

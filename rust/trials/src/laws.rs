@@ -9,7 +9,11 @@ pub fn ask(before: &Call, outcome: &Outcome, after: &Call) {
     if before.operation == Operation::Seal {
         return ask_front(&before.out, outcome, &after.out, outcome_length(outcome, 0));
     }
-    let past = |why: Why| outcome.is_ok() || outcome.is_err_and(|refused| refused.number > why as u32);
+    // 12 comes before 7.
+    let past = |why: Why| match outcome {
+        Ok(_) => true,
+        Err(refused) => refused.number > why as u32 && refused.number != Why::Cycle as u32,
+    };
     let n = if past(Why::Start) { rules_of(&before.plan) } else { 0 };
     if before.operation.works() {
         let cleared = if past(Why::Lent) { work_bytes(n) } else { 0 };

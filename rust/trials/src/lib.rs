@@ -3,6 +3,7 @@
 
 pub mod call;
 pub mod cursors;
+pub mod cycles;
 pub mod damage;
 pub mod draft;
 pub mod families;
@@ -27,6 +28,7 @@ pub fn try_all(trial: &mut Trial, effort: usize) {
     rounds::walks::small(trial, 40 * effort, 12);
     rounds::walks::large(trial, 12 * effort, 12);
     rounds::sizes::agree(trial, 20 * effort);
+    rounds::orders::agree(trial, 10 * effort);
 }
 
 /// Runs something on a stack that has room for deep forests.

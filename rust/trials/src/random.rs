@@ -47,6 +47,25 @@ impl Random {
         among[self.below(among.len())].clone()
     }
 
+    /// So many rules numbered in any order.
+    pub fn order(&mut self, n: usize) -> Vec<u16> {
+        let mut number: Vec<u16> = (0..n as u16).collect();
+        (1..n).for_each(|last| number.swap(self.below(last + 1), last));
+        number
+    }
+
+    /// So many rules numbered in any order, in reverse, moved on by some, or with a few numbers swapped.
+    pub fn numbering(&mut self, n: usize) -> Vec<u16> {
+        let mut number: Vec<u16> = (0..n as u16).collect();
+        match self.below(6) {
+            0 => number.reverse(),
+            1 => number.rotate_left(self.below(n)),
+            2 => (0..self.between(1, 3)).for_each(|_| number.swap(self.below(n), self.below(n))),
+            _ => number = self.order(n),
+        }
+        number
+    }
+
     pub fn bytes(&mut self, count: usize) -> Vec<u8> {
         let mut bytes = Vec::with_capacity(count + 8);
         while bytes.len() < count {

@@ -1,12 +1,16 @@
 //! What has been tried, and whether it was enough.
 use crate::call::{Call, Operation, Outcome};
-use reference::{NOWHERE, words};
+use reference::{NOWHERE, Why, words};
 use std::collections::BTreeMap;
 use std::fmt;
 
 /// How often each way to a refusal must have come up.
 pub const LEAST_EACH_WAY: u64 = 100;
 pub const LEAST_LETTERS: u64 = 1_000_000;
+/// How many plans must have been compared with themselves in another order.
+pub const LEAST_RENUMBERED: u64 = 1_000;
+/// The last refusal.
+const LAST: u32 = Why::Cycle as u32;
 
 #[derive(Default)]
 pub struct Tally {
@@ -14,6 +18,9 @@ pub struct Tally {
     pub letters: u64,
     /// Letters f, l, n, p, u that led to a node.
     pub moves: u64,
+    /// Plans that were compared with the same plan renumbered, and letters walked on both.
+    pub renumbered: u64,
+    pub letters_on_both: u64,
     /// How often a refusal came up: by its number, the way to it, and the operation.
     ways: BTreeMap<(u32, String, Operation), u64>,
 }
@@ -41,10 +48,13 @@ impl Tally {
         let mut missing: Vec<String> =
             rare.map(|((number, way, operation), count)| format!("{operation:?} {number}, {way}: {count}")).collect();
         missing.extend(
-            (1..=11).filter(|number| !self.ways.keys().any(|key| key.0 == *number)).map(|number| format!("{number}")),
+            (1..=LAST).filter(|number| !self.ways.keys().any(|key| key.0 == *number)).map(|number| format!("{number}")),
         );
         if self.letters < LEAST_LETTERS {
             missing.push(format!("{} letters", self.letters));
+        }
+        if self.renumbered < LEAST_RENUMBERED {
+            missing.push(format!("{} plans renumbered", self.renumbered));
         }
         if 3 * self.moves < self.letters {
             missing.push(format!("{} moves of {} letters", self.moves, self.letters));
@@ -59,7 +69,12 @@ impl fmt::Display for Tally {
             writeln!(f, "{operation:?}: {calls} calls")?;
         }
         writeln!(f, "letters: {}, of which {} moved", self.letters, self.moves)?;
-        for number in 1..=11 {
+        writeln!(
+            f,
+            "renumbered: {} plans beside the same with its rules in any order, {} letters on both",
+            self.renumbered, self.letters_on_both
+        )?;
+        for number in 1..=LAST {
             let of_number = self.ways.iter().filter(|(key, _)| key.0 == number);
             let counts: Vec<u64> = of_number.map(|(_, count)| *count).collect();
             let (least, total) = (counts.iter().min().unwrap_or(&0), counts.iter().sum::<u64>());

@@ -1,4 +1,4 @@
-//! The cases of document 01, by the safe functions.
+//! The cases of document 01, as document 02 leaves them, by the safe functions.
 use mealplan::{Checked, Measured, NOWHERE, Refused};
 use trials::draft::Draft;
 use trials::families;
@@ -81,7 +81,7 @@ fn refusals() {
     assert_eq!(mealplan::check(&[]), Err(refused(1, 0)));
     assert_eq!(mealplan::check(&[0, 0, 0, 0, 0, 0, 0, 0, 0x6D, 0x70]), Err(refused(2, 0)));
     let itself = Draft { records: vec![[1, 0, 0, 0]], ..Draft::default() };
-    assert_eq!(mealplan::check(&itself.plan()), Err(refused(5, 0)));
+    assert_eq!(mealplan::check(&itself.plan()), Err(refused(12, 0)));
     let label = |label| Draft { records: vec![[0; 4], [2, label, 0, 0]], ..Draft::default() }.plan();
     assert_eq!(mealplan::check(&label(255)), Ok(Checked { n: 2, start: 0 }));
     assert_eq!(mealplan::check(&label(256)), Err(refused(4, 1)));

@@ -1,8 +1,10 @@
--- Rules that pass leave the answer to the start, and a refusal is the answer. Assumes nothing.
+-- Rules that pass leave the answer to the search and the start, and a refusal is the answer; rules that name only lower ones are not
+-- searched. Assumes nothing.
 use mathlib.Core.Path.{sym, subst, _∙_}
 use denote.Ref.{now}
 use Rattle.record.specs.Records.{recordsFrom}
-use Rattle.judge.specs.Judge.{startJudged, judged}
+use Rattle.reach.proofs.Orders.{lower-none}
+use Rattle.judge.specs.Judge.{cycleJudged, judged}
 use Rattle.judge.specs.Tested.{Tells}
 use borrow.Author.Needs.{needs}
 use Rattle.judge.proofs.judge.Statement.{statement}
@@ -20,19 +22,22 @@ judge-start-requires c κs = search needs
 enum-told-2 : tie.Need-enum-told-2
 enum-told-2 c = search needs
 
-judge-start-requires-2 : tie.Need-judge-start-requires-2
-judge-start-requires-2 c κs = search needs
+judge-cycles-requires : tie.Need-judge-cycles-requires
+unfolding Tells
+judge-cycles-requires c κs = (c .before .before .before .before .pre .0, c .before .before .before .before .pre .1, subst (Tells (let a = c .before .before .before .before .args in recordsFrom (now (a .s)) (a .first) (a .n))) (c .enum-told2 .given .1) (c .before .before .test-rules .ensures))
 
 enum-known-refusal : tie.Need-enum-known-refusal
 enum-known-refusal c = search needs
 
 returns : tie.Need-returns
-unfolding Tells judged
-returns c = c .judge-start .ensures ∙ sym (subst (Tells (let a = c .before .before .before .before .before .args in recordsFrom (now (a .s)) (a .first) (a .n))) (c .before .enum-told .given .1) (c .before .before .before .test-rules .ensures) .0 _)
+unfolding Tells judged cycleJudged
+returns c =
+    let told = subst (Tells (let a = c .before .before .before .before .before .args in recordsFrom (now (a .s)) (a .first) (a .n))) (c .before .enum-told .given .1) (c .before .before .before .test-rules .ensures) in
+    c .judge-start .ensures ∙ sym (told .0 _ ∙ rw (lower-none _ (told .1)))
 
 returns-2 : tie.Need-returns-2
 unfolding Tells judged
-returns-2 c = c .judge-start2 .ensures ∙ sym (subst (Tells (let a = c .before .before .before .before .before .args in recordsFrom (now (a .s)) (a .first) (a .n))) (c .before .enum-told2 .given .1) (c .before .before .before .test-rules .ensures) _)
+returns-2 c = c .judge-cycles .ensures ∙ sym (subst (Tells (let a = c .before .before .before .before .before .args in recordsFrom (now (a .s)) (a .first) (a .n))) (c .before .enum-told2 .given .1) (c .before .before .before .test-rules .ensures) _)
 
 returns-3 : tie.Need-returns-3
 unfolding Tells judged
@@ -46,7 +51,7 @@ judge-spec =
     enum-told
     judge-start-requires
     enum-told-2
-    judge-start-requires-2
+    judge-cycles-requires
     enum-known-refusal
     returns
     returns-2

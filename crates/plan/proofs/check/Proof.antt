@@ -8,8 +8,11 @@ use denote.Ref.{now}
 use borrow.Author.Tests.{not-true, not-false}
 use borrow.Author.Needs.{needs}
 use Rattle.record.specs.Record.{recordLength}
-use Rattle.plan.specs.Check.{trailerLength, mostRules, accepted, checked}
+use Rattle.plan.specs.Check.{trailerLength, mostRules, accepted, checked, inLimits}
 use Rattle.plan.proofs.Checking.{trailerJudged, check-short, check-unmarked, check-trailer, reached}
+use mathlib.Core.Bool.{and-eq-true-iff}
+use lib.Dec.{leb}
+use borrow.Author.Tests.{leb-true}
 use Rattle.plan.proofs.check.Statement.{statement}
 use Rattle.plan.proofs.check.Tie as tie
 
@@ -70,8 +73,17 @@ near c = reached _ _ _ (sym (c .before .reaches .ensures) ∙ not-false (c .befo
 sub-judge : tie.Need-sub-judge
 sub-judge c = omega (arith, near c)
 
+-- the number of rules, once it has passed its test
+few : (c : tie.Else4) → c .before .before .before .before .before .read .result .n ≤ mostRules
+unfolding inLimits
+few c =
+    let n = c .before .before .before .before .before .read .result .n in
+    leb-true n mostRules
+    (and-eq-true-iff (leb 1 n) (leb n mostRules) .0
+    (sym (c .before .before .before .before .in-limits .ensures) ∙ not-false (c .before .before .before .before .in-limits .result) (c .before .before .before .if3 .left)) .1)
+
 judge-requires : tie.Need-judge-requires
-judge-requires c κs = omega (arith, near c)
+judge-requires c κs = (omega (arith, near c), few c)
 
 accepted-requires : tie.Need-accepted-requires
 accepted-requires c κs = search needs

@@ -40,7 +40,11 @@ cast-judge c =
     omega (arith, counted-few mostRules (now (a .words)) (a .start) (now (a .words)) _ (words .word-count .ensures) (passed c))
 
 judge-requires : tie.Need-judge-requires
-judge-requires c κs = search needs
+judge-requires c κs =
+    let words = c .before .before in
+    let a = words .before .before .args in
+    let few = counted-few mostRules (now (a .words)) (a .start) (now (a .words)) _ (words .word-count .ensures) (passed c) in
+    search needs
 
 enum-known-why : tie.Need-enum-known-why
 enum-known-why c = search needs

@@ -1,12 +1,12 @@
 -- The table is filled in the first rows of the work, and walked on there. Assumes nothing.
 use mathlib.Core.Path.{sym}
-use Rattle.walk.proofs.Filling.{planned, prefix-long, travels, walks-on}
+use Rattle.walk.proofs.Filling.{arrangeable, prefix-long, travels, walks-on}
 use borrow.Author.Needs.{needs}
 use Rattle.walk.proofs.walk_letters.Statement.{statement}
 use Rattle.walk.proofs.walk_letters.Tie as tie
 
 fill-requires : tie.Need-fill-requires
-fill-requires c κs = (planned (c .before .before .before .before .before .before .pre), c .before .before .before .before .before .before .pre .worked)
+fill-requires c κs = arrangeable (c .before .before .before .before .before .before .pre)
 
 mul-rows : tie.Need-mul-rows
 mul-rows c = search needs

@@ -1,10 +1,9 @@
 -- Refused by check, refused for the work, or loaded. Assumes nothing.
-use borrow.Author.Needs.{needs}
-use native.Mathlib.Omega.{arith}
 use mathlib.Core.Path.{sym, _∙_}
 use borrow.Author.Tests.{not-true, not-false}
-use Rattle.work_rows.proofs.Work.{loadable, enough-room}
+use Rattle.work_rows.proofs.Work.{enough-room}
 use Rattle.work_load.proofs.Prepares.{refused, lent, loaded}
+use borrow.Author.Needs.{needs}
 use Rattle.work_load.proofs.load_plan.Statement.{statement}
 use Rattle.work_load.proofs.load_plan.Tie as tie
 
@@ -21,17 +20,10 @@ same-length : tie.Need-same-length
 same-length c = search needs
 
 returns : tie.Need-returns
-returns c =
-    lent _ _ _ _ (sym (c .before .before .before .before .before .before .check .ensures) ∙ c .before .before .before .before .n .given .1) (sym (c .before .enough-work .ensures) ∙ not-true _ (c .if1 .taken))
+returns c = lent _ _ _ _ (sym (c .before .before .before .before .before .before .check .ensures) ∙ c .before .before .before .before .n .given .1) (sym (c .before .enough-work .ensures) ∙ not-true _ (c .if1 .taken))
 
-load-rules-requires : tie.Need-load-rules-requires
-load-rules-requires c κs =
-    loadable _ (c .before .before .before .before .before .before .before .before .before .before .args .work .now) _ _ (sym (c .before .before .before .before .before .before .before .check .ensures) ∙ c .before .before .before .before .before .n .given .1) (enough-room _ _ (sym (c .before .before .enough-work .ensures) ∙ not-false _ (c .before .if1 .left)))
-
-order-by-number-requires : tie.Need-order-by-number-requires
-order-by-number-requires c κs =
-    let room = enough-room _ _ (sym (c .before .before .before .before .before .before .enough-work .ensures) ∙ not-false _ (c .before .before .before .before .before .if1 .left)) in
-    let long = c .before .before .before .load-rules .ensures .beyond .same-length in omega arith
+arrange-requires : tie.Need-arrange-requires
+arrange-requires c κs = record { start = _; accepted = sym (c .before .before .before .before .before .before .before .check .ensures) ∙ c .before .before .before .before .before .n .given .1; room = enough-room _ _ (sym (c .before .before .enough-work .ensures) ∙ not-false _ (c .before .if1 .left)) }
 
 enum-known-refusal : tie.Need-enum-known-refusal
 enum-known-refusal c = search needs
@@ -40,9 +32,7 @@ same-length-2 : tie.Need-same-length-2
 same-length-2 c = search needs
 
 returns-2 : tie.Need-returns-2
-returns-2 c =
-    loaded _ _ _ _ (sym (c .before .before .before .before .before .before .before .before .before .before .before .before .before .before .check .ensures) ∙ c .before .before .before .before .before .before .before .before .before .before .before .before .n .given .1) (sym (c .before .before .before .before .before .before .before .before .before .enough-work .ensures) ∙ not-false _ (c .before .before .before .before .before .before .before .before .if1 .left)) (c .before .before .before .before .before .before .load-rules .ensures)
-    (c .before .before .order-by-number .ensures)
+returns-2 c = loaded _ _ _ _ (sym (c .before .before .before .before .before .before .before .before .before .before .check .ensures) ∙ c .before .before .before .before .before .before .before .before .n .given .1) (sym (c .before .before .before .before .before .enough-work .ensures) ∙ not-false _ (c .before .before .before .before .if1 .left)) (c .before .before .arrange .ensures)
 
 returns-3 : tie.Need-returns-3
 returns-3 c = refused _ _ _ (sym (c .before .before .before .check .ensures) ∙ c .before .refusal .given .1)
@@ -56,8 +46,7 @@ load-plan-spec =
     enough-work-requires
     same-length
     returns
-    load-rules-requires
-    order-by-number-requires
+    arrange-requires
     enum-known-refusal
     same-length-2
     returns-2

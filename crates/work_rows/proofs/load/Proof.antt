@@ -1,4 +1,5 @@
--- The loop's invariant: rows below i hold their rules and nothing else has changed. Assumes nothing.
+-- The loop's invariant: rows below i hold their rules, nothing else has changed, and lower is the test of the rules below i.
+-- Assumes nothing.
 use mathlib.Core.Path.{_≡_, sym, ap, _∙_}
 use denote.Ref.{now}
 use Rattle.rule.specs.Rule.{decode, ruleOf, rulesIn}
@@ -6,20 +7,23 @@ use Rattle.rule.specs.Sound.{rule}
 use Prim.Native.Nat.{_-_, _≤_}
 use native.Mathlib.Omega.{arith}
 use Rattle.record.specs.Records.{recordsFrom}
+use Rattle.reach.specs.Order.{lowerBelow}
 use Rattle.work_rows.specs.Rows.{Loaded}
 use Rattle.rule.proofs.Rules.{rule-recorded}
+use Rattle.reach.proofs.Orders.{lower-none-below, lower-one-more}
 use Rattle.work_rows.proofs.Rows.{loaded-none, loaded-more}
 use Rattle.work_rows.proofs.load.Statement.{statement}
 use Rattle.work_rows.proofs.load.Tie as tie
 
 abbrev Inv-loop : tie.InvT-loop
-Inv-loop plan first n work₀ i₀ work i = (i ≤ n) × Loaded (rulesIn (recordsFrom plan first n)) i work₀ work
+Inv-loop plan first n work₀ lower₀ i₀ work lower i =
+    let R = rulesIn (recordsFrom plan first n) in (i ≤ n) × Loaded R i work₀ work × (lower ≡ lowerBelow R i)
 
 abbrev μ-loop : tie.MeasureT-loop
-μ-loop plan first n work₀ i₀ work i = n - i
+μ-loop plan first n work₀ lower₀ i₀ work lower i = n - i
 
 loop-holds : tie.Need-loop-holds Inv-loop μ-loop
-loop-holds c = (omega arith, loaded-none _ _)
+loop-holds c = (omega arith, loaded-none _ _, lower-none-below _)
 
 cast-read : tie.Need-cast-read Inv-loop μ-loop
 cast-read c = omega arith
@@ -57,13 +61,15 @@ loop-again c =
     = c .before .before .before .rule-of .ensures
     ∙ ap ruleOf (c .before .before .before .before .decode .ensures ∙ ap decode (c .before .before .before .before .before .before .read .ensures))
     ∙ sym (rule-recorded (now (a .plan)) (a .first) (a .n) i (omega arith)) in
-    (omega arith, loaded-more R _ _ _ i (c .before .before .before .before .before .before .before .before .loop .inv .1) (rw means at (c .before .before .put-rule .ensures)))
+    let v = c .before .before .before .before .before .before .before .before .loop .inv in
+    let put = c .before .before .put-rule .ensures in
+    (omega arith, loaded-more R _ _ _ i (v .1) (rw means at (put .0)), lower-one-more R i (v .2) (rw means at (put .1)))
 
 same-length : tie.Need-same-length Inv-loop μ-loop
 same-length c = c .before .loop .inv .1 .beyond .same-length
 
 returns : tie.Need-returns Inv-loop μ-loop
-returns c = let e : c .before .loop .i ≡ c .before .before .before .before .args .n = omega arith in rw e at (c .before .loop .inv .1)
+returns c = let e : c .before .loop .i ≡ c .before .before .before .before .args .n = omega arith in let v = c .before .loop .inv in (rw e at (v .1), rw e at (v .2))
 
 pub load-spec : {M : Type 1} → statement M
 load-spec =

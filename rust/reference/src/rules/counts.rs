@@ -1,4 +1,4 @@
-//! Trees, nodes and levels of every rule, in work, by one pass over the rules.
+//! Trees, nodes and levels of every rule, in work, by one pass over the rules in their order.
 use crate::Measured;
 use crate::plan::{Plan, Rule, WORK_WORDS};
 
@@ -65,16 +65,16 @@ impl Counts {
 /// The size of the start rule's forest, unless it has more than 2^64 − 1 nodes.
 pub fn of_start(plan: &Plan, work: &mut [u8]) -> Option<Measured> {
     let rows: &mut [Row] = work.as_chunks_mut().0;
-    for number in 0..plan.rules.count() {
+    for number in plan.order() {
         let of = |rule: u16| Counts::read(&rows[usize::from(rule)]);
-        let counts = match plan.rules.get(number as u16) {
+        let counts = match plan.rules.get(number) {
             Rule::Empty => Counts { entries: Some(0), ..Counts::default() },
             Rule::Pair(b, c) => of(b).beside(of(c)),
             Rule::Node(_, c) => of(c).under_node(),
             Rule::Part(_, l, r) => of(l).beside(of(r)).under_node(),
             Rule::Fill(b, c) | Rule::Join(b, c) => of(b).filled(of(c)),
         };
-        counts.write(&mut rows[number]);
+        counts.write(&mut rows[usize::from(number)]);
     }
     let start = Counts::read(&rows[usize::from(plan.start)]);
     Some(Measured { trees: start.trees, entries: start.entries?, levels: start.levels })

@@ -1,4 +1,5 @@
-//! The operations by rules alone: tables of rules in the lent work, nothing unfolded, nothing allocated.
+//! The operations by rules alone: tables of rules in the lent work, nothing unfolded, and nothing allocated where rules name only
+//! lower ones; else the order of the rules is.
 //!
 //! A good walker without proofs, for plans of any size: it serves as the second opinion and as the benchmark's other side.
 mod counts;

@@ -31,7 +31,7 @@ impl<'a> Table<'a> {
     pub fn build(plan: &Plan, work: &'a mut [u8]) -> (Table<'a>, &'a mut [u8]) {
         let (rows, rest) = work.split_at_mut(ROW * plan.rules.count());
         let mut table = Table(rows.as_chunks_mut().0);
-        for number in 0..plan.rules.count() as u16 {
+        for number in plan.order() {
             table.add(number, plan.rules.get(number));
         }
         (table, rest)

@@ -59,15 +59,19 @@ impl Unfolded {
     }
 }
 
-/// The plan's rules that mean the empty forest: kind 0, and pairs of two such.
+/// The plan's rules that mean the empty forest: kind 0, and pairs of two such. Each pass finds those over what the pass before found.
 pub(crate) fn empty_rules(plan: &Plan) -> Vec<bool> {
-    let mut empty = Vec::with_capacity(plan.rules.count());
-    for number in 0..plan.rules.count() {
-        empty.push(match plan.rules.get(number as u16) {
+    let mut empty = vec![false; plan.rules.count()];
+    loop {
+        let is_empty = |number| match plan.rules.get(number as u16) {
             plan::Rule::Empty => true,
             plan::Rule::Pair(b, c) => empty[usize::from(b)] && empty[usize::from(c)],
             _ => false,
-        });
+        };
+        let found: Vec<bool> = (0..empty.len()).map(is_empty).collect();
+        if found == empty {
+            return empty;
+        }
+        empty = found;
     }
-    empty
 }

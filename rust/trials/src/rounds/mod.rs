@@ -1,4 +1,5 @@
 //! The rounds of a trial. Each tries one subject as often as it is told.
+pub mod orders;
 pub mod places;
 pub mod plans;
 pub mod sizes;
@@ -23,6 +24,15 @@ fn small(random: &mut Random, most_rules: usize) -> Draft {
     let most = random.pick(&[10, 100, 1000, MOST_NODES as u64]);
     random_plans::start_within(&mut draft, most, random);
     draft
+}
+
+/// A valid plan, and every other time the same with its rules renumbered.
+fn in_any_order(random: &mut Random, draft: Draft) -> Draft {
+    if random.once_in(2) {
+        return draft;
+    }
+    let number = random.numbering(draft.n());
+    draft.renumbered(&number)
 }
 
 /// Letters at random: evenly, with a liking for some, or nearly all the same, so that long rows and deep spines are gone through.

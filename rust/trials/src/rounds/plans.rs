@@ -1,5 +1,6 @@
-//! Refusals 1 to 7: every damage to a plan, tried on every operation.
+//! Refusals 1 to 7 and 12: every damage to a plan, tried on every operation.
 use crate::call::{Call, Operation};
+use crate::cycles;
 use crate::damage;
 use crate::draft::Draft;
 use crate::random_plans;
@@ -14,6 +15,7 @@ pub fn refuse(trial: &mut Trial, rounds: usize) {
             let draft = random_plans::all_kinds(&mut trial.random);
             let n = draft.n();
             let damaged = (damage.apply)(draft, &mut trial.random);
+            let n = damaged.draft.as_ref().map_or(n, Draft::n);
             for operation in Operation::ALL {
                 let Some(call) = prepare(trial, operation, &damaged, n) else { continue };
                 trial.refused(&call, &damage.way, damaged.refused);
@@ -21,6 +23,7 @@ pub fn refuse(trial: &mut Trial, rounds: usize) {
         }
         twice_damaged(trial, &damages);
         limits(trial);
+        long_cycles(trial);
     }
 }
 
@@ -50,6 +53,7 @@ fn twice_damaged(trial: &mut Trial, damages: &[damage::Damage]) {
         return;
     }
     let damaged = (second.apply)(draft, &mut trial.random);
+    let n = damaged.draft.as_ref().map_or(n, Draft::n);
     for operation in Operation::ALL {
         if let Some(call) = prepare(trial, operation, &damaged, n) {
             trial.judge(&call);
@@ -61,12 +65,7 @@ fn twice_damaged(trial: &mut Trial, damages: &[damage::Damage]) {
 fn limits(trial: &mut Trial) {
     for n in [MAX_RULES, MAX_RULES + 1] {
         let draft = Draft { records: vec![Rule::Empty.words(); n], start: 3, prefix: Vec::new() };
-        let mut check = Call::new(Operation::Check, draft.words(), n);
-        check.plan.extend(trailer(n, draft.start));
-        let mut seal = Call::new(Operation::Seal, draft.words(), n);
-        seal.out = trial.random.leftovers(RECORD * n + TRAILER);
-        seal.start = draft.start;
-        for call in [check, seal] {
+        for call in check_and_seal(trial, &draft) {
             if n > MAX_RULES {
                 trial.refused(&call, "1,025 whole rules", Why::Count.here());
             } else {
@@ -74,4 +73,24 @@ fn limits(trial: &mut Trial) {
             }
         }
     }
+}
+
+/// Plans of 1,024 rules in which some rule reaches itself: all of them, some, or the last alone.
+fn long_cycles(trial: &mut Trial) {
+    for (way, draft, lowest) in cycles::long(MAX_RULES, &mut trial.random) {
+        for call in check_and_seal(trial, &draft) {
+            trial.refused(&call, way, Why::Cycle.at(lowest));
+        }
+    }
+}
+
+/// A check of a plan without prefix, and the seal of its rules.
+fn check_and_seal(trial: &mut Trial, draft: &Draft) -> [Call; 2] {
+    let n = draft.n();
+    let mut check = Call::new(Operation::Check, draft.words(), n);
+    check.plan.extend(trailer(n, draft.start));
+    let mut seal = Call::new(Operation::Seal, draft.words(), n);
+    seal.out = trial.random.leftovers(RECORD * n + TRAILER);
+    seal.start = draft.start;
+    [check, seal]
 }

@@ -16,6 +16,7 @@ pub fn agree(trial: &mut Trial, plans: usize) {
             2 => families::leaves(u128::MAX >> trial.random.between(1, 127)),
             _ => rounds::small(&mut trial.random, 60),
         };
+        let draft = rounds::in_any_order(&mut trial.random, draft);
         round_trip(trial, &draft);
         count_and_write(trial, &draft);
     }

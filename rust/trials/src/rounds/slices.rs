@@ -30,6 +30,7 @@ const SHORT: [(&str, Shorter); 4] = [
 /// Seal's 2: words that aren't four to a rule, none, or too many.
 fn seal_words(trial: &mut Trial) {
     let draft = random_plans::all_kinds(&mut trial.random);
+    let draft = rounds::in_any_order(&mut trial.random, draft);
     let whole = draft.words();
     let mut call = Call::new(Operation::Seal, whole.clone(), draft.n());
     call.out = trial.random.leftovers(2 * RECORD * (MAX_RULES + 10));
@@ -53,6 +54,7 @@ fn seal_words(trial: &mut Trial) {
 /// 8: work, cursor and answers.
 fn lent(trial: &mut Trial) {
     let draft = random_plans::all_kinds(&mut trial.random);
+    let draft = rounds::in_any_order(&mut trial.random, draft);
     let letters = rounds::letters(&mut trial.random, 9);
     for operation in [Operation::Measure, Operation::Spread, Operation::Walk] {
         let mut call = Call::new(operation, draft.plan(), draft.n()).with_letters(&letters);
@@ -76,6 +78,7 @@ fn lent(trial: &mut Trial) {
 /// 9: a byte that is no letter, first, last or anywhere.
 fn letters(trial: &mut Trial) {
     let draft = random_plans::all_kinds(&mut trial.random);
+    let draft = rounds::in_any_order(&mut trial.random, draft);
     let count = trial.random.between(3, 40);
     let letters = rounds::letters(&mut trial.random, count);
     let call = Call::new(Operation::Walk, draft.plan(), draft.n()).with_letters(&letters);
@@ -99,6 +102,7 @@ fn letters(trial: &mut Trial) {
 fn outputs(trial: &mut Trial) {
     let (draft, entries) = loop {
         let draft = rounds::small(&mut trial.random, 30);
+        let draft = rounds::in_any_order(&mut trial.random, draft);
         let mut work = vec![0; 64 * draft.n()];
         match rules::measure(&draft.plan(), &mut work) {
             Ok(measured) if measured.entries > 0 => break (draft, measured.entries as usize),
@@ -139,6 +143,7 @@ fn large(trial: &mut Trial) {
         let nested = wrapped(draft.clone());
         // A node above all leaves makes one more, unless they are too many anyway.
         for draft in [draft, nested] {
+            let draft = rounds::in_any_order(&mut trial.random, draft);
             let mut measure = Call::new(Operation::Measure, draft.plan(), draft.n());
             measure.work = trial.random.leftovers(measure.work.len() + 9);
             let mut spread = Call { operation: Operation::Spread, ..measure.clone() };
@@ -153,6 +158,7 @@ fn large(trial: &mut Trial) {
     }
     let mut draft = families::leaves(ALL << 3 | some);
     random_plans::start_within(&mut draft, 40, &mut trial.random);
+    let draft = rounds::in_any_order(&mut trial.random, draft);
     for operation in [Operation::Measure, Operation::Spread] {
         let mut call = Call::new(operation, draft.plan(), draft.n());
         call.out = trial.random.leftovers(200);

@@ -12,6 +12,7 @@ pub fn small(trial: &mut Trial, plans: usize, calls: usize) {
     for _ in 0..plans {
         let most = trial.random.pick(&[6, 15, 40, 200]);
         let draft = rounds::small(&mut trial.random, most);
+        let draft = rounds::in_any_order(&mut trial.random, draft);
         list(trial, &draft, calls);
     }
 }
@@ -25,6 +26,7 @@ pub fn large(trial: &mut Trial, plans: usize, calls: usize) {
         } else {
             random_plans::any(&mut trial.random, n)
         };
+        let draft = rounds::in_any_order(&mut trial.random, draft);
         list(trial, &draft, calls);
     }
 }
@@ -81,7 +83,7 @@ fn next_call(trial: &mut Trial, mut call: Call, n: usize) -> Call {
 }
 
 /// The letters without most of those that lead nowhere. The others lead where they did, since nowhere keeps the place.
-fn mostly_moving(trial: &mut Trial, call: &Call, letters: Vec<u8>) -> Vec<u8> {
+pub(super) fn mostly_moving(trial: &mut Trial, call: &Call, letters: Vec<u8>) -> Vec<u8> {
     let mut scout = call.clone().with_letters(&letters);
     let walked = rules::walk(&scout.plan, &mut scout.work, &mut scout.cursor, &letters, &mut scout.answers);
     walked.expect("a list of calls stays in the forest");

@@ -1,18 +1,21 @@
 //! Measures the proved library against the reference by rules, in one run and on the same buffers; prints the tables and writes them to
-//! docs/bench.md, with a plot in docs/bench.svg.
+//! docs/bench.md, with a plot in docs/bench.svg. `bench check` only prints the times of check by the order of the rules.
 mod plot;
 mod report;
 mod timing;
 mod tours;
 
+use reference::Why;
 use report::Report;
 use std::path::PathBuf;
 use std::{fs, io};
 use timing::{Desk, Times};
 use tours::Tour;
 use trials::call::Operation;
+use trials::cycles;
 use trials::draft::Draft;
 use trials::families::{self, Growth};
+use trials::random::Random;
 
 const SIZES: [usize; 4] = [8, 64, 256, 1024];
 const LETTERS: usize = 10_000;
@@ -28,10 +31,16 @@ const FAMILIES: [(&str, Family); 4] = [
 
 fn main() -> io::Result<()> {
     let mut report = Report::new();
+    if std::env::args().nth(1).is_some_and(|part| part == "check") {
+        orders(&mut report);
+        print!("{}", report.text());
+        return Ok(());
+    }
     letters(&mut report);
     nowhere(&mut report);
     let by_entries = entries(&mut report);
     calls(&mut report);
+    orders(&mut report);
     texts(&mut report);
     print!("{}", report.text());
     let docs: PathBuf = [env!("CARGO_MANIFEST_DIR"), "..", "..", "docs"].iter().collect();
@@ -117,6 +126,42 @@ fn calls(report: &mut Report) {
             let measure = Desk::new(&draft).time(Operation::Measure, 8) / 1000.0;
             report.row(name, n, &[walk.shown(), check.shown(), measure.shown()]);
         }
+    }
+}
+
+/// What a call costs by the order of the rules, and what a refusal with 12 does.
+fn orders(report: &mut Report) {
+    const N: usize = 1024;
+    report.section(
+        "Rules in any order",
+        "Microseconds a call, as above, by the order of 1,024 rules. Those of doubled rows and of combs name lower rules only; then the same backwards, \
+         naming higher ones only, and in any order. The others are refused with 12: a ring of all rules, whose lowest reaches itself, and a \
+         chain into a last rule that alone does, so that a search from each rule in turn goes through all behind it.",
+    );
+    report.header(&["rules", "n", "check", "walk without letters", "measure"]);
+    let (backwards, any): (Vec<u16>, Vec<u16>) = ((0..N as u16).rev().collect(), Random::new(1).order(N));
+    for (name, growth) in [("doubled rows", Growth::Doubled), ("combs", Growth::Comb)] {
+        let mut draft = families::rows(growth, N);
+        tours::start_below(&mut draft, u64::MAX as f64 / 2.0);
+        for (order, draft) in [
+            ("lower only", draft.clone()),
+            ("backwards", draft.renumbered(&backwards)),
+            ("any order", draft.renumbered(&any)),
+        ] {
+            let times = [(Operation::Check, 64), (Operation::Walk, 8), (Operation::Measure, 8)];
+            let times = times.map(|(operation, times)| (Desk::new(&draft).time(operation, times) / 1000.0).shown());
+            report.row(&format!("{name}, {order}"), N, &times);
+        }
+    }
+    for (name, draft, lowest) in [
+        ("a ring of all", cycles::ring(N), 0),
+        ("a ring of all, any order", cycles::ring(N).renumbered(&any), 0),
+        ("a chain into a loop", cycles::chain_into_loop(N), N - 1),
+        ("a chain into a loop, backwards", cycles::chain_into_loop(N).renumbered(&backwards), 0),
+        ("a chain into a loop, any order", cycles::chain_into_loop(N).renumbered(&any), any[N - 1].into()),
+    ] {
+        let check = Desk::refused(&draft, Why::Cycle.at(lowest)).time(Operation::Check, 1) / 1000.0;
+        report.row(name, N, &[check.shown(), "–".to_string(), "–".to_string()]);
     }
 }
 

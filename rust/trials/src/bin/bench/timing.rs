@@ -1,4 +1,5 @@
 //! The clock: both implementations in turn on the same buffers, the best of many rounds.
+use reference::Refused;
 use std::ops::{Div, Sub};
 use std::time::Instant;
 use trials::call::{ByRules, Call, Implementation, Operation, Slices};
@@ -47,13 +48,20 @@ pub struct Desk {
     call: Call,
     /// What the cursor holds before each round.
     place: Vec<u8>,
+    /// What the plan is refused with; nothing if it is accepted.
+    refused: Option<Refused>,
 }
 
 impl Desk {
     /// Buffers just large enough, written once; the place is above the forest.
     pub fn new(draft: &Draft) -> Desk {
         let call = Call::new(Operation::Walk, draft.plan(), draft.n());
-        Desk { place: call.cursor.clone(), call }
+        Desk { place: call.cursor.clone(), call, refused: None }
+    }
+
+    /// The same for a plan that is refused.
+    pub fn refused(draft: &Draft, refused: Refused) -> Desk {
+        Desk { refused: Some(refused), ..Desk::new(draft) }
     }
 
     /// Goes to a place by letters.
@@ -84,8 +92,8 @@ impl Desk {
             answers: &mut call.answers,
             out: &mut call.out,
         };
-        let outcome = implementation.run(operation, lent);
-        assert!(outcome.is_some_and(|outcome| outcome.is_ok()), "what is measured is accepted");
+        let outcome = implementation.run(operation, lent).expect("it takes on every call");
+        assert_eq!(outcome.err(), self.refused, "what is measured is accepted, or refused as it is to be");
     }
 
     /// The time of one call: the best of many rounds of `times` calls, library and reference by turns.
