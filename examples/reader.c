@@ -3,7 +3,7 @@
        reader PLAN
 
    Keys are the letters of plan_walk (a z f l n p u s) and q, which ends; blanks and line ends are passed over.
-   All memory is laid out here, once, for the largest plan: the walker keeps nothing and asks for nothing. */
+   All memory is laid out here, once, for the largest plan of either format: the walker keeps nothing and asks for nothing. */
 #include "mealplan.h"
 #include <ctype.h>
 #include <stdio.h>
@@ -30,13 +30,14 @@ static int read_plan(const char *name) {
     return plan_len > MOST_PLAN ? refused(MEALPLAN_LENT, 0) : 0;
 }
 
-/* Says how large the plan is. */
+/* Says of what format and how large the plan is. */
 static int greet(void) {
     uint16_t n, start;
     uint64_t trees, entries, levels, position;
     uint32_t number = plan_check(plan, plan_len, &n, &start, &position);
     if (number) return refused(number, position);
-    printf("%u rules, start %u: ", n, start);
+    int wide = MEALPLAN_RECORD_LENGTH(plan, plan_len) == MEALPLAN_WIDE;
+    printf("%u %srules, start %u: ", n, wide ? "wide " : "", start);
     number = plan_measure(plan, plan_len, work, sizeof work, &trees, &entries, &levels, &position);
     if (number == MEALPLAN_ROOM) return printf("more than 2^64 - 1 entries\n"), 0;
     if (number) return refused(number, position);
@@ -45,7 +46,7 @@ static int greet(void) {
     return 0;
 }
 
-/* Shows the label that a key led to. */
+/* Shows the label that a key led to: up to eight digits, and the character if it is one. */
 static void show(int key, uint32_t label) {
     if (label == MEALPLAN_NOWHERE)
         printf("%c  nowhere\n", key);

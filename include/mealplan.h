@@ -5,7 +5,14 @@
    lies apart from every other slice of the call, and until the call returns nobody
    else reads or writes it. Slices that are only read (plan, words, letters) may
    overlap each other, and until the call returns nobody writes them either. Words
-   of 16 bits are two bytes, low first; an odd last byte isn't counted.
+   of 16 bits are two bytes, low first; an odd last byte isn't counted. Answers are
+   words of 32 bits, four bytes, low first; a rest of one to three isn't counted.
+
+   Formats. A plan is narrow or wide, as its mark says; plan_seal is told which by the
+   record length, and plan_unseal gives that. In a narrow plan a rule is four words, 8
+   bytes, and a label 0 to 255; in a wide plan a rule is five words, 10 bytes, and a
+   label 0 to 16,777,215, its low 16 bits in word 1 and its high part in the fifth. All
+   else is the same in both: counts, places, letters and answers.
 
    Numbers. The numbers behind pointers lie apart from each other and from all
    slices, are aligned as C has it, and are the call's alone until it returns.
@@ -37,19 +44,39 @@
 extern "C" {
 #endif
 
-/* Limits and lengths in bytes, for n rules, m letters and so many nodes. Each is
-   the least that is accepted; tests/interface.c holds them to the library. */
-#define MEALPLAN_MOST_RULES 1024u                         /* rules of a plan */
-#define MEALPLAN_PLAN_BYTES(n) ((size_t)8 * (n) + 10)     /* a plan without cover: out of plan_seal */
-#define MEALPLAN_WORDS_BYTES(n) ((size_t)8 * (n))         /* its rule words: out of plan_unseal */
-#define MEALPLAN_WORK_BYTES(n) ((size_t)64 * (n))         /* work of measure, spread and walk */
-#define MEALPLAN_CURSOR_BYTES(n) ((size_t)32 * (n) + 32)  /* the cursor */
-#define MEALPLAN_ANSWERS_BYTES(m) ((size_t)2 * (m))       /* answers to m letters */
-#define MEALPLAN_TEXT_BYTES(nodes) ((size_t)3 * (nodes))  /* the text: out of plan_spread */
+/* The record lengths: bytes of a rule, narrow or wide. That of a plan which was
+   accepted is told by its last byte, the second of its mark. */
+#define MEALPLAN_NARROW 8u /* mark 6D 70 */
+#define MEALPLAN_WIDE 10u  /* mark 6D 71 */
+#define MEALPLAN_RECORD_LENGTH(plan, plan_len) \
+    ((plan)[(plan_len) - 1] == 0x71 ? MEALPLAN_WIDE : MEALPLAN_NARROW)
 
-/* Answer number i of answers, from 0: a label, or nowhere. */
-#define MEALPLAN_ANSWER(answers, i) ((uint32_t)(answers)[2 * (i)] | (uint32_t)(answers)[2 * (i) + 1] << 8)
-#define MEALPLAN_NOWHERE 65535u
+/* Limits: the rules of a plan, and its labels. */
+#define MEALPLAN_MOST_RULES 1024u
+#define MEALPLAN_MOST_LABEL(record_length) ((record_length) == MEALPLAN_WIDE ? 16777215u : 255u)
+
+/* Lengths in bytes, for n rules, m letters and so many nodes. Each is the least that
+   is accepted; tests/interface.c holds them to the library. What is to serve for plans
+   of both formats goes by MEALPLAN_WIDE. */
+#define MEALPLAN_WORK_BYTES(n) ((size_t)64 * (n))        /* work of measure, spread and walk */
+#define MEALPLAN_CURSOR_BYTES(n) ((size_t)32 * (n) + 32) /* the cursor */
+#define MEALPLAN_ANSWERS_BYTES(m) ((size_t)4 * (m))      /* answers to m letters */
+
+/* A plan without cover: out of plan_seal. */
+#define MEALPLAN_PLAN_BYTES(n, record_length) ((size_t)(record_length) * (n) + 10)
+
+/* Its rule words: out of plan_unseal. */
+#define MEALPLAN_WORDS_BYTES(n, record_length) ((size_t)(record_length) * (n))
+
+/* The text: out of plan_spread. */
+#define MEALPLAN_TEXT_BYTES(nodes, record_length) \
+    ((size_t)((record_length) == MEALPLAN_WIDE ? 5 : 3) * (nodes))
+
+/* Answer number i of answers, from 0: a label, or nowhere, whatever the format. */
+#define MEALPLAN_ANSWER(answers, i)                                         \
+    ((uint32_t)(answers)[4 * (i)] | (uint32_t)(answers)[4 * (i) + 1] << 8 | \
+     (uint32_t)(answers)[4 * (i) + 2] << 16 | (uint32_t)(answers)[4 * (i) + 3] << 24)
+#define MEALPLAN_NOWHERE 4294967295u
 
 /* The used cells of a cursor, and the bytes at its front that hold the place: these
    alone have to be stored. Whatever stands behind them isn't looked at. */
@@ -59,10 +86,15 @@ extern "C" {
 /* The refusals. */
 enum mealplan_refusal {
     MEALPLAN_ACCEPTED = 0,
-    MEALPLAN_MAGIC = 1,      /* fewer than 10 bytes, or a wrong mark */
-    MEALPLAN_COUNT = 2,      /* n is 0 or above 1,024; the words aren't four to a rule */
-    MEALPLAN_DISTANCE = 3,   /* the distance isn't 8 * n or goes back before the first byte */
-    MEALPLAN_MALFORMED = 4,  /* kind above 5, label above 255, unused word not 0 */
+    MEALPLAN_MAGIC = 1,      /* fewer than 10 bytes, or a mark that is neither; a record
+                                length that is neither 8 nor 10 */
+    MEALPLAN_COUNT = 2,      /* n is 0 or above 1,024; the words aren't four to a rule, or
+                                in a wide plan five */
+    MEALPLAN_DISTANCE = 3,   /* the distance isn't 8 * n, or in a wide plan 10 * n, or goes
+                                back before the first byte */
+    MEALPLAN_MALFORMED = 4,  /* kind above 5, unused word not 0; in a narrow plan label
+                                above 255; in a wide plan fifth word above 255, or not 0
+                                in a kind without a label */
     MEALPLAN_NOT_BELOW = 5,  /* names a rule not below n */
     MEALPLAN_WRONG_SORT = 6, /* names one of the wrong sort, as one of kind above 5 is */
     MEALPLAN_START = 7,      /* start isn't below n or isn't closed */
@@ -79,19 +111,22 @@ enum mealplan_refusal {
 uint32_t plan_check(const uint8_t *plan, size_t plan_len,
                     uint16_t *n, uint16_t *start, uint64_t *position);
 
-/* Seal rule words, four to a rule, as a plan without cover at the front of out: 2,
-   4 to 6, 12, 7, 11. Accepted: *written is the plan's length and later bytes of out
-   stay. Refused: out is untouched. */
-uint32_t plan_seal(const uint8_t *words, size_t words_len, uint16_t start,
+/* Seal rule words as a plan without cover at the front of out: 1, 2, 4 to 6, 12, 7,
+   11. The record length is MEALPLAN_NARROW, for four words to a rule, or
+   MEALPLAN_WIDE, for five; any other is 1, whatever the rest. Accepted: *written is
+   the plan's length and later bytes of out stay. Refused: out is untouched. */
+uint32_t plan_seal(const uint8_t *words, size_t words_len,
+                   uint16_t record_length, uint16_t start,
                    uint8_t *out, size_t out_len,
                    uint64_t *written, uint64_t *position);
 
-/* Unseal a plan, its rule words at the front of out: 1 to 6, 12, 7, 11. Accepted: *n
-   and *start as plan_check gives them, and later words stay. Refused: out is
-   untouched. */
+/* Unseal a plan, its rule words at the front of out: 1 to 6, 12, 7, 11. Accepted:
+   *record_length is that of the plan, *n and *start are as plan_check gives them, and
+   later words stay. Refused: out is untouched. */
 uint32_t plan_unseal(const uint8_t *plan, size_t plan_len,
                      uint8_t *out, size_t out_len,
-                     uint16_t *n, uint16_t *start, uint64_t *position);
+                     uint16_t *record_length, uint16_t *n, uint16_t *start,
+                     uint64_t *position);
 
 /* Measure a plan's forest, *trees, *entries (all nodes) and *levels: 1 to 6, 12, 7, 8,
    and 11 if it has more than 2^64 - 1 nodes. Unless 1 to 8 or 12 refuses, the needed
@@ -102,9 +137,9 @@ uint32_t plan_measure(const uint8_t *plan, size_t plan_len,
                       uint64_t *position);
 
 /* Spread a plan's forest as text, "(", the label, the children, ")" for each node in
-   reading order, at the front of out: 1 to 6, 12, 7, 8, 11. work as for plan_measure.
-   Accepted: *written is the text's length and later bytes of out stay. Refused: out
-   is untouched. */
+   reading order, at the front of out: 1 to 6, 12, 7, 8, 11. The label is a byte, in a
+   wide plan three, low first. work as for plan_measure. Accepted: *written is the
+   text's length and later bytes of out stay. Refused: out is untouched. */
 uint32_t plan_spread(const uint8_t *plan, size_t plan_len,
                      uint8_t *work, size_t work_len,
                      uint8_t *out, size_t out_len,
@@ -129,7 +164,7 @@ uint32_t plan_walk(const uint8_t *plan, size_t plan_len,
    Code with its constants, of all six functions, and of plan_check and plan_walk
    alone where the linker drops what isn't used (--gc-sections). There are no data and
    no bss, and the one function that the library calls is memset. */
-#define MEALPLAN_CODE_BYTES 16384
+#define MEALPLAN_CODE_BYTES 18432
 #define MEALPLAN_CODE_BYTES_CHECK_WALK 12288
 
 /* Stack, whatever the plan: the deepest chain of calls (there is no recursion) with

@@ -1,4 +1,4 @@
-/* Holds include/mealplan.h to the static library, and calls each function on the sample plan as the reader's shell would. For each length of
+/* Holds include/mealplan.h to the static library, and calls each function on the sample plans as the reader's shell would. For each length of
    the header a call with exactly that length is accepted and one with a byte less is refused; each refusal of its enum is provoked. Any
    difference from what documents 01 and 02 and the header say ends the run with status 1. */
 #include "mealplan.h"
@@ -6,11 +6,14 @@
 #include <stdlib.h>
 #include <string.h>
 
-enum { MOST = MEALPLAN_MOST_RULES, TEXT = 33 };
+enum { MOST = MEALPLAN_MOST_RULES, NARROW = MEALPLAN_NARROW, WIDE = MEALPLAN_WIDE, TEXT = 33 };
 
-static uint8_t sample[74], plan[MEALPLAN_PLAN_BYTES(MOST + 1)], words[MEALPLAN_WORDS_BYTES(MOST + 1)], out[MEALPLAN_PLAN_BYTES(MOST) + 1];
-static uint8_t work[MEALPLAN_WORK_BYTES(MOST) + 1], cursor[MEALPLAN_CURSOR_BYTES(MOST) + 1], answers[MEALPLAN_ANSWERS_BYTES(8)];
-static uint16_t n, start;
+/* The sample plan, and the same as a wide plan with labels of its own; what is lent serves for both formats. */
+static uint8_t sample[74], wide[90];
+static uint8_t plan[MEALPLAN_PLAN_BYTES(MOST + 1, WIDE)], words[MEALPLAN_WORDS_BYTES(MOST + 1, WIDE)];
+static uint8_t out[MEALPLAN_PLAN_BYTES(MOST, WIDE) + 1], work[MEALPLAN_WORK_BYTES(MOST) + 1];
+static uint8_t cursor[MEALPLAN_CURSOR_BYTES(MOST) + 1], answers[MEALPLAN_ANSWERS_BYTES(8)];
+static uint16_t record_length, n, start;
 static uint64_t trees, entries, levels, written, position;
 static unsigned calls, seen;
 
@@ -46,19 +49,26 @@ static uint32_t walk(const uint8_t *bytes, size_t length, const char *letters) {
                      strlen(letters), answers, MEALPLAN_ANSWERS_BYTES(strlen(letters)), &position);
 }
 
-/* Every length of the header that goes by the number of rules. */
+static uint32_t seal(size_t length, uint16_t record, size_t room) {
+    return plan_seal(words, length, record, start, out, room, &written, &position);
+}
+
+/* Every length of the header that goes by the number of rules and the format. */
 static void lengths(const uint8_t *bytes, size_t length) {
+    uint16_t record = MEALPLAN_RECORD_LENGTH(bytes, length);
     gives("check", check(bytes, length), MEALPLAN_ACCEPTED, 0);
-    want("MEALPLAN_PLAN_BYTES", length, MEALPLAN_PLAN_BYTES(n));
-    NEEDS(MEALPLAN_WORDS_BYTES(n), MEALPLAN_ROOM, plan_unseal(bytes, length, words, LENGTH, &n, &start, &position));
-    NEEDS(MEALPLAN_PLAN_BYTES(n), MEALPLAN_ROOM,
-          plan_seal(words, MEALPLAN_WORDS_BYTES(n), start, out, LENGTH, &written, &position));
+    want("MEALPLAN_PLAN_BYTES", length, MEALPLAN_PLAN_BYTES(n, record));
+    record_length = 9999;
+    NEEDS(MEALPLAN_WORDS_BYTES(n, record), MEALPLAN_ROOM,
+          plan_unseal(bytes, length, words, LENGTH, &record_length, &n, &start, &position));
+    want("MEALPLAN_RECORD_LENGTH", record_length, record);
+    NEEDS(MEALPLAN_PLAN_BYTES(n, record), MEALPLAN_ROOM, seal(MEALPLAN_WORDS_BYTES(n, record), record, LENGTH));
     want("the length written", written, length);
     want("the same bytes", memcmp(out, bytes, length) == 0, 1);
     NEEDS(MEALPLAN_WORK_BYTES(n), MEALPLAN_LENT, plan_measure(bytes, length, work, LENGTH, &trees, &entries, &levels, &position));
     NEEDS(MEALPLAN_WORK_BYTES(n), MEALPLAN_LENT,
           plan_spread(bytes, length, work, LENGTH, out, sizeof out, &written, &position));
-    want("MEALPLAN_TEXT_BYTES", written, MEALPLAN_TEXT_BYTES(entries));
+    want("MEALPLAN_TEXT_BYTES", written, MEALPLAN_TEXT_BYTES(entries, record));
     const uint8_t *az = (const uint8_t *)"az";
     size_t w = MEALPLAN_WORK_BYTES(n), c = MEALPLAN_CURSOR_BYTES(n), a = MEALPLAN_ANSWERS_BYTES(2);
     NEEDS(w, MEALPLAN_LENT, plan_walk(bytes, length, work, LENGTH, cursor, c, az, 2, answers, a, &position));
@@ -67,14 +77,31 @@ static void lengths(const uint8_t *bytes, size_t length) {
     memset(cursor, 0, sizeof cursor);
 }
 
-/* So many empty rules, which are zeros before their trailer. */
-static size_t empty_rules(size_t count) {
+/* So many empty rules of a format, which are zeros before their trailer. */
+static size_t empty_rules(size_t count, uint16_t record) {
     memset(plan, 0, sizeof plan);
-    uint8_t *trailer = plan + 8 * count;
+    uint8_t *trailer = plan + record * count;
     trailer[0] = (uint8_t)count, trailer[1] = (uint8_t)(count >> 8);
-    trailer[4] = (uint8_t)(8 * count), trailer[5] = (uint8_t)(8 * count >> 8);
-    memcpy(trailer + 8, "mp", 2);
-    return MEALPLAN_PLAN_BYTES(count);
+    trailer[4] = (uint8_t)(record * count), trailer[5] = (uint8_t)(record * count >> 8);
+    memcpy(trailer + 8, record == WIDE ? "mq" : "mp", 2);
+    return MEALPLAN_PLAN_BYTES(count, record);
+}
+
+/* The wide sample is the other one sealed with 65,535 for label 97, a label of three different bytes for 98, and the last one for 99. */
+static void widened(void) {
+    static const uint8_t labels[3][3] = {{255, 255, 0}, {3, 2, 1}, {255, 255, 255}};
+    memset(words, 0, sizeof words);
+    for (size_t r = 0; r < 8; r++) {
+        uint8_t *rule = words + WIDE * r;
+        memcpy(rule, sample + NARROW * r, NARROW);
+        if (rule[0] != 2 && rule[0] != 4) continue;
+        const uint8_t *label = labels[rule[2] - 97];
+        rule[2] = label[0], rule[3] = label[1], rule[8] = label[2];
+    }
+    start = 7;
+    gives("seal of the wide sample", seal(MEALPLAN_WORDS_BYTES(8, WIDE), WIDE, sizeof out), MEALPLAN_ACCEPTED, 0);
+    want("its length", written, sizeof wide);
+    want("its bytes", memcmp(out, wide, sizeof wide) == 0, 1);
 }
 
 /* The sample plan with one byte changed. */
@@ -84,23 +111,36 @@ static uint32_t changed(size_t at, uint8_t byte) {
     return check(plan, sizeof sample);
 }
 
-/* The limit, and the lengths of the smallest plan, of the sample and of the largest. */
+/* The wide one with a word of a rule changed. */
+static uint32_t changed_word(size_t rule, size_t word, unsigned value) {
+    memcpy(plan, wide, sizeof wide);
+    plan[WIDE * rule + 2 * word] = (uint8_t)value, plan[WIDE * rule + 2 * word + 1] = (uint8_t)(value >> 8);
+    return check(plan, sizeof wide);
+}
+
+/* The limit, and the lengths of the smallest plan, of the sample and of the largest, in either format. */
 static void limits(void) {
-    lengths(plan, empty_rules(1));
     lengths(sample, sizeof sample);
-    lengths(plan, empty_rules(MOST));
-    gives("n above MEALPLAN_MOST_RULES", check(plan, empty_rules(MOST + 1)), MEALPLAN_COUNT, 0);
-    memset(words, 0, sizeof words);
-    gives("seal of more rules", plan_seal(words, sizeof words, 0, out, sizeof out, &written, &position), MEALPLAN_COUNT, 0);
+    lengths(wide, sizeof wide);
+    static const uint16_t records[] = {NARROW, WIDE};
+    for (int i = 0; i < 2; i++) {
+        uint16_t record = records[i];
+        lengths(plan, empty_rules(1, record));
+        lengths(plan, empty_rules(MOST, record));
+        gives("n above MEALPLAN_MOST_RULES", check(plan, empty_rules(MOST + 1, record)), MEALPLAN_COUNT, 0);
+        memset(words, 0, sizeof words);
+        gives("seal of more rules", seal(MEALPLAN_WORDS_BYTES(MOST + 1, record), record, sizeof out), MEALPLAN_COUNT, 0);
+    }
 }
 
 /* Each refusal, but 8 and 11, which the lengths provoke. */
 static void refusals(void) {
     gives("nine bytes", check(sample + 65, 9), MEALPLAN_MAGIC, 0);
-    gives("a wrong mark", changed(73, 'q'), MEALPLAN_MAGIC, 0);
+    gives("a mark that is neither", changed(73, 'r'), MEALPLAN_MAGIC, 0);
     gives("n = 0", changed(64, 0), MEALPLAN_COUNT, 0);
-    gives("words that aren't four to a rule", plan_seal(words, 14, 0, out, sizeof out, &written, &position), MEALPLAN_COUNT, 0);
+    gives("words that aren't four to a rule", seal(14, NARROW, sizeof out), MEALPLAN_COUNT, 0);
     gives("a distance that isn't 8 * n", changed(68, 63), MEALPLAN_DISTANCE, 0);
+    gives("label 256", changed(11, 1), MEALPLAN_MALFORMED, 1);
     gives("kind 6 in rule 3", changed(24, 6), MEALPLAN_MALFORMED, 3);
     gives("rule 3 names rule 8 of 8", changed(28, 8), MEALPLAN_NOT_BELOW, 3);
     gives("rule 3 names rule 255 of 8", changed(28, 255), MEALPLAN_NOT_BELOW, 3);
@@ -134,11 +174,60 @@ static void orders(void) {
     gives("and the start doesn't reach it", check(plan, sizeof sample), MEALPLAN_CYCLE, 7);
     plan[38] = 7;
     gives("and rules 4 to 6 only reach it", check(plan, sizeof sample), MEALPLAN_CYCLE, 7);
-    gives("and sealed", plan_seal(plan, 64, 6, out, 0, &written, &position), MEALPLAN_CYCLE, 7);
-    gives("and unsealed", plan_unseal(plan, sizeof sample, words, 0, &n, &start, &position), MEALPLAN_CYCLE, 7);
+    gives("and sealed", plan_seal(plan, 64, NARROW, 6, out, 0, &written, &position), MEALPLAN_CYCLE, 7);
+    gives("and unsealed", plan_unseal(plan, sizeof sample, words, 0, &record_length, &n, &start, &position), MEALPLAN_CYCLE, 7);
     gives("and measured", plan_measure(plan, sizeof sample, work, 0, &trees, &entries, &levels, &position), MEALPLAN_CYCLE, 7);
     gives("and spread", plan_spread(plan, sizeof sample, work, 0, out, 0, &written, &position), MEALPLAN_CYCLE, 7);
     gives("and walked", walk(plan, sizeof sample, "x"), MEALPLAN_CYCLE, 7);
+}
+
+/* The two formats: record lengths, marks, and what a wide plan's words may be. */
+static void formats(void) {
+    for (unsigned record = 0; record <= 65535; record++)
+        if (record != NARROW && record != WIDE) want("seal with any other record length", seal(20, (uint16_t)record, 30), MEALPLAN_MAGIC);
+    gives("record length 9, and no words and no room", seal(0, 9, 0), MEALPLAN_MAGIC, 0);
+    gives("words that aren't five to a rule", seal(18, WIDE, sizeof out), MEALPLAN_COUNT, 0);
+    gives("four words where five are asked for", seal(8, WIDE, sizeof out), MEALPLAN_COUNT, 0);
+    gives("the other mark, and so a wrong distance", changed(73, 'q'), MEALPLAN_DISTANCE, 0);
+    gives("the wide sample", check(wide, sizeof wide), MEALPLAN_ACCEPTED, 0);
+    gives("word 1 of a node is free", changed_word(1, 1, 65534), MEALPLAN_ACCEPTED, 0);
+    gives("word 1 of a part is free", changed_word(4, 1, 256), MEALPLAN_ACCEPTED, 0);
+    gives("fifth word of a node", changed_word(1, 4, 255), MEALPLAN_ACCEPTED, 0);
+    gives("fifth word of a node above 255", changed_word(1, 4, 256), MEALPLAN_MALFORMED, 1);
+    gives("fifth word of a part above 255", changed_word(4, 4, 65535), MEALPLAN_MALFORMED, 4);
+    gives("fifth word of an empty rule", changed_word(0, 4, 1), MEALPLAN_MALFORMED, 0);
+    gives("fifth word of a pair", changed_word(3, 4, 255), MEALPLAN_MALFORMED, 3);
+    gives("fifth word of a fill", changed_word(6, 4, 256), MEALPLAN_MALFORMED, 6);
+    gives("fifth word of a join", changed_word(5, 4, 1), MEALPLAN_MALFORMED, 5);
+    plan[89] = 'p';
+    gives("the old mark, and so a wrong distance", check(plan, sizeof wide), MEALPLAN_DISTANCE, 0);
+    plan[89] = 'o';
+    record_length = n = start = 77;
+    gives("a mark that is neither", plan_unseal(plan, sizeof wide, words, sizeof words, &record_length, &n, &start, &position),
+          MEALPLAN_MAGIC, 0);
+    want("the numbers are left alone", record_length == 77 && n == 77 && start == 77, 1);
+}
+
+/* The wide sample: labels up to the header's last, nowhere beside 65,535, and the text. */
+static void widely(void) {
+    static const uint8_t text[] = "(\xff\xff\xff(\xff\xff\0)(\3\2\1)(";
+    check(wide, sizeof wide);
+    memset(cursor, 0, sizeof cursor);
+    gives("afnff", walk(wide, sizeof wide, "afnff"), MEALPLAN_ACCEPTED, 0);
+    want("the last label", MEALPLAN_ANSWER(answers, 0), MEALPLAN_MOST_LABEL(WIDE));
+    want("65,535 is a food", MEALPLAN_ANSWER(answers, 1), 65535);
+    want("three different bytes", MEALPLAN_ANSWER(answers, 2), 0x010203);
+    want("nowhere", MEALPLAN_ANSWER(answers, 3), MEALPLAN_NOWHERE);
+    NEEDS(MEALPLAN_TEXT_BYTES(11, WIDE), MEALPLAN_ROOM,
+          plan_spread(wide, sizeof wide, work, sizeof work, out, LENGTH, &written, &position));
+    want("the text's first bytes", memcmp(out, text, sizeof text - 1) == 0, 1);
+    gives("a rest of three bytes isn't an answer", plan_walk(wide, sizeof wide, work, sizeof work, cursor, sizeof cursor,
+          (const uint8_t *)"ss", 2, answers, MEALPLAN_ANSWERS_BYTES(1) + 3, &position), MEALPLAN_LENT, 0);
+    memset(cursor, 0, sizeof cursor);
+    gives("label 255", changed(10, (uint8_t)MEALPLAN_MOST_LABEL(NARROW)), MEALPLAN_ACCEPTED, 0);
+    gives("zp", walk(plan, sizeof sample, "zp"), MEALPLAN_ACCEPTED, 0);
+    want("the last label of a narrow plan", MEALPLAN_ANSWER(answers, 1), MEALPLAN_MOST_LABEL(NARROW));
+    memset(cursor, 0, sizeof cursor);
 }
 
 /* The sample plan by document 01, and what calls leave. */
@@ -155,13 +244,13 @@ static void sampled(void) {
     want("levels", levels, 3);
     for (size_t i = 0; i < sizeof work; i++) want("work", work[i], i < MEALPLAN_WORK_BYTES(8) ? 0 : 3);
     memset(out, 2, sizeof out);
-    NEEDS(MEALPLAN_TEXT_BYTES(entries), MEALPLAN_ROOM,
+    NEEDS(MEALPLAN_TEXT_BYTES(entries, NARROW), MEALPLAN_ROOM,
           plan_spread(sample, sizeof sample, work, sizeof work, out, LENGTH, &written, &position));
     want("text length", written, TEXT);
     want("the text", memcmp(out, text, TEXT) == 0, 1);
     want("the byte after it", out[TEXT], 2);
     n = 77;
-    gives("a wrong mark", changed(73, 'q'), MEALPLAN_MAGIC, 0);
+    gives("a mark that is neither", changed(73, 'r'), MEALPLAN_MAGIC, 0);
     want("n is left alone", n, 77);
 }
 
@@ -184,13 +273,24 @@ static void places(void) {
     want("the byte past the cursor", cursor[MEALPLAN_CURSOR_BYTES(8)], 255);
 }
 
-int main(int argc, char **argv) {
-    FILE *file = argc == 2 ? fopen(argv[1], "rb") : NULL;
-    if (!file || fread(sample, 1, sizeof sample, file) != sizeof sample) return printf("usage: interface PLAN\n"), 1;
+/* Reads a plan of so many bytes from a file; says whether it is there. */
+static int read_plan(const char *name, uint8_t *bytes, size_t length) {
+    FILE *file = fopen(name, "rb");
+    if (!file) return 0;
+    size_t came = fread(bytes, 1, length, file);
     fclose(file);
+    return came == length;
+}
+
+int main(int argc, char **argv) {
+    if (argc != 3 || !read_plan(argv[1], sample, sizeof sample) || !read_plan(argv[2], wide, sizeof wide))
+        return printf("usage: interface PLAN WIDE\n"), 1;
+    widened();
     limits();
     refusals();
     orders();
+    formats();
+    widely();
     sampled();
     places();
     want("0 and every refusal came, as bits", seen, (1u << (MEALPLAN_CYCLE + 1)) - 1);

@@ -47,6 +47,26 @@ s  97 a
 stopped with 4 cells
 END
 
+shows samples/wide.bin 'afnnfnnnnununnnq' 0 <<'END'
+8 wide rules, start 7: 3 trees, 11 entries, 3 levels
+a  16777215
+f  65535
+n  66051
+n  16777215
+f  65535
+n  66051
+n  65535
+n  66051
+n  nowhere
+u  16777215
+n  66051
+u  16777215
+n  65535
+n  66051
+n  nowhere
+stopped with 3 cells
+END
+
 shows "$build/absent" 'a' 1 <<'END'
 refused 1 at 0
 END
@@ -54,6 +74,16 @@ END
 head -c 73 samples/plan.bin >"$build/cut"
 shows "$build/cut" 'a' 1 <<'END'
 refused 1 at 0
+END
+
+{ head -c 89 samples/wide.bin && printf r; } >"$build/neither"
+shows "$build/neither" 'a' 1 <<'END'
+refused 1 at 0
+END
+
+{ head -c 89 samples/wide.bin && printf p; } >"$build/other"
+shows "$build/other" 'a' 1 <<'END'
+refused 3 at 0
 END
 
 head -c 16385 /dev/zero >"$build/long"

@@ -1,5 +1,5 @@
-/* How much stack each function of the library takes on plans of 1,024 rules of several shapes, in several orders, held to the bounds of
-   include/mealplan.h.
+/* How much stack each function of the library takes on plans of 1,024 rules of several shapes, in several orders and in both formats, held to
+   the bounds of include/mealplan.h.
    Each call runs on a stack of its own that was painted before: what is no longer paint, below where the function was called, was used.
    A bound that is exceeded, or that is more than twice what was used, ends the run with status 1. */
 #include "mealplan.h"
@@ -10,9 +10,12 @@
 
 enum { RULES = MEALPLAN_MOST_RULES, LETTERS = 4096, TEXT = 1 << 20 };
 
-static uint8_t words[MEALPLAN_WORDS_BYTES(RULES)], plan[MEALPLAN_PLAN_BYTES(RULES)], work[MEALPLAN_WORK_BYTES(RULES)];
-static uint8_t cursor[MEALPLAN_CURSOR_BYTES(RULES)], letters[LETTERS], answers[MEALPLAN_ANSWERS_BYTES(LETTERS)], out[TEXT];
-static uint16_t n, start, first = RULES - 1; /* first: the start that is lent to seal */
+static uint8_t words[MEALPLAN_WORDS_BYTES(RULES, MEALPLAN_WIDE)], plan[MEALPLAN_PLAN_BYTES(RULES, MEALPLAN_WIDE)];
+static uint8_t work[MEALPLAN_WORK_BYTES(RULES)], cursor[MEALPLAN_CURSOR_BYTES(RULES)];
+static uint8_t letters[LETTERS], answers[MEALPLAN_ANSWERS_BYTES(LETTERS)], out[TEXT];
+static uint16_t record, n, start, first = RULES - 1; /* first: the start that is lent to seal */
+static uint16_t format;                              /* the record length of the plan that is tried */
+static size_t words_len, plan_len;
 static uint64_t trees, entries, levels, written, position;
 static uint32_t result;
 
@@ -34,13 +37,13 @@ static uint32_t note(void) {
     __typeof__(&function) callee = (__typeof__(&function))(void (*)(void))note;     \
     for (int i = 0; i < 2; i++, callee = function) result = callee(__VA_ARGS__)
 
-static void check(void) { CALL(plan_check, plan, sizeof plan, &n, &start, &position); }
-static void seal(void) { CALL(plan_seal, words, sizeof words, first, plan, sizeof plan, &written, &position); }
-static void unseal(void) { CALL(plan_unseal, plan, sizeof plan, words, sizeof words, &n, &start, &position); }
-static void measure(void) { CALL(plan_measure, plan, sizeof plan, work, sizeof work, &trees, &entries, &levels, &position); }
-static void spread(void) { CALL(plan_spread, plan, sizeof plan, work, sizeof work, out, sizeof out, &written, &position); }
+static void check(void) { CALL(plan_check, plan, plan_len, &n, &start, &position); }
+static void seal(void) { CALL(plan_seal, words, words_len, format, first, plan, sizeof plan, &written, &position); }
+static void unseal(void) { CALL(plan_unseal, plan, plan_len, words, sizeof words, &record, &n, &start, &position); }
+static void measure(void) { CALL(plan_measure, plan, plan_len, work, sizeof work, &trees, &entries, &levels, &position); }
+static void spread(void) { CALL(plan_spread, plan, plan_len, work, sizeof work, out, sizeof out, &written, &position); }
 static void walk(void) {
-    CALL(plan_walk, plan, sizeof plan, work, sizeof work, cursor, sizeof cursor, letters, LETTERS, answers, sizeof answers, &position);
+    CALL(plan_walk, plan, plan_len, work, sizeof work, cursor, sizeof cursor, letters, LETTERS, answers, sizeof answers, &position);
 }
 
 /* The bytes of stack that a call used, the deeper of two stacks painted differently. */
@@ -81,9 +84,11 @@ static uint32_t below(uint32_t bound) {
     return x % bound;
 }
 
+/* Writes a rule; in a wide plan the high part of a label is as its low one. */
 static void rule(size_t r, unsigned kind, unsigned a, unsigned b, unsigned c) {
-    unsigned word[4] = {kind, a, b, c};
-    for (size_t i = 0; i < 4; i++) words[8 * r + 2 * i] = (uint8_t)word[i], words[8 * r + 2 * i + 1] = (uint8_t)(word[i] >> 8);
+    unsigned word[5] = {kind, a, b, c, kind == 2 || kind == 4 ? a : 0};
+    uint8_t *to = words + format * r;
+    for (size_t i = 0; i < format / 2u; i++) to[2 * i] = (uint8_t)word[i], to[2 * i + 1] = (uint8_t)(word[i] >> 8);
 }
 
 /* The shapes. Rules 0 to 2 are empty, a node and a node with a hole between two; the last rule, the start, closes or ends what stands
@@ -152,11 +157,12 @@ static const struct order {
 static uint64_t renumber(const struct order *o) {
     static uint8_t made[sizeof words];
     static uint16_t number[RULES];
-    memcpy(made, words, sizeof words);
+    memcpy(made, words, words_len);
     o->made(number);
     for (unsigned r = 0; r < RULES; r++) {
+        const uint8_t *from = made + format * r;
         unsigned word[4];
-        for (size_t i = 0; i < 4; i++) word[i] = made[8 * r + 2 * i] | (unsigned)made[8 * r + 2 * i + 1] << 8;
+        for (size_t i = 0; i < 4; i++) word[i] = from[2 * i] | (unsigned)from[2 * i + 1] << 8;
         int labelled = word[0] == 2 || word[0] == 4;
         if (word[0] && !labelled) word[1] = number[word[1]];
         if (word[0]) word[2] = number[word[2]];
@@ -170,10 +176,11 @@ static uint64_t renumber(const struct order *o) {
 
 /* The plan that seal would write of the words, which it doesn't where it refuses. */
 static void lay_out(void) {
-    memcpy(plan, words, sizeof words);
-    unsigned trailer[4] = {RULES, first, 8 * RULES, 0};
-    for (size_t i = 0; i < 4; i++) plan[sizeof words + 2 * i] = (uint8_t)trailer[i], plan[sizeof words + 2 * i + 1] = (uint8_t)(trailer[i] >> 8);
-    memcpy(plan + sizeof words + 8, "mp", 2);
+    memcpy(plan, words, words_len);
+    unsigned trailer[4] = {RULES, first, (unsigned)words_len, 0};
+    uint8_t *to = plan + words_len;
+    for (size_t i = 0; i < 4; i++) to[2 * i] = (uint8_t)trailer[i], to[2 * i + 1] = (uint8_t)(trailer[i] >> 8);
+    memcpy(to + 8, format == MEALPLAN_WIDE ? "mq" : "mp", 2);
 }
 
 static void build(const struct shape *s) {
@@ -188,9 +195,16 @@ static void build(const struct shape *s) {
     memset(cursor, 0, sizeof cursor);
 }
 
-/* Every function on a shape in an order; gives how many went otherwise than they are to. */
-static int tried(const struct shape *s, const struct order *o) {
+static const struct format {
+    const char *name;
+    uint16_t length;
+} formats[] = {{"narrow", MEALPLAN_NARROW}, {"wide", MEALPLAN_WIDE}};
+
+/* Every function on a shape in an order and a format; gives how many went otherwise than they are to. */
+static int tried(const struct shape *s, const struct order *o, const struct format *as) {
     int wrong = 0;
+    format = as->length;
+    words_len = MEALPLAN_WORDS_BYTES(RULES, format), plan_len = MEALPLAN_PLAN_BYTES(RULES, format);
     build(s);
     uint64_t lowest = renumber(o);
     lay_out();
@@ -199,19 +213,20 @@ static int tried(const struct shape *s, const struct order *o) {
         if (f->most < bytes) f->most = bytes;
         int large = (f->call == measure || f->call == spread) && result == MEALPLAN_ROOM;
         int fine = o->cycle ? result == MEALPLAN_CYCLE && position == lowest : !result || large;
-        if (!fine) printf("%s on %s, %s: %u at %u\n", f->name, s->name, o->name, result, (unsigned)position), wrong++;
+        if (!fine) printf("%s on %s, %s, %s: %u at %u\n", f->name, s->name, o->name, as->name, result, (unsigned)position), wrong++;
     }
     if (o->cycle) return wrong;
     size_t moved = 0;
     for (size_t i = 0; i < LETTERS; i++) moved += MEALPLAN_ANSWER(answers, i) != MEALPLAN_NOWHERE;
-    printf("%s, %s: %zu of %d letters lead to a node\n", s->name, o->name, moved, LETTERS);
+    printf("%s, %s, %s: %zu of %d letters lead to a node\n", s->name, o->name, as->name, moved, LETTERS);
     return wrong;
 }
 
 int main(void) {
     int failed = 0;
     for (size_t s = 0; s < sizeof shapes / sizeof *shapes; s++)
-        for (size_t o = 0; o < sizeof orders / sizeof *orders; o++) failed |= tried(&shapes[s], &orders[o]) != 0;
+        for (size_t o = 0; o < sizeof orders / sizeof *orders; o++)
+            for (size_t f = 0; f < sizeof formats / sizeof *formats; f++) failed |= tried(&shapes[s], &orders[o], &formats[f]) != 0;
     for (struct function *f = functions; f < functions + 6; f++) {
         int bad = f->bound < f->most || 2 * f->most < f->bound;
         printf("%s: %zu bytes of stack used, %zu stated%s\n", f->name, f->most, f->bound, bad ? ": FAILED" : "");

@@ -49,6 +49,19 @@ holds "no letters" 0 '' "$root/stroll" "$sample" ''
 printf '\1\0\1\0\4\0\0\0\3\0\2\0\6\0\0\0\5\0\3\0\3\0\0\0\4\0\143\0\4\0\5\0\1\0\6\0\5\0\0\0\2\0\142\0\7\0\0\0\2\0\141\0\7\0\0\0' >"$room/plan"
 printf '\0\0\0\0\0\0\0\0\10\0\0\0\100\0\0\0mp' >>"$room/plan"
 holds "the sample with its rules in reverse order" 0 "$(cat "$root/crates/stroll/stdout")\n" "$root/stroll" "$room/plan" afnnfnnnnununnn
+wide=$root/samples/wide.bin
+# The answers to the same letters as for the sample, with the wide sample's labels.
+answers=$(sed 's/ 97$/ 65535/; s/ 98$/ 66051/; s/ 99$/ 16777215/' "$root/crates/stroll/stdout")
+holds "the wide sample" 0 "$answers\n" "$root/stroll" "$wide" afnnfnnnnununnn
+holds "labels of five and eight digits" 0 'a 16777215\nf 65535\nf -\n' "$root/stroll" "$wide" aff
+{ head -c 89 "$wide" && printf p; } >"$room/plan"
+holds "the wide sample with the old mark" 0 'refused 3 at 0\n' "$root/stroll" "$room/plan" a
+{ head -c 89 "$wide" && printf r; } >"$room/plan"
+holds "a mark that is neither" 0 'refused 1 at 0\n' "$root/stroll" "$room/plan" a
+{ head -c 10240 /dev/zero && printf '\0\4\0\0\0\50\0\0mq'; } >"$room/plan"
+holds "a wide plan of 1,024 rules" 0 'a -\nz -\n' "$root/stroll" "$room/plan" az
+{ many 16294 x && cat "$wide"; } >"$room/plan"
+holds "a wide plan of 16,384 bytes, and the longest output" 0 "a 16777215\n$(many 4095 's 16777215\\n')" "$root/stroll" "$room/plan" "a$(many 4095 s)"
 printf '\1\0\0\0\0\0\0\0\1\0\0\0\10\0\0\0mp' >"$room/plan"
 holds "rule 0 = pair 0 0" 0 'refused 12 at 0\n' "$root/stroll" "$room/plan" a
 holds "rule 0 = pair 0 0, and 4,097 letters" 0 'refused 12 at 0\n' "$root/stroll" "$room/plan" "$(many 4097 a)"

@@ -3,6 +3,7 @@
 use Prim.Native.Nat.{ℕ}
 use Rattle.plan.specs.declared.Checked.{Checked}
 use Rattle.plan.specs.declared.Written.{Written}
+use Rattle.unseal.specs.declared.Unsealed.{Unsealed}
 use Rattle.refusal.specs.Refusal.{numberOf, positionOf}
 use Rattle.forest.specs.declared.Measured.{Measured}
 use Rattle.forest.specs.declared.Walked.{Walked}
@@ -15,6 +16,10 @@ checkedResult (Checked.Refused r) = numberOf r
 unfoldable pub writtenResult : Written → ℕ
 writtenResult (Written.Length n) = 0
 writtenResult (Written.Refused r) = numberOf r
+
+unfoldable pub unsealedResult : Unsealed → ℕ
+unsealedResult (Unsealed.Words l n start) = 0
+unsealedResult (Unsealed.Refused r) = numberOf r
 
 unfoldable pub measuredResult : Measured → ℕ
 measuredResult (Measured.Counts t e l) = 0
@@ -33,6 +38,10 @@ unfoldable pub writtenPosition : Written → ℕ
 writtenPosition (Written.Length n) = 0
 writtenPosition (Written.Refused r) = positionOf r
 
+unfoldable pub unsealedPosition : Unsealed → ℕ
+unsealedPosition (Unsealed.Words l n start) = 0
+unsealedPosition (Unsealed.Refused r) = positionOf r
+
 unfoldable pub measuredPosition : Measured → ℕ
 measuredPosition (Measured.Counts t e l) = 0
 measuredPosition (Measured.Refused r) = positionOf r
@@ -49,6 +58,18 @@ countAfter (Checked.Refused r) old = old
 unfoldable pub startAfter : Checked → ℕ → ℕ
 startAfter (Checked.Accepted n start) old = start
 startAfter (Checked.Refused r) old = old
+
+unfoldable pub unsealedLength : Unsealed → ℕ → ℕ
+unsealedLength (Unsealed.Words l n start) old = l
+unsealedLength (Unsealed.Refused r) old = old
+
+unfoldable pub unsealedCount : Unsealed → ℕ → ℕ
+unsealedCount (Unsealed.Words l n start) old = n
+unsealedCount (Unsealed.Refused r) old = old
+
+unfoldable pub unsealedStart : Unsealed → ℕ → ℕ
+unsealedStart (Unsealed.Words l n start) old = start
+unsealedStart (Unsealed.Refused r) old = old
 
 unfoldable pub lengthAfter : Written → ℕ → ℕ
 lengthAfter (Written.Length n) old = n

@@ -3,10 +3,12 @@ use forest::Measured;
 use forest::Walked;
 use plan::Checked;
 use plan::Written;
+use unseal::Unsealed;
 ghost use mathlib.Core.Path.{_≡_};
 ghost use Rattle.c_result.specs.Interface.{measuredResult, measuredPosition, treesAfter, entriesAfter, levelsAfter};
 ghost use Rattle.c_result.specs.Interface.{checkedResult, writtenResult, checkedPosition, writtenPosition, countAfter};
 ghost use Rattle.c_result.specs.Interface.{startAfter, lengthAfter, walkedResult, walkedPosition};
+ghost use Rattle.c_result.specs.Interface.{unsealedResult, unsealedPosition, unsealedLength, unsealedCount, unsealedStart};
 
 // What a checked answer leaves behind the pointers, and the result.
 pub fn give_checked(answer: Checked, n: &mut u16, start: &mut u16, position: &mut u64) -> u32
@@ -32,6 +34,47 @@ pub fn give_checked(answer: Checked, n: &mut u16, start: &mut u16, position: &mu
             0
         }
         Checked::Refused(refusal) => {
+            *position = refusal.position();
+            refusal.number()
+        }
+    }
+}
+
+// What an unsealed answer leaves behind the pointers, and the result.
+pub fn give_unsealed(
+    answer: Unsealed,
+    record_length: &mut u16,
+    n: &mut u16,
+    start: &mut u16,
+    position: &mut u64,
+) -> u32
+    ensures { λ r.
+        let length′ = now (record_length .exit) in
+        let n′ = now (n .exit) in
+        let start′ = now (start .exit) in
+        let position′ = now (position .exit) in
+        let length = now (record_length .entry) in
+        let n = now (n .entry) in
+        let start = now (start .entry) in
+        ⌜ (r ≡ unsealedResult answer)
+        × (length′ ≡ unsealedLength answer length)
+        × (n′ ≡ unsealedCount answer n)
+        × (start′ ≡ unsealedStart answer start)
+        × (position′ ≡ unsealedPosition answer) ⌝ }
+{
+    match answer {
+        Unsealed::Words {
+            length,
+            n: rules,
+            start: rule,
+        } => {
+            *record_length = length;
+            *n = rules;
+            *start = rule;
+            *position = 0;
+            0
+        }
+        Unsealed::Refused(refusal) => {
             *position = refusal.position();
             refusal.number()
         }

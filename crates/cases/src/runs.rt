@@ -12,9 +12,9 @@ use place_cells::Cell;
 use plan::Checked;
 use plan::Trailer;
 use plan::Written;
+use record::Format;
 ghost use Prim.Native.Nat.{_+_, _*_, _≤_};
 ghost use lib.ListN.{length};
-ghost use Rattle.record.specs.Record.{recordLength};
 ghost use Rattle.plan.specs.Check.{trailerLength};
 
 // Bytes of work, of the cursor and of answers.
@@ -22,7 +22,7 @@ const WORK: usize = 512;
 
 const CURSOR: usize = 288;
 
-const ANSWERS: usize = 32;
+const ANSWERS: usize = 64;
 
 // As "accepted 8 7", n and start.
 fn put_checked(out: &mut [u8; ROOM], answer: Checked) -> usize {
@@ -46,9 +46,9 @@ pub fn check(case: &[u8], plan: &[u8], expected: &[u8]) {
 
 // Check of so many empty rules: zeros that a trailer is written into.
 pub fn check_empty(case: &[u8], zeros: &mut [u8], n: u16, expected: &[u8])
-    requires { ⌜ recordLength * n + trailerLength ≤ length (now zeros) ⌝ }
+    requires { ⌜ 8 * n + trailerLength ≤ length (now zeros) ⌝ }
 {
-    Trailer::write(zeros, n, 0);
+    Trailer::write(zeros, Format::Narrow, n, 0);
     check(case, zeros, expected);
 }
 
@@ -68,7 +68,7 @@ pub fn seal(case: &[u8], expected: &[u8]) {
     let plan = sample::bytes();
     let mut sealed = [0u8; 74];
     let mut out = [0u8; ROOM];
-    let end = put_written(&mut out, seal::seal(&plan[..64], 7, &mut sealed));
+    let end = put_written(&mut out, seal::seal(&plan[..64], 8, 7, &mut sealed));
     tell_text(case, &out, end, expected);
 }
 
@@ -119,9 +119,9 @@ fn walk(plan: &[u8], letters: &[u8], cursor: &mut [u8; CURSOR]) -> [u8; ANSWERS]
 }
 
 // A word of answers in decimal, or "-" for nowhere.
-fn put_answer(out: &mut [u8; ROOM], at: usize, word: u16) -> usize {
+fn put_answer(out: &mut [u8; ROOM], at: usize, word: u32) -> usize {
     let end = put_gap(out, at);
-    if word as u32 == Letter::NOWHERE {
+    if word == Letter::NOWHERE {
         return put(out, end, b"-");
     }
     put_number(out, end, word as u64)
@@ -131,9 +131,9 @@ fn put_answer(out: &mut [u8; ROOM], at: usize, word: u16) -> usize {
 fn put_answers(out: &mut [u8; ROOM], answers: &[u8; ANSWERS], letters: usize) -> usize {
     let mut end = 0;
     let mut i = 0;
-    while i < ANSWERS / 2 {
+    while i < ANSWERS / Letter::ANSWER_LENGTH {
         if i < letters {
-            end = put_answer(out, end, words::read16(answers, 2 * i));
+            end = put_answer(out, end, words::read32(answers, Letter::ANSWER_LENGTH * i));
         }
         i += 1;
     }

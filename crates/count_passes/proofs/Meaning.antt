@@ -4,6 +4,7 @@ use Prim.Native.Nat.{ℕ, suc, _+_, _≤_, max}
 use native.Mathlib.Omega.{arith}
 use mathlib.Core.Path.{_≡_, refl, sym, _∙_, ap, ap₂}
 use mathlib.Core.List.{List, [], _∷_, _++_}
+use Rattle.record.specs.declared.Format.{Format}
 use Rattle.forest.specs.Expression.{Expression}
 use Rattle.forest.specs.Algebra.{value}
 use Rattle.forest.specs.Forest.{Forest, trees, count, weigh, one, levels, text}
@@ -11,29 +12,30 @@ use Rattle.forest.specs.Outcome.{entry}
 use Rattle.forest.specs.Good.{Sort, Good}
 use Rattle.forest.proofs.Counts.{count-pair, weigh-pair, levels-pair, text-pair, weigh-node, levels-node, text-node, weigh-part, levels-part, holeDepth, holeDepth-part, holeDepth-join, weigh-fill, levels-fill, count-tree, count-spine, text-fill, before as textBefore, after as textAfter}
 use Rattle.count_passes.specs.Recurrence.{nodesIn, treesIn, depthIn, levelsIn}
-use Rattle.count_passes.specs.Says.{whole, before, after, opening, closing, says}
+use Rattle.count_passes.specs.Says.{whole, before, after, opened, closing, says}
 
 -- what says is, by sort: a closed expression's text; of a holed one the texts on both sides of the hole
-abbrev pub Told : Sort → Expression → Type 0
-Told Sort.row e = says e whole ≡ text (trees (value e))
-Told Sort.tree e = says e whole ≡ text (trees (value e))
-Told Sort.spine e = (says e before ≡ textBefore e) × (says e after ≡ textAfter e)
+module _ (f : Format) where
+  abbrev pub Told : Sort → Expression → Type 0
+  Told Sort.row e = says f e whole ≡ text f (trees (value e))
+  Told Sort.tree e = says f e whole ≡ text f (trees (value e))
+  Told Sort.spine e = (says f e before ≡ textBefore f e) × (says f e after ≡ textAfter f e)
 
-told-fill : (r : ℕ) (b c : Expression) → Good Sort.spine b → Told Sort.spine b → Told Sort.tree c → Told Sort.tree (Expression.fill r b c)
-unfolding says value
-told-fill r b c g p q = rw (p .0, p .1, q) (sym (text-fill g (value c)))
+  told-fill : (r : ℕ) (b c : Expression) → Good Sort.spine b → Told Sort.spine b → Told Sort.tree c → Told Sort.tree (Expression.fill r b c)
+  unfolding says value
+  told-fill r b c g p q = rw (p .0, p .1, q) (sym (text-fill f g (value c)))
 
-pub told : {s : Sort} {e : Expression} → Good s e → Told s e
-unfolding says value trees text textBefore textAfter
-told Good.empty = refl
-told (Good.pair {r = r} {b = b} {c = c} g h) = ap₂ _++_ (told g) (told h) ∙ sym (text-pair r b c)
-told (Good.grown g) = told g
-told (Good.node {r = r} {a = a} {c = c} g) =
-    ap (λ (l : List ℕ). opening ∷ a ∷ (l ++ (closing ∷ []))) (told g) ∙ sym (text-node r a c)
-told (Good.fill {r = r} {b = b} {c = c} g h) = told-fill r b c g (told g) (told h)
-told (Good.part {a = a} g h) =
-    (ap (λ (l : List ℕ). opening ∷ a ∷ l) (told g), ap (λ (l : List ℕ). l ++ (closing ∷ [])) (told h))
-told (Good.join g h) = (ap₂ _++_ (told g .0) (told h .0), ap₂ _++_ (told h .1) (told g .1))
+  pub told : {s : Sort} {e : Expression} → Good s e → Told s e
+  unfolding says value trees text textBefore textAfter
+  told Good.empty = refl
+  told (Good.pair {r = r} {b = b} {c = c} g h) = ap₂ _++_ (told g) (told h) ∙ sym (text-pair r b c f)
+  told (Good.grown g) = told g
+  told (Good.node {r = r} {a = a} {c = c} g) =
+      ap (λ (l : List ℕ). opened f a ++ (l ++ (closing ∷ []))) (told g) ∙ sym (text-node r a c f)
+  told (Good.fill {r = r} {b = b} {c = c} g h) = told-fill r b c g (told g) (told h)
+  told (Good.part {a = a} g h) =
+      (ap (λ (l : List ℕ). opened f a ++ l) (told g), ap (λ (l : List ℕ). l ++ (closing ∷ [])) (told h))
+  told (Good.join g h) = (ap₂ _++_ (told g .0) (told h .0), ap₂ _++_ (told h .1) (told g .1))
 
 -- the sum of a weight over all nodes
 pub nodes-value : (w : ℕ → ℕ) {s : Sort} {e : Expression} → Good s e → nodesIn w e ≡ weigh w (trees (value e))

@@ -4,6 +4,9 @@ use Prim.Native.Nat.{ℕ}
 use mathlib.Core.Bool.{cond}
 use mathlib.Core.List.{List, [], _∷_, _++_}
 use lib.Dec.{eqb}
+use Rattle.words.specs.Number.{bytes}
+use Rattle.record.specs.declared.Format.{Format}
+use Rattle.record.specs.Format.{labelLength}
 use Rattle.forest.specs.Expression.{Expression}
 
 -- which part of the text
@@ -23,10 +26,14 @@ opening = 40
 abbrev pub closing : ℕ
 closing = 41
 
-unfoldable pub says : Expression → ℕ → List ℕ
-says (Expression.empty r) p = []
-says (Expression.pair r b c) p = says b whole ++ says c whole
-says (Expression.node r a c) p = opening ∷ a ∷ (says c whole ++ (closing ∷ []))
-says (Expression.fill r b c) p = says b before ++ (says c whole ++ says b after)
-says (Expression.part r a b c) p = cond (eqb p before) (opening ∷ a ∷ says b whole) (says c whole ++ (closing ∷ []))
-says (Expression.join r b c) p = cond (eqb p before) (says b before ++ says c before) (says c after ++ says b after)
+-- "(" and a label: one byte or three, by the format
+abbrev pub opened : Format → ℕ → List ℕ
+opened f a = opening ∷ bytes (labelLength f) a
+
+unfoldable pub says : Format → Expression → ℕ → List ℕ
+says f (Expression.empty r) p = []
+says f (Expression.pair r b c) p = says f b whole ++ says f c whole
+says f (Expression.node r a c) p = opened f a ++ (says f c whole ++ (closing ∷ []))
+says f (Expression.fill r b c) p = says f b before ++ (says f c whole ++ says f b after)
+says f (Expression.part r a b c) p = cond (eqb p before) (opened f a ++ says f b whole) (says f c whole ++ (closing ∷ []))
+says f (Expression.join r b c) p = cond (eqb p before) (says f b before ++ says f c before) (says f c after ++ says f b after)

@@ -17,7 +17,7 @@ use Rattle.forest.specs.Forest.{forest}
 use Rattle.forest.specs.Place.{placedForest}
 use Rattle.forest.specs.Reference.{answers}
 use Rattle.forest.specs.Outcome.{enoughWork}
-use Rattle.forest.specs.Walk.{cursorWords, enoughLent, lettersOf, firstOther, cellAt, Begun, lettersJudged, begun, walked, answerWord}
+use Rattle.forest.specs.Walk.{answerLength, answerCount, cursorWords, enoughLent, lettersOf, firstOther, cellAt, Begun, lettersJudged, begun, walked, answerWord}
 use Rattle.demand.specs.Calls.{Call, Left, lent, walkOf}
 use Rattle.demand.specs.Demand.{Above, isRefused, answerWords}
 use Rattle.demand.proofs.Walkable.{Stands}
@@ -41,7 +41,7 @@ unfolding Above cellAt
 zeros-above m = simp number-zeros
 
 module _ (s work cursor letters given : List ℕ) (n start : ℕ) (accepted : checked s ≡ Checked.Accepted n start) (above : Above cursor)
-    (worked : 64 * n ≤ length work) (room : 32 * (n + 1) ≤ length cursor) (answerable : 2 * length letters ≤ length given) where
+    (worked : 64 * n ≤ length work) (room : 32 * (n + 1) ≤ length cursor) (answerable : answerLength * length letters ≤ length given) where
   abbrev call : Call
   call = record { work = work; letters = letters; answers = given }
 
@@ -54,7 +54,7 @@ module _ (s work cursor letters given : List ℕ) (n start : ℕ) (accepted : ch
 
   enough : enoughLent work cursor letters given n ≡ true
   unfolding enoughLent cursorWords
-  enough = rw (enough-work, le-leb (16 * (n + 1)) (wordCount cursor) (omega arith), le-leb (length letters) (wordCount given) (omega arith))
+  enough = rw (enough-work, le-leb (16 * (n + 1)) (wordCount cursor) (omega arith), le-leb (length letters) (answerCount given) (omega arith))
 
   stands : Stands (placedForest (rulesOf s) start) cursor cursor []
   stands = above-stands s n start cursor accepted (walkable s n start accepted) above

@@ -1,11 +1,10 @@
 -- The forest of an accepted plan is walkable: its rules are sound, so its nodes are the positions in an expression, each position
 -- has cells of its own, and a letter on positions is a letter on cells. Assumes nothing.
-use Prim.Native.Nat.{ℕ, _≤_}
+use Prim.Native.Nat.{ℕ}
 use native.Mathlib.Omega.{arith}
 use mathlib.Core.Path.{_≡_}
 use mathlib.Core.List.{List}
 use Rattle.plan.specs.declared.Checked.{Checked}
-use Rattle.rule.specs.Rule.{largestLabel}
 use Rattle.plan.specs.Check.{checked, mostRules, rulesOf}
 use Rattle.plan.proofs.Sound.{Plan, accepted-plan}
 use Rattle.forest.specs.Expression.{expression}
@@ -17,7 +16,7 @@ use Rattle.forest.proofs.Each.{each-labelAt}
 use Rattle.forest.proofs.Forget.{placedForest-forgets}
 use Rattle.forest.proofs.Bound.{place-bound}
 use Rattle.forest.proofs.Fit.{places-fit}
-use Rattle.forest.proofs.Labels.{forest-labels}
+use Rattle.forest.proofs.Nowhere.{label-below}
 use Rattle.forest.proofs.Stored.{AllFitting}
 use Rattle.forest.proofs.Unique as paths
 use Rattle.model.specs.Facts.{factsOf}
@@ -47,6 +46,6 @@ walkable s n start e =
       distinct = all-distinct w good (factsOf (rulesOf s)) fit;
       bounded = λ p a h. let b = place-bound S (P .ends) p (a .0) (a .1) h in omega arith;
       fitting = λ p a h. each-labelAt (λ (x : Placed). AllFitting (x .1)) (placedOf w) p a (places-fit S (let g = P .greatest in omega arith) start below) h;
-      labels = λ p a h. let l = each-labelAt (λ (x : ℕ). x ≤ largestLabel) (forest (rulesOf s) start) p a (forest-labels S start below) h in omega arith;
+      labels = label-below s n start e;
       near = λ p c N r. near-by w good (factsOf (rulesOf s)) fit p c N r;
     }

@@ -10,7 +10,7 @@ use Rattle.forest.specs.Forest.{Forest, relabel}
 use Rattle.forest.specs.Place.{Placed}
 use Rattle.forest.specs.Letter.{Letter, isRoot}
 use Rattle.forest.specs.Reference.{Path, labelAt, moved}
-use Rattle.forest.specs.Walk.{cellAt, cellsIn, placeAt}
+use Rattle.forest.specs.Walk.{nowhere, cellAt, cellsIn, placeAt}
 use Rattle.forest.proofs.Forget.{label}
 use Rattle.forest.proofs.Search.{Distinct}
 use Rattle.forest.specs.Position.{Named}
@@ -24,7 +24,7 @@ pub record Walkable (n : ℕ) (g : Forest ℕ) (G : Forest Placed) : Type 0 wher
   pub distinct : Distinct G
   pub bounded : (p : Path) (a : Placed) → labelAt G p ≡ some a → length (a .1) ≤ 3 * n
   pub fitting : (p : Path) (a : Placed) → labelAt G p ≡ some a → AllFitting (a .1)
-  pub labels : (p : Path) (a : ℕ) → labelAt g p ≡ some a → a < 65536
+  pub labels : (p : Path) (a : ℕ) → labelAt g p ≡ some a → a < nowhere
   pub near : (p : Path) (c : Letter) → Named G p → isRoot c ≡ false → SameButSixteen (placeAt G p) (placeAt G (moved G c p))
 
 -- a cursor as long as the first one, at the node at path p

@@ -8,22 +8,21 @@ use mathlib.Core.Option.{Option, none, some, Option·none-ne-some}
 use lib.ListN.{length, drop, length-append, length-map}
 use Rattle.words.specs.Number.{number, bytes}
 use Rattle.words.proofs.Laws.{number-bytes, length-bytes}
-use Rattle.record.specs.Record.{wordLength}
 use Rattle.words.specs.Front.{inFront}
 use Rattle.forest.specs.Forest.{Forest}
 use Rattle.forest.specs.Letter.{Letter, letterOf}
 use Rattle.forest.specs.Reference.{Path, labelAt, answer, moved, answers}
-use Rattle.forest.specs.Walk.{lettersOf, firstOther, andLetters, otherAt, answersBytes, answerWord}
+use Rattle.forest.specs.Walk.{answerLength, nowhere, lettersOf, firstOther, andLetters, otherAt, answersBytes, answerWord}
 use Rattle.forest.proofs.Steps.{answer-label}
 use Rattle.demand.specs.Demand.{answerWords}
 
--- every word fits two bytes
+-- every word fits the four bytes of an answer
 abbrev pub AllWords : List ℕ → Type 0
 AllWords [] = Unit {0}
-AllWords (v ∷ vs) = (v < 65536) × AllWords vs
+AllWords (v ∷ vs) = (v < 4294967296) × AllWords vs
 
 -- words read one by one
-pub words-more : (m : ℕ) (s : List ℕ) (at : ℕ) → answerWords (suc m) s at ≡ number wordLength s at ∷ answerWords m s (at + wordLength)
+pub words-more : (m : ℕ) (s : List ℕ) (at : ℕ) → answerWords (suc m) s at ≡ number answerLength s at ∷ answerWords m s (at + answerLength)
 unfolding answerWords
 words-more m s at = refl
 
@@ -33,14 +32,14 @@ unfolding answerWords answersBytes
 words-behind [] p rest at e f = refl
 words-behind (v ∷ vs) p rest at e f =
     ap₂ (λ (x : ℕ) (xs : List ℕ). x ∷ xs)
-    (ap (λ (l : List ℕ). number 2 l at) first ∙ number-bytes 2 v p (answersBytes vs ++ rest) at e (f .0))
-    (ap (λ (l : List ℕ). answerWords (length vs) l (at + 2)) later
-    ∙ words-behind vs (p ++ bytes 2 v) rest (at + 2) (length-append p (bytes 2 v) ∙ omega (arith, length-bytes 2 v)) (f .1))
+    (ap (λ (l : List ℕ). number answerLength l at) first ∙ number-bytes answerLength v p (answersBytes vs ++ rest) at e (f .0))
+    (ap (λ (l : List ℕ). answerWords (length vs) l (at + answerLength)) later
+    ∙ words-behind vs (p ++ bytes answerLength v) rest (at + answerLength) (length-append p (bytes answerLength v) ∙ omega (arith, length-bytes answerLength v)) (f .1))
   where
-    first : p ++ ((bytes 2 v ++ answersBytes vs) ++ rest) ≡ p ++ (bytes 2 v ++ (answersBytes vs ++ rest))
+    first : p ++ ((bytes answerLength v ++ answersBytes vs) ++ rest) ≡ p ++ (bytes answerLength v ++ (answersBytes vs ++ rest))
     first = simp append-assoc
 
-    later : p ++ ((bytes 2 v ++ answersBytes vs) ++ rest) ≡ (p ++ bytes 2 v) ++ (answersBytes vs ++ rest)
+    later : p ++ ((bytes answerLength v ++ answersBytes vs) ++ rest) ≡ (p ++ bytes answerLength v) ++ (answersBytes vs ++ rest)
     later = simp append-assoc
 
 pub words-in-front : (vs given : List ℕ) → AllWords vs → answerWords (length vs) (inFront (answersBytes vs) given) 0 ≡ vs
@@ -66,13 +65,13 @@ length-letters (b ∷ bs) i e =
     let h = no-other (letterOf b) i (firstOther bs (suc i)) e in
     rw (h .1) (ap suc (length-letters bs (suc i) (h .2)))
 
--- the words of answers, where every label fits one
-word-fits : (x : Option ℕ) → ((a : ℕ) → x ≡ some a → a < 65536) → answerWord x < 65536
+-- the words of answers, where every label is below that for nowhere
+word-fits : (x : Option ℕ) → ((a : ℕ) → x ≡ some a → a < nowhere) → answerWord x < 4294967296
 unfolding answerWord
 word-fits none h = omega arith
-word-fits (some a) h = h a refl
+word-fits (some a) h = let b = h a refl in omega arith
 
-pub answers-fit : (g : Forest ℕ) → ((p : Path) (a : ℕ) → labelAt g p ≡ some a → a < 65536) → (cs : List Letter) (p : Path) → AllWords (map answerWord (answers g cs p))
+pub answers-fit : (g : Forest ℕ) → ((p : Path) (a : ℕ) → labelAt g p ≡ some a → a < nowhere) → (cs : List Letter) (p : Path) → AllWords (map answerWord (answers g cs p))
 unfolding answers
 answers-fit g h [] p = tt
 answers-fit g h (c ∷ cs) p =

@@ -12,6 +12,7 @@ use lib.ListN.{length, getD, take, drop, replicate}
 use Rattle.words.specs.Number.{number, bytes}
 use Rattle.refusal.specs.declared.Refusal.{Refusal}
 use Rattle.plan.specs.declared.Written.{Written}
+use Rattle.record.specs.Format.{highLength, mostLabel}
 use Rattle.reach.specs.Reaches.{lowestCycle, cycleFrom, reaches, within, anyNamed}
 use Rattle.judge.specs.Judge.{cycleJudged}
 use Rattle.plan.specs.Check.{checked, rulesOf}
@@ -22,7 +23,7 @@ use Rattle.forest.specs.Place.{Side, Cell, Cells, Placed, placedForest, firstCe
 use Rattle.forest.specs.Letter.{Letter, letterOf, isRoot}
 use Rattle.forest.specs.Reference.{labelAt, answers, pathAfter}
 use Rattle.forest.specs.Outcome.{enoughWork, workJudged, textRoomed, spreadFrom, spread}
-use Rattle.forest.specs.Walk.{nowhere, cursorWords, enoughLent, andLetters, lettersOf, otherAt, firstOther, cellAt, cellsIn, usedCells, headed, sameCell, sameCells, firstOf, nodeWith, pathOf, stored, placeJudged, lettersJudged, begunFrom, begun, walked, cellsOf, placeAt, cellBytes, cellsBytes, padded, storedCursor, cursorAfter, answerWord, answersBytes, answersAfter, walkedWork}
+use Rattle.forest.specs.Walk.{answerLength, nowhere, cursorWords, enoughLent, andLetters, lettersOf, otherAt, firstOther, cellAt, cellsIn, usedCells, headed, sameCell, sameCells, firstOf, nodeWith, pathOf, stored, placeJudged, lettersJudged, begunFrom, begun, walked, cellsOf, placeAt, cellBytes, cellsBytes, padded, storedCursor, cursorAfter, answerWord, answersBytes, answersAfter, walkedWork}
 use Rattle.forest.specs.Sample.{sample}
 use Rattle.forest.proofs.Starred.{starred}
 use Rattle.demand.specs.Calls.{Lent, Left, Walk, Call, walkOf, lent, lefts, cursorAfterCalls}
@@ -46,7 +47,7 @@ firstOnly l = record { plan = l .plan; work = l .work; cursor = l .cursor; lette
 
 pub repeats : Walk
 repeats l =
-    other (walkOf l) (alike (length (l .letters)) (number 2 ((walkOf (firstOnly l)) .answers) 0) (l .answers)) ((walkOf (firstOnly l)) .cursor)
+    other (walkOf l) (alike (length (l .letters)) (number answerLength ((walkOf (firstOnly l)) .answers) 0) (l .answers)) ((walkOf (firstOnly l)) .cursor)
 
 -- "one that answers as asked but writes a k of its own": `used`
 pub ownCount : Walk
@@ -56,7 +57,7 @@ ownCount l = other (walkOf l) ((walkOf l) .answers) (inFront (bytes 2 1) ((walkO
 pub stays : Walk
 stays l = other (walkOf l) ((walkOf l) .answers) (l .cursor)
 
--- "one that says 65,535 to all; one that says 97 to all": `answered`
+-- "one that says 65,535 to all", which was the word for nowhere; "one that says 97 to all": `answered`
 pub says : ℕ → Walk
 says v l = other (walkOf l) (alike (length (l .letters)) v (l .answers)) ((walkOf l) .cursor)
 
@@ -90,7 +91,7 @@ roomFirst s work out = Written.Refused Refusal.Room
 
 -- a call of the letters a f on the sample plan, from above the forest
 call : Call
-call = record { work = replicate 512 0; letters = 97 ∷ 102 ∷ []; answers = replicate 4 0 }
+call = record { work = replicate 512 0; letters = 97 ∷ 102 ∷ []; answers = replicate 8 0 }
 
 first : List ℕ
 first = replicate 288 0
@@ -135,7 +136,7 @@ pub record Worthless : Type 0 where
   pub room-first : roomFirst ≢ spread
 
 pub worthless : Worthless
-unfolding Formed alikeCells relabel firstCells isRoot SameButSixteen repeats ownCount stays says refuses spoils wrongCell junkPast laterWord roomFirst weigh text workJudged textRoomed spreadFrom spread someAccepted ClearPast laterWords cursorAfterCalls other alike firstOnly call first walkOf lent lefts fingerPath fingerAnswers walkAnswers answerWords isRefused turnedDown isNone checked lowestCycle cycleFrom reaches within anyNamed cycleJudged rulesOf number bytes inFront forest placedForest letterOf labelAt answers pathAfter enoughWork cursorWords enoughLent andLetters lettersOf otherAt firstOther cellAt cellsIn usedCells headed sameCell sameCells firstOf nodeWith pathOf stored placeJudged lettersJudged begunFrom begun walked cellsOf placeAt cellBytes cellsBytes padded storedCursor cursorAfter answerWord answersBytes answersAfter walkedWork
+unfolding Formed alikeCells relabel firstCells isRoot SameButSixteen repeats ownCount stays says refuses spoils wrongCell junkPast laterWord roomFirst weigh text workJudged textRoomed spreadFrom spread someAccepted ClearPast laterWords cursorAfterCalls other alike firstOnly call first walkOf lent lefts fingerPath fingerAnswers walkAnswers answerWords isRefused turnedDown isNone checked highLength mostLabel lowestCycle cycleFrom reaches within anyNamed cycleJudged rulesOf number bytes inFront forest placedForest letterOf labelAt answers pathAfter enoughWork cursorWords enoughLent andLetters lettersOf otherAt firstOther cellAt cellsIn usedCells headed sameCell sameCells firstOf nodeWith pathOf stored placeJudged lettersJudged begunFrom begun walked cellsOf placeAt cellBytes cellsBytes padded storedCursor cursorAfter answerWord answersBytes answersAfter walkedWork
 worthless =
     record {
       first-repeated = λ d. let e : _≡_ {A = ℕ} 99 97 = ap (λ (l : List ℕ). getD l 1 0) (said repeats d .answered) in omega arith;

@@ -89,7 +89,7 @@ laterWords cursor = ((cellAt cursor 0) .1, (cellAt cursor 0) .2, (cellAt cursor 
 pub record Meets (n : ℕ) (g : Forest ℕ) (G : Forest Placed) (down : Call → Bool) (calls : List Call) (ls : List Left) (first end : List ℕ) (p : Path) : Type 0 where
   -- "In the list a call is refused exactly when 8 or 9 says so."
   pub refused : map (λ (l : Left). isRefused (l .answer)) ls ≡ map down calls
-  -- "equal the finger's answers in order, nowhere being the word that Letters gives for it"
+  -- "equal the finger's answers in order, nowhere being the word that Letters gives for it", as document 02, Note 2 has changed it
   pub answered : walkAnswers calls ls ≡ map answerWord (fingerAnswers g down calls [])
   -- "After the list, k and cells 1 to k are those of the node at the finger's path, k being 0 for the empty path"
   pub used : usedCells end ≡ length (placeAt G p)

@@ -1,7 +1,7 @@
 -- What counts and text do under append, relabel and substitution, and so what each right-hand side adds: the sums, the largest
 -- and the text of both. A value with a hole is counted without its hole, and what is put into the hole is counted once, below
 -- the nodes over the hole. Assumes nothing.
-use Prim.Native.Nat.{ℕ, suc, _+_, _*_, _≤_, max}
+use Prim.Native.Nat.{ℕ, suc, _+_, _*_, _/_, _%_, _≤_, _<_, max}
 use native.Mathlib.Nat.{zero-mul, one-mul, suc-mul, add-mul}
 use native.Mathlib.Omega.{arith}
 use mathlib.Core.Logic.{_≢_}
@@ -11,10 +11,15 @@ use mathlib.Core.List.{List, [], _∷_, _++_, append-assoc}
 use lib.ListN.{length, length-append}
 use lib.Dec.{eqb}
 use borrow.Author.Tests.{eq-eqb, ne-eqb, eqb-true, eqb-false}
+use Rattle.words.specs.Number.{base, bytes}
+use Rattle.words.proofs.Laws.{length-bytes}
+use Rattle.record.specs.declared.Format.{Format}
+use Rattle.record.specs.Format.{highLength, labelLength}
 use Rattle.forest.specs.Expression.{Expression}
 use Rattle.forest.specs.Algebra.{Hedge, _·_, _⟨_⟩, value}
 use Rattle.forest.specs.Sizes.{holes}
 use Rattle.forest.specs.Forest.{Forest, append, trees, relabel, count, weigh, one, levels, text}
+use Rattle.forest.specs.Outcome.{nodeLength}
 use Rattle.forest.specs.Good.{Sort, Good}
 use Rattle.forest.proofs.Values.{holes-concat, holes-⟨⟩, closed-⟨⟩, concat-⟨⟩, ⟨⟩-assoc, value-node, value-part, value-holes, OneTree, tree-value, spine-value}
 use Rattle.forest.proofs.Forget.{trees-concat}
@@ -46,16 +51,37 @@ module _ {A : Type 0} where
   levels-nodes Forest.none = omega arith
   levels-nodes (Forest.tree a c f) = omega (arith, levels-nodes c, levels-nodes f)
 
-pub text-append : (f g : Forest ℕ) → text (append f g) ≡ text f ++ text g
-unfolding append text
-text-append Forest.none g = refl
-text-append (Forest.tree a c f) g = rw (text-append f g) (ap (λ (t : List ℕ). 40 ∷ a ∷ t) (sym (append-assoc (text c) (41 ∷ text f) (text g))))
+module _ (f : Format) where
+  pub text-append : (g h : Forest ℕ) → text f (append g h) ≡ text f g ++ text f h
+  unfolding append text
+  text-append Forest.none h = refl
+  text-append (Forest.tree a c g) h = rw (text-append g h) (simp append-assoc)
 
--- three bytes a node
-pub text-length : (g : Forest ℕ) → length (text g) ≡ 3 * weigh one g
-unfolding text weigh
-text-length Forest.none = refl
-text-length (Forest.tree a c f) = rw (length-append (text c) (41 ∷ text f)) (omega (arith, text-length c, text-length f))
+  -- the label's bytes and two more a node
+  pub text-length : (g : Forest ℕ) → length (text f g) ≡ nodeLength f * weigh one g
+  unfolding text weigh
+  text-length Forest.none = omega arith
+  text-length (Forest.tree a c g) =
+      rw (length-append (bytes (labelLength f) a) (text f c ++ (41 ∷ text f g)), length-append (text f c) (41 ∷ text f g), length-bytes (labelLength f) a)
+      (omega (arith, text-length c, text-length g))
+
+-- "Plans with the old mark keep .. their texts": the one byte of a narrow label is the label
+pub text-narrow : (a : ℕ) (c g : Forest ℕ) → a < base
+    → text Format.Narrow (Forest.tree a c g) ≡ 40 ∷ a ∷ (text Format.Narrow c ++ (41 ∷ text Format.Narrow g))
+unfolding text bytes highLength
+text-narrow a c g small = let low : a % base ≡ a = omega arith in rw low
+
+-- "a wide label as three bytes, low first"
+pub text-wide : (x y z : ℕ) (c g : Forest ℕ) → x < base → y < base → z < base
+    → text Format.Wide (Forest.tree (x + base * (y + base * z)) c g) ≡ 40 ∷ x ∷ y ∷ z ∷ (text Format.Wide c ++ (41 ∷ text Format.Wide g))
+unfolding text bytes highLength
+text-wide x y z c g p q r =
+    let low : (x + base * (y + base * z)) % base ≡ x = omega arith in
+    let rest : (x + base * (y + base * z)) / base ≡ y + base * z = omega arith in
+    let middle : (y + base * z) % base ≡ y = omega arith in
+    let last : (y + base * z) / base ≡ z = omega arith in
+    let high : z % base ≡ z = omega arith in
+    rw (low, rest, middle, last, high)
 
 module _ {A B : Type 0} (h : A → B) where
   pub weigh-relabel : (w : B → ℕ) (g : Forest A) → weigh w (relabel h g) ≡ weigh (λ a. w (h a)) g
@@ -159,8 +185,8 @@ module _ (r : ℕ) (b c : Expression) where
   pub levels-pair : levels (trees (value (Expression.pair r b c))) ≡ max (levels (trees (value b))) (levels (trees (value c)))
   levels-pair = ap levels pair-trees ∙ levels-append (trees (value b)) (trees (value c))
 
-  pub text-pair : text (trees (value (Expression.pair r b c))) ≡ text (trees (value b)) ++ text (trees (value c))
-  text-pair = ap text pair-trees ∙ text-append (trees (value b)) (trees (value c))
+  pub text-pair : (f : Format) → text f (trees (value (Expression.pair r b c))) ≡ text f (trees (value b)) ++ text f (trees (value c))
+  text-pair f = ap (text f) pair-trees ∙ text-append f (trees (value b)) (trees (value c))
 
 -- a node over C
 module _ (r a : ℕ) (c : Expression) where
@@ -176,9 +202,9 @@ module _ (r a : ℕ) (c : Expression) where
   unfolding levels
   levels-node = ap levels node-trees ∙ omega arith
 
-  pub text-node : text (trees (value (Expression.node r a c))) ≡ 40 ∷ a ∷ (text (trees (value c)) ++ (41 ∷ []))
+  pub text-node : (f : Format) → text f (trees (value (Expression.node r a c))) ≡ 40 ∷ (bytes (labelLength f) a ++ (text f (trees (value c)) ++ (41 ∷ [])))
   unfolding text
-  text-node = ap text node-trees
+  text-node f = ap (text f) node-trees
 
 -- a part, without its hole, and the depth of its hole
 module _ (r a : ℕ) (b c : Expression) where
@@ -225,21 +251,21 @@ pub count-spine : {e : Expression} → Good Sort.spine e → count (trees (value
 count-spine g = one-tree-count (spine-value g)
 
 -- what a spine writes before its hole, and after it
-unfoldable pub before : Expression → List ℕ
-before (Expression.empty r) = []
-before (Expression.pair r b c) = []
-before (Expression.node r a c) = []
-before (Expression.fill r b c) = []
-before (Expression.part r a b c) = 40 ∷ a ∷ text (trees (value b))
-before (Expression.join r b c) = before b ++ before c
+unfoldable pub before : Format → Expression → List ℕ
+before f (Expression.empty r) = []
+before f (Expression.pair r b c) = []
+before f (Expression.node r a c) = []
+before f (Expression.fill r b c) = []
+before f (Expression.part r a b c) = 40 ∷ (bytes (labelLength f) a ++ text f (trees (value b)))
+before f (Expression.join r b c) = before f b ++ before f c
 
-unfoldable pub after : Expression → List ℕ
-after (Expression.empty r) = []
-after (Expression.pair r b c) = []
-after (Expression.node r a c) = []
-after (Expression.fill r b c) = []
-after (Expression.part r a b c) = text (trees (value c)) ++ (41 ∷ [])
-after (Expression.join r b c) = after c ++ after b
+unfoldable pub after : Format → Expression → List ℕ
+after f (Expression.empty r) = []
+after f (Expression.pair r b c) = []
+after f (Expression.node r a c) = []
+after f (Expression.fill r b c) = []
+after f (Expression.part r a b c) = text f (trees (value c)) ++ (41 ∷ [])
+after f (Expression.join r b c) = after f c ++ after f b
 
 part-around : (r a : ℕ) (b c : Expression) → Good Sort.row b → Good Sort.row c → (g : Hedge) →
     trees (value (Expression.part r a b c) ⟨ g ⟩) ≡ Forest.tree a (append (trees (value b)) (append (trees g) (trees (value c)))) Forest.none
@@ -248,9 +274,10 @@ part-around r a b c β γ g =
     rw (value-part r a b c, concat-⟨⟩ (value b) (Hedge.hole (value c)) g)
     (rw (closed-⟨⟩ (value b) g (value-holes β), closed-⟨⟩ (value c) g (value-holes γ), trees-concat (value b) (g · value c), trees-concat g (value c)))
 
-pub text-fill : {e : Expression} → Good Sort.spine e → (g : Hedge) → text (trees (value e ⟨ g ⟩)) ≡ before e ++ (text (trees g) ++ after e)
+pub text-fill : (f : Format) {e : Expression} → Good Sort.spine e → (g : Hedge)
+    → text f (trees (value e ⟨ g ⟩)) ≡ before f e ++ (text f (trees g) ++ after f e)
 unfolding before after text value
-text-fill (Good.part {r} {a} {b} {c} β γ) g =
-    rw (part-around r a b c β γ g, text-append (trees (value b)) (append (trees g) (trees (value c))), text-append (trees g) (trees (value c)))
+text-fill f (Good.part {r} {a} {b} {c} β γ) g =
+    rw (part-around r a b c β γ g, text-append f (trees (value b)) (append (trees g) (trees (value c))), text-append f (trees g) (trees (value c)))
     (simp append-assoc)
-text-fill (Good.join {r} {b} {c} β γ) g = rw (⟨⟩-assoc (value b) (value c) g, text-fill β (value c ⟨ g ⟩), text-fill γ g) (simp append-assoc)
+text-fill f (Good.join {r} {b} {c} β γ) g = rw (⟨⟩-assoc (value b) (value c) g, text-fill f β (value c ⟨ g ⟩), text-fill f γ g) (simp append-assoc)

@@ -10,6 +10,7 @@ pub mod Sample
 pub mod Sides
 pub mod Cases
 pub mod Steps
+pub mod Nowhere
 pub mod Relabel
 pub mod Neighbours
 pub mod Holes
@@ -28,3 +29,4 @@ pub mod Starred
 pub mod Stored
 pub mod Fit
 pub mod Prefixed
+pub mod Narrow

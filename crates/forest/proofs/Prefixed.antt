@@ -4,8 +4,8 @@ use Prim.Native.Nat.{ℕ}
 use mathlib.Core.Path.{_≡_, sym, _∙_}
 use mathlib.Core.List.{List, _++_}
 use Rattle.plan.specs.declared.Checked.{Checked}
-use Rattle.plan.specs.Check.{checked, mostRules, rulesOf}
-use Rattle.plan.proofs.Prefix.{prefix-accepted, prefix-accepted-rules}
+use Rattle.plan.specs.Check.{checked, mostRules, rulesOf, formatOf}
+use Rattle.plan.proofs.Prefix.{prefix-accepted, prefix-accepted-rules, prefix-accepted-format}
 use Rattle.forest.specs.Outcome.{measured, measuredWork, spread, textOf, spreadOutput}
 use Rattle.forest.specs.Walk.{begunFrom, begun, walkedWork}
 
@@ -18,6 +18,10 @@ module _ (p s : List ℕ) (n start : ℕ) (h : checked s ≡ Checked.Accepted n 
   unfolding checked
   prefix-plan = prefix-accepted-rules p s mostRules n start h
 
+  pub prefix-same-format : formatOf (p ++ s) ≡ formatOf s
+  unfolding checked
+  prefix-same-format = prefix-accepted-format p s mostRules n start h
+
   pub prefix-measured : (work : List ℕ) → measured (p ++ s) work ≡ measured s work
   unfolding measured
   prefix-measured work = rw (prefix-check, prefix-plan)
@@ -28,11 +32,11 @@ module _ (p s : List ℕ) (n start : ℕ) (h : checked s ≡ Checked.Accepted n 
 
   pub prefix-spread : (work out : List ℕ) → spread (p ++ s) work out ≡ spread s work out
   unfolding spread
-  prefix-spread work out = rw (prefix-check, prefix-plan)
+  prefix-spread work out = rw (prefix-check, prefix-plan, prefix-same-format)
 
   pub prefix-spread-output : (work out : List ℕ) → spreadOutput (p ++ s) work out ≡ spreadOutput s work out
   unfolding spreadOutput textOf
-  prefix-spread-output work out = rw (prefix-spread work out, prefix-check, h, prefix-plan)
+  prefix-spread-output work out = rw (prefix-spread work out, prefix-check, h, prefix-plan, prefix-same-format)
 
   pub prefix-begun : (work cursor letters given : List ℕ) → begun (p ++ s) work cursor letters given ≡ begun s work cursor letters given
   unfolding begun begunFrom

@@ -7,6 +7,8 @@ use mathlib.Core.Path.{_≡_, refl}
 use mathlib.Core.List.{List, [], _∷_, map, reverse}
 use lib.ListN.{length, replicate, take}
 use Rattle.words.specs.Number.{number, bytes}
+use Rattle.record.specs.declared.Format.{Format}
+use Rattle.record.specs.Format.{highLength, mostLabel}
 use Rattle.rule.specs.declared.Rule.{Rule}
 use Rattle.refusal.specs.declared.Refusal.{Refusal}
 use Rattle.plan.specs.declared.Checked.{Checked}
@@ -24,11 +26,11 @@ use Rattle.forest.specs.Sample.{sample}
 use Rattle.forest.specs.Reference.{labelAt, answers, pathAfter}
 use Rattle.forest.specs.Outcome.{measured, spread, spreadOutput, enoughWork}
 use Rattle.forest.specs.Letter.{letterOf}
-use Rattle.forest.specs.Walk.{nowhere, cursorWords, enoughLent, andLetters, lettersOf, otherAt, firstOther, cellAt, cellsIn, usedCells, headed, sameCell, sameCells, firstOf, nodeWith, pathOf, stored, placeJudged, lettersJudged, begunFrom, begun, walked, cellsOf, placeAt, cellBytes, cellsBytes, padded, storedCursor, cursorAfter, answerWord, answersBytes, answersAfter, walkedWork}
+use Rattle.forest.specs.Walk.{answerLength, nowhere, cursorWords, enoughLent, andLetters, lettersOf, otherAt, firstOther, cellAt, cellsIn, usedCells, headed, sameCell, sameCells, firstOf, nodeWith, pathOf, stored, placeJudged, lettersJudged, begunFrom, begun, walked, cellsOf, placeAt, cellBytes, cellsBytes, padded, storedCursor, cursorAfter, answerWord, answersBytes, answersAfter, walkedWork}
 
 -- a plan's bytes from its rules and start
 abbrev plan : List Rule → ℕ → List ℕ
-plan R start = planBytes (map encode R) start
+plan R start = planBytes Format.Narrow (map encode R) start
 
 -- what is lent: enough for eight rules and thirty-two letters; the cursor is above the forest
 abbrev work : List ℕ
@@ -38,11 +40,11 @@ abbrev above : List ℕ
 above = replicate 288 0
 
 abbrev given : List ℕ
-given = replicate 64 5
+given = replicate 128 5
 
 -- the walk's answers to some letters, and its cells after them, the first cell first
 abbrev answered : List ℕ → List ℕ → List ℕ
-answered s letters = take (2 * length letters) (answersAfter (rulesOf s) (begun s work above letters given) letters given)
+answered s letters = take (answerLength * length letters) (answersAfter (rulesOf s) (begun s work above letters given) letters given)
 
 abbrev cursorOf : List ℕ → List ℕ → List ℕ
 cursorOf s letters = cursorAfter (rulesOf s) (begun s work above letters given) letters above
@@ -124,7 +126,7 @@ pub record Starred : Type 0 where
   pub continued : cellsAfter (chain 6) (first ∷ child ∷ child ∷ []) ≡ (1, 0, 6, 0) ∷ (2, 6, 0, 0) ∷ (4, 5, 2, 0) ∷ (2, 4, 0, 0) ∷ []
 
 pub starred : Starred
-unfolding planBytes encode rulesOf checked lowestCycle cycleFrom reaches within anyNamed cycleJudged bytes number spread spreadOutput measured enoughWork inFront letterOf labelAt answers pathAfter placedForest forest cursorWords enoughLent andLetters lettersOf otherAt firstOther cellAt cellsIn usedCells headed sameCell sameCells firstOf nodeWith pathOf stored placeJudged lettersJudged begunFrom begun walked cellsOf placeAt cellBytes cellsBytes padded storedCursor cursorAfter answerWord answersBytes answersAfter walkedWork
+unfolding planBytes encode highLength mostLabel rulesOf checked lowestCycle cycleFrom reaches within anyNamed cycleJudged bytes number spread spreadOutput measured enoughWork inFront letterOf labelAt answers pathAfter placedForest forest cursorWords enoughLent andLetters lettersOf otherAt firstOther cellAt cellsIn usedCells headed sameCell sameCells firstOf nodeWith pathOf stored placeJudged lettersJudged begunFrom begun walked cellsOf placeAt cellBytes cellsBytes padded storedCursor cursorAfter answerWord answersBytes answersAfter walkedWork
 starred =
     record {
       answers = refl;

@@ -10,9 +10,9 @@ use lib.ListN.{length, take, drop, replicate, length-append, length-drop, length
 use lib.Seq.{take-at, drop-at, take-add, drop-drop}
 use Rattle.words.specs.Number.{number, bytes}
 use Rattle.words.proofs.Laws.{number-bytes, length-bytes}
-use Rattle.record.specs.Record.{wordLength, recordAt, recordBytes}
+use Rattle.record.specs.Record.{wordLength}
 use Rattle.words.specs.Front.{inFront}
-use Rattle.record.proofs.RecordBytes.{Bytes, record-bytes}
+use Rattle.record.proofs.RecordBytes.{Bytes, four-bytes}
 use Rattle.forest.specs.Place.{Cell, Cells}
 use Rattle.forest.specs.Walk.{cellLength, cursorWords, cellAt, cellsIn, cellBytes, cellsBytes, padded, storedCursor}
 
@@ -75,8 +75,8 @@ cells-back (c ∷ cs) p q e f =
 
 -- a cell's bytes, and those of cells 1 to k, are the ones that it was read from
 cell-bytes : (s : List ℕ) (i : ℕ) → Bytes s → cellLength * (i + 1) ≤ length s → cellBytes (cellAt s i) ≡ take cellLength (drop (cellLength * i) s)
-unfolding cellBytes cellAt recordBytes recordAt
-cell-bytes s i b fits = record-bytes s (cellLength * i) b (omega arith)
+unfolding cellBytes cellAt
+cell-bytes s i b fits = four-bytes s (cellLength * i) b (omega arith)
 
 pub cells-bytes : (s : List ℕ) (k : ℕ) → Bytes s → cellLength * (k + 1) ≤ length s → cellsBytes (cellsIn s k) ≡ take (cellLength * k) (drop cellLength s)
 unfolding cellsBytes cellsIn

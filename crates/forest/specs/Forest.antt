@@ -1,6 +1,9 @@
 -- Forests, their counts and their text (document 01, "Measure" and "Spread").
 use Prim.Native.Nat.{ℕ, suc, _+_, max}
 use mathlib.Core.List.{List, [], _∷_, _++_}
+use Rattle.words.specs.Number.{bytes}
+use Rattle.record.specs.declared.Format.{Format}
+use Rattle.record.specs.Format.{labelLength}
 use Rattle.rule.specs.declared.Rule.{Rule}
 use Rattle.forest.specs.Expression.{expression}
 use Rattle.forest.specs.Algebra.{Hedge, value}
@@ -50,7 +53,7 @@ unfoldable pub levels : {A : Type 0} → Forest A → ℕ
 levels none = 0
 levels (tree a c f) = max (suc (levels c)) (levels f)
 
--- "It writes "(" label children ")" for each node in reading order"
-unfoldable pub text : Forest ℕ → List ℕ
-text none = []
-text (tree a c f) = 40 ∷ a ∷ (text c ++ (41 ∷ text f))
+-- "It writes "(" label children ")" for each node in reading order"; Note 2: "a wide label as three bytes, low first"
+unfoldable pub text : Format → Forest ℕ → List ℕ
+text f none = []
+text f (tree a c g) = 40 ∷ (bytes (labelLength f) a ++ (text f c ++ (41 ∷ text f g)))

@@ -1,5 +1,5 @@
 -- What measure and spread answer and leave, from what is lent (document 01, "Operations and what they turn down").
-use Prim.Native.Nat.{ℕ, _*_, _^_}
+use Prim.Native.Nat.{ℕ, _+_, _*_, _^_}
 use mathlib.Core.Bool.{Bool, cond}
 use mathlib.Core.List.{List}
 use lib.ListN.{length}
@@ -10,8 +10,10 @@ use Rattle.rule.specs.declared.Rule.{Rule}
 use Rattle.refusal.specs.declared.Refusal.{Refusal}
 use Rattle.plan.specs.declared.Checked.{Checked}
 use Rattle.plan.specs.declared.Written.{Written}
+use Rattle.record.specs.declared.Format.{Format}
+use Rattle.record.specs.Format.{labelLength}
 use Rattle.record.specs.Record.{wordLength}
-use Rattle.plan.specs.Check.{checked, rulesOf}
+use Rattle.plan.specs.Check.{checked, rulesOf, formatOf}
 use Rattle.plan.specs.Written.{outputAfter}
 use Rattle.forest.specs.declared.Measured.{Measured}
 use Rattle.forest.specs.Forest.{Forest, forest, count, weigh, one, levels, text}
@@ -63,29 +65,29 @@ unfoldable pub measuredWork : List ℕ → List ℕ → List ℕ
 unfolding workAfter enoughWork checked
 measuredWork s work = workAfter (λ n. enoughWork n work) (checked s) work
 
--- "3 bytes per node"
-abbrev pub nodeLength : ℕ
-nodeLength = 3
+-- "3 bytes per node"; Note 2: "so five bytes a node": the label's bytes, and those that open and close the node
+abbrev pub nodeLength : Format → ℕ
+nodeLength f = labelLength f + 2
 
 -- "11: output shorter than 3 bytes per node. It .. gives the length."
-unfoldable pub textRoomed : Forest ℕ → List ℕ → Written
+unfoldable pub textRoomed : Format → Forest ℕ → List ℕ → Written
 unfolding weigh text
-textRoomed g out = cond (leb (nodeLength * weigh one g) (length out)) (Written.Length (length (text g))) (Written.Refused Refusal.Room)
+textRoomed f g out = cond (leb (nodeLength f * weigh one g) (length out)) (Written.Length (length (text f g))) (Written.Refused Refusal.Room)
 
 -- "As check; 8 as in measure; 11"
-unfoldable pub spreadFrom : List Rule → List ℕ → Checked → Written
+unfoldable pub spreadFrom : Format → List Rule → List ℕ → Checked → Written
 unfolding textRoomed forest
-spreadFrom R out (Checked.Accepted n start) = textRoomed (forest R start) out
-spreadFrom R out (Checked.Refused r) = Written.Refused r
+spreadFrom f R out (Checked.Accepted n start) = textRoomed f (forest R start) out
+spreadFrom f R out (Checked.Refused r) = Written.Refused r
 
 unfoldable pub spread : List ℕ → List ℕ → List ℕ → Written
 unfolding spreadFrom workJudged checked rulesOf
-spread s work out = spreadFrom (rulesOf s) out (workJudged work (checked s))
+spread s work out = spreadFrom (formatOf s) (rulesOf s) out (workJudged work (checked s))
 
 -- the text of the plan's start rule
 unfoldable pub textOf : List ℕ → Checked → List ℕ
 unfolding text forest rulesOf
-textOf s (Checked.Accepted n start) = text (forest (rulesOf s) start)
+textOf s (Checked.Accepted n start) = text (formatOf s) (forest (rulesOf s) start)
 textOf s (Checked.Refused r) = mathlib.Core.List.[]
 
 -- "It writes .. Later bytes stay. Refused, output is untouched." The work is left as measure leaves it.

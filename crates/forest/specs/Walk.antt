@@ -30,9 +30,9 @@ cellLength = cellWords * wordLength
 unfoldable pub cursorWords : ℕ → ℕ
 cursorWords n = 16 * (n + 1)
 
--- "Each letter gives one word in answers": the bytes of an answer, and how many a slice has room for
+-- "Walk answers become 32-bit words (four bytes, low first, on byte slices, a rest not counted)" (document 02, Note 2)
 abbrev pub answerLength : ℕ
-answerLength = wordLength
+answerLength = 4
 
 abbrev pub answerCount : List ℕ → ℕ
 answerCount given = length given / answerLength
@@ -173,9 +173,9 @@ unfoldable pub cursorAfter : List Rule → Begun → List ℕ → List ℕ → L
 cursorAfter R (refused r) letters cursor = cursor
 cursorAfter R (at n r p) letters cursor = storedCursor n (placeAt (placedForest R r) (pathAfter (forest R r) (lettersOf letters) p)) cursor
 
--- "65,535 for nowhere"
+-- "nowhere becomes 4,294,967,295, since 65,535 is now a food" (document 02, Note 2): document 01's word for it was 65,535
 abbrev pub nowhere : ℕ
-nowhere = 65535
+nowhere = 4294967295
 
 unfoldable pub answerWord : Option ℕ → ℕ
 answerWord none = nowhere

@@ -12,6 +12,7 @@ use native.Mathlib.Omega.{arith}
 use lib.Dec.{T, ltb}
 use lib.ListN.{length}
 use borrow.Author.Tests.{ltb-true}
+use Rattle.record.specs.declared.Format.{Format}
 use Rattle.refusal.specs.declared.Refusal.{Refusal}
 use Rattle.record.specs.declared.Record.{Record}
 use Rattle.rule.specs.declared.Decoded.{Decoded}
@@ -49,60 +50,61 @@ named ws i (Decoded.Whole r) h =
     let q = fine-passed (sorts (kindAt ws) r) Judged.Fine (Refusal.WrongSort i) (p .1) in
     record { means = r; decodes = refl; ranged = is-test (p .0); sorted = is-test (q .0) }
 
--- m rules from i on, and what follows them
-rules-fine : (ws : List Record) (last : Judged) (m i : ℕ)
-    → rulesJudged ws last i m ≡ Judged.Fine
-    → ((k : ℕ) → i ≤ k → k < i + m → ruleJudged ws k ≡ Judged.Fine) × (last ≡ Judged.Fine)
-unfolding rulesJudged
-rules-fine ws last zero i h = (λ k l u. absurd (omega arith), h)
-rules-fine ws last (suc m) i h =
-    let p = andThen-fine (ruleJudged ws i) (rulesJudged ws last (suc i) m) h in
-    let q = rules-fine ws last m (suc i) (p .1) in
-    (λ k l u. ⊎-elim (λ e. rw e at (p .0)) (λ g. q .0 k g (omega arith)) (eq-or-lt-of-le l), q .1)
+module _ (f : Format) where
+  -- m rules from i on, and what follows them
+  rules-fine : (ws : List Record) (last : Judged) (m i : ℕ)
+      → rulesJudged f ws last i m ≡ Judged.Fine
+      → ((k : ℕ) → i ≤ k → k < i + m → ruleJudged f ws k ≡ Judged.Fine) × (last ≡ Judged.Fine)
+  unfolding rulesJudged
+  rules-fine ws last zero i h = (λ k l u. absurd (omega arith), h)
+  rules-fine ws last (suc m) i h =
+      let p = andThen-fine (ruleJudged f ws i) (rulesJudged f ws last (suc i) m) h in
+      let q = rules-fine ws last m (suc i) (p .1) in
+      (λ k l u. ⊎-elim (λ e. rw e at (p .0)) (λ g. q .0 k g (omega arith)) (eq-or-lt-of-le l), q .1)
 
--- ---- what passed
-pub record Fit (ws : List Record) (start : ℕ) : Type 0 where
-  pub each : (i : ℕ) → i < length ws → Named ws i (decode (recordIn ws i))
-  pub ranged : Ranged (rulesIn ws)
-  pub acyclic : Acyclic (rulesIn ws)
-  pub sound : Sound (rulesIn ws) (rank (rulesIn ws))
-  pub ends : Closed (rulesIn ws) start
+  -- ---- what passed
+  pub record Fit (ws : List Record) (start : ℕ) : Type 0 where
+    pub each : (i : ℕ) → i < length ws → Named ws i (decode f (recordIn ws i))
+    pub ranged : Ranged (rulesIn f ws)
+    pub acyclic : Acyclic (rulesIn f ws)
+    pub sound : Sound (rulesIn f ws) (rank (rulesIn f ws))
+    pub ends : Closed (rulesIn f ws) start
 
-fit-start : (ws : List Record) (start : ℕ) → ((i : ℕ) → i < length ws → Named ws i (decode (recordIn ws i))) → startJudged ws start ≡ Judged.Fine → Closed (rulesIn ws) start
-unfolding startJudged
-fit-start ws start each h =
-    let p = fine-passed (ltb start (length ws) && closed (kindAt ws start)) Judged.Fine Refusal.Start h in
-    let q = and-eq-true-iff (ltb start (length ws)) (closed (kindAt ws start)) .0 (p .0) in
-    record {
-      below = omega (arith, length-rulesIn ws, ltb-true start (length ws) (q .0));
-      closed-kind = rw (← kinds ws each) (is-test (q .1));
-    }
+  fit-start : (ws : List Record) (start : ℕ) → ((i : ℕ) → i < length ws → Named ws i (decode f (recordIn ws i))) → startJudged ws start ≡ Judged.Fine → Closed (rulesIn f ws) start
+  unfolding startJudged
+  fit-start ws start each h =
+      let p = fine-passed (ltb start (length ws) && closed (kindAt ws start)) Judged.Fine Refusal.Start h in
+      let q = and-eq-true-iff (ltb start (length ws)) (closed (kindAt ws start)) .0 (p .0) in
+      record {
+        below = omega (arith, length-rulesIn f ws, ltb-true start (length ws) (q .0));
+        closed-kind = rw (← kinds f ws each) (is-test (q .1));
+      }
 
--- rules that pass 4 to 6
-pub passed-each : (ws : List Record) → Passed ws → (i : ℕ) → i < length ws → Named ws i (decode (recordIn ws i))
-unfolding ruleJudged
-passed-each ws h i l = named ws i (decode (recordIn ws i)) (rules-fine ws Judged.Fine (length ws) 0 (h Judged.Fine) .0 i (omega arith) (omega arith))
+  -- rules that pass 4 to 6
+  pub passed-each : (ws : List Record) → Passed f ws → (i : ℕ) → i < length ws → Named ws i (decode f (recordIn ws i))
+  unfolding ruleJudged
+  passed-each ws h i l = named ws i (decode f (recordIn ws i)) (rules-fine ws Judged.Fine (length ws) 0 (h Judged.Fine) .0 i (omega arith) (omega arith))
 
-pub passed-ranged : (ws : List Record) → Passed ws → Ranged (rulesIn ws)
-passed-ranged ws h = named-ranged ws (passed-each ws h)
+  pub passed-ranged : (ws : List Record) → Passed f ws → Ranged (rulesIn f ws)
+  passed-ranged ws h = named-ranged f ws (passed-each ws h)
 
-cycle-fine : (x : Option ℕ) (later : Judged) → cycleJudged x later ≡ Judged.Fine → (x ≡ none) × (later ≡ Judged.Fine)
-unfolding cycleJudged
-cycle-fine none later h = (refl, h)
-cycle-fine (some r) later h = let z : _≡_ {A = ℕ} 0 1 = cc in absurd (omega arith)
+  cycle-fine : (x : Option ℕ) (later : Judged) → cycleJudged x later ≡ Judged.Fine → (x ≡ none) × (later ≡ Judged.Fine)
+  unfolding cycleJudged
+  cycle-fine none later h = (refl, h)
+  cycle-fine (some r) later h = let z : _≡_ {A = ℕ} 0 1 = cc in absurd (omega arith)
 
-pub fine-fit : (ws : List Record) (start : ℕ) → judged ws start ≡ Judged.Fine → Fit ws start
-unfolding judged ruleJudged
-fine-fit ws start h =
-    let p = rules-fine ws (cycleJudged (lowestCycle (rulesIn ws)) (startJudged ws start)) (length ws) 0 h in
-    let each : (i : ℕ) → i < length ws → Named ws i (decode (recordIn ws i)) = λ i l. named ws i (decode (recordIn ws i)) (p .0 i (omega arith) (omega arith)) in
-    let q = cycle-fine (lowestCycle (rulesIn ws)) (startJudged ws start) (p .1) in
-    let ranged : Ranged (rulesIn ws) = named-ranged ws each in
-    let acyclic : Acyclic (rulesIn ws) = lowest-none (rulesIn ws) ranged .0 (q .0) in
-    record {
-      each = each;
-      ranged = ranged;
-      acyclic = acyclic;
-      sound = named-sound ws each (rank (rulesIn ws)) (rank-falls (rulesIn ws) ranged acyclic) (rank-below (rulesIn ws) ranged acyclic);
-      ends = fit-start ws start each (q .1);
-    }
+  pub fine-fit : (ws : List Record) (start : ℕ) → judged f ws start ≡ Judged.Fine → Fit ws start
+  unfolding judged ruleJudged
+  fine-fit ws start h =
+      let p = rules-fine ws (cycleJudged (lowestCycle (rulesIn f ws)) (startJudged ws start)) (length ws) 0 h in
+      let each : (i : ℕ) → i < length ws → Named ws i (decode f (recordIn ws i)) = λ i l. named ws i (decode f (recordIn ws i)) (p .0 i (omega arith) (omega arith)) in
+      let q = cycle-fine (lowestCycle (rulesIn f ws)) (startJudged ws start) (p .1) in
+      let ranged : Ranged (rulesIn f ws) = named-ranged f ws each in
+      let acyclic : Acyclic (rulesIn f ws) = lowest-none (rulesIn f ws) ranged .0 (q .0) in
+      record {
+        each = each;
+        ranged = ranged;
+        acyclic = acyclic;
+        sound = named-sound f ws each (rank (rulesIn f ws)) (rank-falls (rulesIn f ws) ranged acyclic) (rank-below (rulesIn f ws) ranged acyclic);
+        ends = fit-start ws start each (q .1);
+      }

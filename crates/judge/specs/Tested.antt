@@ -6,6 +6,7 @@ use mathlib.Core.List.{List}
 use lib.ListN.{length}
 use lib.Dec.{ltb}
 use Rattle.refusal.specs.declared.Refusal.{Refusal}
+use Rattle.record.specs.declared.Format.{Format}
 use Rattle.record.specs.declared.Record.{Record}
 use Rattle.record.specs.Records.{recordIn, kindAt}
 use Rattle.rule.specs.declared.Decoded.{Decoded}
@@ -34,15 +35,15 @@ unfoldable pub testedOf : List Record → ℕ → Decoded → Tested
 testedOf ws i Decoded.Malformed = Tested.Refused (Refusal.Malformed i)
 testedOf ws i (Decoded.Whole r) = verdict i true (every (λ x. ltb x (length ws)) r) (sorts (kindAt ws) r) (every (λ x. ltb x i) r)
 
-abbrev pub tested : List Record → ℕ → Tested
-tested ws i = testedOf ws i (decode (recordIn ws i))
+abbrev pub tested : Format → List Record → ℕ → Tested
+tested f ws i = testedOf ws i (decode f (recordIn ws i))
 
 -- all rules pass 4 to 6: what comes after them decides
-abbrev pub Passed : List Record → Type 0
-Passed ws = (last : Judged) → rulesJudged ws last 0 (length ws) ≡ last
+abbrev pub Passed : Format → List Record → Type 0
+Passed f ws = (last : Judged) → rulesJudged f ws last 0 (length ws) ≡ last
 
 -- what the test of all rules says: they pass, and name only lower ones; they pass; or the first refusal, whatever would come after
-unfoldable pub Tells : List Record → Rules → Type 0
-Tells ws Rules.Lower = Passed ws × Lower (rulesIn ws)
-Tells ws Rules.Mixed = Passed ws
-Tells ws (Rules.Refused why) = (last : Judged) → rulesJudged ws last 0 (length ws) ≡ Judged.Refused why
+unfoldable pub Tells : Format → List Record → Rules → Type 0
+Tells f ws Rules.Lower = Passed f ws × Lower (rulesIn f ws)
+Tells f ws Rules.Mixed = Passed f ws
+Tells f ws (Rules.Refused why) = (last : Judged) → rulesJudged f ws last 0 (length ws) ≡ Judged.Refused why

@@ -1,4 +1,5 @@
 // The test of a plan's rules (document 01, "Check", refusals 4 to 7, and document 02, Note 1, refusal 12), which check and seal share.
+use record::Format;
 use record::Record;
 use refusal::Refusal;
 use rule::Rule;
@@ -33,39 +34,39 @@ enum Rules {
 }
 
 // The kind of rule x, of n rules whose records begin at first; empty where there is no such rule.
-fn kind_at(s: &[u8], first: usize, n: u16, x: u16) -> u16
-    requires { ⌜ first + recordLength * n ≤ length (now s) ⌝ }
-    ensures { λ r. ⌜ r ≡ kindAt (recordsFrom (now (s .entry)) first n) x ⌝ }
+fn kind_at(s: &[u8], format: Format, first: usize, n: u16, x: u16) -> u16
+    requires { ⌜ first + recordLength format * n ≤ length (now s) ⌝ }
+    ensures { λ r. ⌜ r ≡ kindAt (recordsFrom format (now (s .entry)) first n) x ⌝ }
 {
     if x < n {
-        words::read16(s, first + Record::LENGTH * (x as usize))
+        words::read16(s, first + format.length() * (x as usize))
     } else {
         Rule::EMPTY
     }
 }
 
 // The sorts of rule x, by its kind: closed, holed, and a tree.
-fn closed_at(s: &[u8], first: usize, n: u16, x: u16) -> bool
-    requires { ⌜ first + recordLength * n ≤ length (now s) ⌝ }
-    ensures { λ r. ⌜ r ≡ closed (kindAt (recordsFrom (now (s .entry)) first n) x) ⌝ }
+fn closed_at(s: &[u8], format: Format, first: usize, n: u16, x: u16) -> bool
+    requires { ⌜ first + recordLength format * n ≤ length (now s) ⌝ }
+    ensures { λ r. ⌜ r ≡ closed (kindAt (recordsFrom format (now (s .entry)) first n) x) ⌝ }
 {
-    let kind = kind_at(s, first, n, x);
+    let kind = kind_at(s, format, first, n, x);
     (kind == Rule::EMPTY) | (kind == Rule::PAIR) | (kind == Rule::NODE) | (kind == Rule::FILL)
 }
 
-fn holed_at(s: &[u8], first: usize, n: u16, x: u16) -> bool
-    requires { ⌜ first + recordLength * n ≤ length (now s) ⌝ }
-    ensures { λ r. ⌜ r ≡ holed (kindAt (recordsFrom (now (s .entry)) first n) x) ⌝ }
+fn holed_at(s: &[u8], format: Format, first: usize, n: u16, x: u16) -> bool
+    requires { ⌜ first + recordLength format * n ≤ length (now s) ⌝ }
+    ensures { λ r. ⌜ r ≡ holed (kindAt (recordsFrom format (now (s .entry)) first n) x) ⌝ }
 {
-    let kind = kind_at(s, first, n, x);
+    let kind = kind_at(s, format, first, n, x);
     (kind == Rule::PART) | (kind == Rule::JOIN)
 }
 
-fn tree_at(s: &[u8], first: usize, n: u16, x: u16) -> bool
-    requires { ⌜ first + recordLength * n ≤ length (now s) ⌝ }
-    ensures { λ r. ⌜ r ≡ tree (kindAt (recordsFrom (now (s .entry)) first n) x) ⌝ }
+fn tree_at(s: &[u8], format: Format, first: usize, n: u16, x: u16) -> bool
+    requires { ⌜ first + recordLength format * n ≤ length (now s) ⌝ }
+    ensures { λ r. ⌜ r ≡ tree (kindAt (recordsFrom format (now (s .entry)) first n) x) ⌝ }
 {
-    let kind = kind_at(s, first, n, x);
+    let kind = kind_at(s, format, first, n, x);
     (kind == Rule::NODE) | (kind == Rule::FILL)
 }
 
@@ -87,83 +88,88 @@ fn verdict(i: u16, formed: bool, ranged: bool, sorted: bool, lower: bool) -> Tes
 }
 
 // The test of a rule without a hole, kinds 0 to 2.
-fn test_rule(s: &[u8], first: usize, n: u16, i: u16) -> Tested
-    requires { ⌜ (first + recordLength * n ≤ length (now s)) × (i < n) ⌝ }
-    ensures { λ t. ⌜ t ≡ tested (recordsFrom (now (s .entry)) first n) i ⌝ }
+fn test_rule(s: &[u8], format: Format, first: usize, n: u16, i: u16) -> Tested
+    requires { ⌜ (first + recordLength format * n ≤ length (now s)) × (i < n) ⌝ }
+    ensures { λ t. ⌜ t ≡ tested format (recordsFrom format (now (s .entry)) first n) i ⌝ }
 {
-    let w = Record::read(s, first + Record::LENGTH * (i as usize));
+    let w = Record::read(s, format, first + format.length() * (i as usize));
     let kind = w.kind;
     let one = w.one;
     let two = w.two;
-    let unused = w.three == Record::UNUSED;
+    let three = w.three;
+    let high = w.high;
+    let unused = three == Record::UNUSED;
+    let low = high == Record::UNUSED;
     if kind == Rule::PAIR {
         return verdict(
             i,
-            unused,
+            unused & low,
             (one < n) & (two < n),
-            closed_at(s, first, n, one) & closed_at(s, first, n, two),
+            closed_at(s, format, first, n, one) & closed_at(s, format, first, n, two),
             (one < i) & (two < i),
         );
     }
     if kind == Rule::NODE {
         return verdict(
             i,
-            (one as u32 <= Rule::LARGEST_LABEL) & unused,
+            Rule::label_fits(w, format) & unused,
             two < n,
-            closed_at(s, first, n, two),
+            closed_at(s, format, first, n, two),
             two < i,
         );
     }
     if kind == Rule::EMPTY {
         return verdict(
             i,
-            (one == Record::UNUSED) & (two == Record::UNUSED) & unused,
+            (one == Record::UNUSED) & (two == Record::UNUSED) & unused & low,
             true,
             true,
             true,
         );
     }
-    test_filled(s, first, n, i, w)
+    test_filled(s, format, first, n, i, w)
 }
 
 // The same of the kinds that have to do with a hole, from the rule's record.
-fn test_filled(s: &[u8], first: usize, n: u16, i: u16, w: Record) -> Tested
-    requires { ⌜ (first + recordLength * n ≤ length (now s))
+fn test_filled(s: &[u8], format: Format, first: usize, n: u16, i: u16, w: Record) -> Tested
+    requires { ⌜ (first + recordLength format * n ≤ length (now s))
         × (i < n)
-        × (w ≡ recordIn (recordsFrom (now s) first n) i)
+        × (w ≡ recordIn (recordsFrom format (now s) first n) i)
         × (w .kind ≡ kindEmpty → ⊥)
         × (w .kind ≡ kindPair → ⊥)
         × (w .kind ≡ kindNode → ⊥) ⌝ }
-    ensures { λ t. ⌜ t ≡ tested (recordsFrom (now (s .entry)) first n) i ⌝ }
+    ensures { λ t. ⌜ t ≡ tested format (recordsFrom format (now (s .entry)) first n) i ⌝ }
 {
     let kind = w.kind;
     let one = w.one;
     let two = w.two;
     let three = w.three;
+    let high = w.high;
+    let unused = (three == Record::UNUSED) & (high == Record::UNUSED);
     if kind == Rule::FILL {
         return verdict(
             i,
-            three == Record::UNUSED,
+            unused,
             (one < n) & (two < n),
-            holed_at(s, first, n, one) & tree_at(s, first, n, two),
+            holed_at(s, format, first, n, one) & tree_at(s, format, first, n, two),
             (one < i) & (two < i),
         );
     }
     if kind == Rule::PART {
         return verdict(
             i,
-            one as u32 <= Rule::LARGEST_LABEL,
+            Rule::label_fits(w, format),
             (two < n) & (three < n),
-            closed_at(s, first, n, two) & closed_at(s, first, n, three),
+            closed_at(s, format, first, n, two) & closed_at(s, format, first, n, three),
             (two < i) & (three < i),
         );
     }
     if kind == Rule::JOIN {
         return verdict(
             i,
-            three == Record::UNUSED,
+            unused,
             (one < n) & (two < n),
-            holed_at(s, first, n, one) & holed_at(s, first, n, two),
+            holed_at(s, format, first, n, one) & holed_at(s, format, first, n, two),
             (one < i) & (two < i),
         );
     }
@@ -171,14 +177,14 @@ fn test_filled(s: &[u8], first: usize, n: u16, i: u16, w: Record) -> Tested
 }
 
 // Refusals 4 to 6 of n rules whose records begin at first, from rule 0 up.
-fn test_rules(s: &[u8], first: usize, n: u16) -> Rules
-    requires { ⌜ first + recordLength * n ≤ length (now s) ⌝ }
-    ensures { λ x. ⌜ Tells (recordsFrom (now (s .entry)) first n) x ⌝ }
+fn test_rules(s: &[u8], format: Format, first: usize, n: u16) -> Rules
+    requires { ⌜ first + recordLength format * n ≤ length (now s) ⌝ }
+    ensures { λ x. ⌜ Tells format (recordsFrom format (now (s .entry)) first n) x ⌝ }
 {
     let mut lower = true;
     let mut i: u16 = 0;
     while i < n {
-        match test_rule(s, first, n, i) {
+        match test_rule(s, format, first, n, i) {
             Tested::Lower => i += 1,
             Tested::Mixed => {
                 lower = false;
@@ -191,14 +197,14 @@ fn test_rules(s: &[u8], first: usize, n: u16) -> Rules
 }
 
 // Refusal 7: the start rule isn't below n or isn't closed.
-fn judge_start(s: &[u8], first: usize, n: u16, start: u16) -> Judged
-    requires { ⌜ first + recordLength * n ≤ length (now s) ⌝ }
-    ensures { λ r. ⌜ r ≡ startJudged (recordsFrom (now (s .entry)) first n) start ⌝ }
+fn judge_start(s: &[u8], format: Format, first: usize, n: u16, start: u16) -> Judged
+    requires { ⌜ first + recordLength format * n ≤ length (now s) ⌝ }
+    ensures { λ r. ⌜ r ≡ startJudged (recordsFrom format (now (s .entry)) first n) start ⌝ }
 {
     if n <= start {
         return Judged::Refused(Refusal::Start);
     }
-    if !closed_at(s, first, n, start) {
+    if !closed_at(s, format, first, n, start) {
         return Judged::Refused(Refusal::Start);
     }
     Judged::Fine
@@ -208,30 +214,30 @@ fn judge_start(s: &[u8], first: usize, n: u16, start: u16) -> Judged
 const MOST_SEARCHED: usize = 1024;
 
 // Refusal 12 and then 7, of rules that pass 4 to 6: they are searched for an order in which each stands after those that it names.
-fn judge_cycles(s: &[u8], first: usize, n: u16, start: u16) -> Judged
-    requires { ⌜ (first + recordLength * n ≤ length (now s))
+fn judge_cycles(s: &[u8], format: Format, first: usize, n: u16, start: u16) -> Judged
+    requires { ⌜ (first + recordLength format * n ≤ length (now s))
         × (n ≤ mostSearched)
-        × Passed (recordsFrom (now s) first n) ⌝ }
+        × Passed format (recordsFrom format (now s) first n) ⌝ }
     ensures { λ r.
-        let ws = recordsFrom (now (s .entry)) first n in
-        ⌜ r ≡ cycleJudged (lowestCycle (rulesIn ws)) (startJudged ws start) ⌝ }
+        let ws = recordsFrom format (now (s .entry)) first n in
+        ⌜ r ≡ cycleJudged (lowestCycle (rulesIn format ws)) (startJudged ws start) ⌝ }
 {
     let mut room = [0u8; 4 * MOST_SEARCHED];
-    if reach_order::order(s, first, n, &mut room) {
-        return judge_start(s, first, n, start);
+    if reach_order::order(s, format, first, n, &mut room) {
+        return judge_start(s, format, first, n, start);
     }
-    let lowest = reach_order::lowest(s, first, n, &mut room);
+    let lowest = reach_order::lowest(s, format, first, n, &mut room);
     Judged::Refused(Refusal::Cycle(lowest as usize))
 }
 
 // Refusals 4 to 7 and 12 of n rules whose records begin at first: rules from 0 up, then one that reaches itself, then the start.
-pub fn judge(s: &[u8], first: usize, n: u16, start: u16) -> Judged
-    requires { ⌜ (first + recordLength * n ≤ length (now s)) × (n ≤ mostSearched) ⌝ }
-    ensures { λ r. ⌜ r ≡ judged (recordsFrom (now (s .entry)) first n) start ⌝ }
+pub fn judge(s: &[u8], format: Format, first: usize, n: u16, start: u16) -> Judged
+    requires { ⌜ (first + recordLength format * n ≤ length (now s)) × (n ≤ mostSearched) ⌝ }
+    ensures { λ r. ⌜ r ≡ judged format (recordsFrom format (now (s .entry)) first n) start ⌝ }
 {
-    match test_rules(s, first, n) {
-        Rules::Lower => judge_start(s, first, n, start),
-        Rules::Mixed => judge_cycles(s, first, n, start),
+    match test_rules(s, format, first, n) {
+        Rules::Lower => judge_start(s, format, first, n, start),
+        Rules::Mixed => judge_cycles(s, format, first, n, start),
         Rules::Refused(refusal) => Judged::Refused(refusal),
     }
 }

@@ -16,11 +16,11 @@ pub enum Letter {
 }
 
 impl Letter {
-    // The answer to a letter that leads nowhere.
-    pub const NOWHERE: u32 = 65535;
+    // The answer to a letter that leads nowhere (document 02, Note 2).
+    pub const NOWHERE: u32 = 4294967295;
 
     // Bytes of an answer.
-    pub const ANSWER_LENGTH: usize = 2;
+    pub const ANSWER_LENGTH: usize = 4;
 }
 
 // What a byte is: a letter, or something else.

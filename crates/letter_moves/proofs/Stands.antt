@@ -4,20 +4,13 @@ use Prim.Native.Nat.{ℕ, _+_, _*_, _≤_, _<_}
 use native.Mathlib.Omega.{arith}
 use mathlib.Core.Path.{_≡_, refl, sym, ap, subst, _∙_}
 use mathlib.Core.List.{List, [], _∷_, cons≢nil}
-use mathlib.Core.Option.{Option, none, some, Option·map, Option·none-ne-some}
-use native.Mathlib.Decide.{decLt}
+use mathlib.Core.Option.{Option, none, some, Option·none-ne-some}
 use lib.ListN.{length}
-use lib.Dec.{T, leb→le}
-use Rattle.rule.specs.declared.Rule.{Rule}
-use Rattle.rule.specs.Rule.{labelled, largestLabel}
-use Rattle.rule.specs.Sound.{rule, Sound}
-use Rattle.rule.proofs.Rules.{past-rule}
 use Rattle.forest.specs.Place.{Cells}
 use Rattle.forest.specs.Letter.{Letter}
 use Rattle.forest.specs.Walk.{cellLength, cellsIn, nowhere, answerWord}
-use Rattle.model.specs.Facts.{factsOf}
 use Rattle.model.specs.Model.{Node}
-use Rattle.model.specs.Walk.{label, fromNode, move, moved, answer}
+use Rattle.model.specs.Walk.{fromNode, move, moved, answer}
 use Rattle.model.proofs.Rules.{Agrees, facts-agree}
 use Rattle.model.proofs.Ranged.{Numbers}
 use Rattle.facts.specs.Facts.{rowCount, In, factsIn}
@@ -34,19 +27,6 @@ use Rattle.move_parts.proofs.Kept.{child-kept, sibling-kept, parent-kept, root-
 use Rattle.letter_moves.specs.Standing.{Valid, rulesKept, WalkedRows, Stands, Stepped}
 use Rattle.letter_moves.proofs.Valid.{valid-moved, valid-short, valid-numbers, valid-rule}
 use Rattle.letter_moves.proofs.Holding.{numbers-fit, rows-closes}
-
-labelled-small : (x : Rule) → T (labelled x) → label x < 65536
-unfolding labelled label
-labelled-small Rule.Empty h = omega arith
-labelled-small (Rule.Pair b c) h = omega arith
-labelled-small (Rule.Node a c) h = let small = leb→le a largestLabel h in omega arith
-labelled-small (Rule.Fill b c) h = omega arith
-labelled-small (Rule.Part a b c) h = let small = leb→le a largestLabel h in omega arith
-labelled-small (Rule.Join b c) h = omega arith
-
-none-small : label Rule.Empty < 65536
-unfolding label
-none-small = omega arith
 
 module _ {r : ℕ} {t : List ℕ} (T : WalkedRows r t) where
   count : length (rulesKept t) ≡ rowCount t
@@ -83,23 +63,6 @@ module _ {r : ℕ} {t : List ℕ} (T : WalkedRows r t) where
 
   next : (l : Letter) (n : Node) → Valid (rulesKept t) r n → Valid (rulesKept t) r (moved (factsIn t) r l n)
   next l n v = valid-moved (T .sound) (T .closed) (factsIn t) agrees l n v
-
--- labels fit a word of answers, and so does the word for nowhere
-label-small : {R : List Rule} {rank : ℕ → ℕ} → Sound R rank → (k : ℕ) → label (rule R k) < 65536
-label-small {R} S k =
-    elim (decLt k (length R)) as (λ (z : Dec (k < length R)). label (rule R k) < 65536) [ yes below ↦ labelled-small (rule R k) (S .labels k below) | no above ↦ past (omega arith) ]
-  where
-    past : length R ≤ k → label (rule R k) < 65536
-    past h = rw (past-rule R k h) none-small
-
-word-small : {r : ℕ} {t : List ℕ} → WalkedRows r t → (y : Option Node) → answerWord (Option·map (λ (x : Node). label ((factsIn t) .rule (x .0))) y) < 65536
-unfolding answerWord factsOf
-word-small T none = omega arith
-word-small T (some x) = rw (T .facts-are) (label-small (T .sound) (x .0))
-
-pub answer-small : {r : ℕ} {t : List ℕ} → WalkedRows r t → {l : Letter} {k p : ℕ} {s s′ : List ℕ} {x : Landing} → Stepped r t l k p s s′ x → x .answer < 65536
-unfolding answer
-answer-small {r} {t} T {l} {k} {p} {s} z = rw (z .answered) (word-small T (move (factsIn t) r l (p, cellsIn s k)))
 
 no-cells : (s : List ℕ) (k : ℕ) → cellsIn s k ≡ [] → k ≡ 0
 no-cells s k e = sym (length-cells s k) ∙ ap length e

@@ -12,7 +12,7 @@ use Rattle.words.specs.Number.{bytes, put}
 use Rattle.words.proofs.Laws.{put-split, length-put, length-bytes}
 use Rattle.words.specs.Front.{inFront}
 use Rattle.forest.specs.Letter.{Letter, letterOf}
-use Rattle.forest.specs.Walk.{cellLength, cellsIn, andLetters, lettersOf, answersBytes, answerWord}
+use Rattle.forest.specs.Walk.{answerLength, cellLength, cellsIn, andLetters, lettersOf, answersBytes, answerWord}
 use Rattle.model.specs.Model.{Node}
 use Rattle.model.specs.Walk.{answer, answers, after}
 use Rattle.work_rows.specs.Rows.{Within}
@@ -25,46 +25,46 @@ use Rattle.letter_moves.specs.Standing.{Stands, Stepped}
 use Rattle.letter_run.specs.Ran.{Ran, Answerable}
 use Rattle.letter_moves.proofs.Stands.{stands-few, stands-after}
 
-pub length-answersBytes : (vs : List ℕ) → length (answersBytes vs) ≡ 2 * length vs
+pub length-answersBytes : (vs : List ℕ) → length (answersBytes vs) ≡ answerLength * length vs
 unfolding answersBytes
 length-answersBytes [] = refl
-length-answersBytes (v ∷ vs) = length-append (bytes 2 v) (answersBytes vs) ∙ omega (arith, length-bytes 2 v, length-answersBytes vs)
+length-answersBytes (v ∷ vs) = length-append (bytes answerLength v) (answersBytes vs) ∙ omega (arith, length-bytes answerLength v, length-answersBytes vs)
 
-answersBytes-more : (vs : List ℕ) (v : ℕ) → answersBytes (vs ++ (v ∷ [])) ≡ answersBytes vs ++ bytes 2 v
+answersBytes-more : (vs : List ℕ) (v : ℕ) → answersBytes (vs ++ (v ∷ [])) ≡ answersBytes vs ++ bytes answerLength v
 unfolding answersBytes bytes
 answersBytes-more [] v = refl
-answersBytes-more (x ∷ vs) v = ap (λ (l : List ℕ). bytes 2 x ++ l) (answersBytes-more vs v)
+answersBytes-more (x ∷ vs) v = ap (λ (l : List ℕ). bytes answerLength x ++ l) (answersBytes-more vs v)
 
 -- no word at the front, and one word more
 in-front-none : (given : List ℕ) → inFront (answersBytes []) given ≡ given
 unfolding inFront answersBytes
 in-front-none given = refl
 
-in-front-more : (vs : List ℕ) (v : ℕ) (given : List ℕ) (at : ℕ) → 2 * length vs ≡ at → at + 2 ≤ length given
-    → put 2 (inFront (answersBytes vs) given) at v ≡ inFront (answersBytes (vs ++ (v ∷ []))) given
+in-front-more : (vs : List ℕ) (v : ℕ) (given : List ℕ) (at : ℕ) → answerLength * length vs ≡ at → at + answerLength ≤ length given
+    → put answerLength (inFront (answersBytes vs) given) at v ≡ inFront (answersBytes (vs ++ (v ∷ []))) given
 unfolding inFront
 in-front-more vs v given at e room =
-    put-split 2 (answersBytes vs ++ drop (length (answersBytes vs)) given) at v enough
-    ∙ ap₂ (λ (x y : List ℕ). x ++ (bytes 2 v ++ y)) front back
-    ∙ sym (append-assoc (answersBytes vs) (bytes 2 v) (drop (at + 2) given))
+    put-split answerLength (answersBytes vs ++ drop (length (answersBytes vs)) given) at v enough
+    ∙ ap₂ (λ (x y : List ℕ). x ++ (bytes answerLength v ++ y)) front back
+    ∙ sym (append-assoc (answersBytes vs) (bytes answerLength v) (drop (at + answerLength) given))
     ∙ sym (ap₂ (λ (x : List ℕ) (k : ℕ). x ++ drop k given) (answersBytes-more vs v) longer)
   where
     whole : length (answersBytes vs) ≡ at
     whole = length-answersBytes vs ∙ e
 
-    enough : at + 2 ≤ length (answersBytes vs ++ drop (length (answersBytes vs)) given)
+    enough : at + answerLength ≤ length (answersBytes vs ++ drop (length (answersBytes vs)) given)
     enough = simp (length-append, length-drop) (omega (arith, whole))
 
     front : take at (answersBytes vs ++ drop (length (answersBytes vs)) given) ≡ answersBytes vs
     front = take-at (answersBytes vs) (drop (length (answersBytes vs)) given) at whole
 
-    back : drop (at + 2) (answersBytes vs ++ drop (length (answersBytes vs)) given) ≡ drop (at + 2) given
+    back : drop (at + answerLength) (answersBytes vs ++ drop (length (answersBytes vs)) given) ≡ drop (at + answerLength) given
     back =
-        sym (drop-drop 2 at (answersBytes vs ++ drop (length (answersBytes vs)) given))
-        ∙ ap (drop 2) (drop-at (answersBytes vs) (drop (length (answersBytes vs)) given) at whole ∙ ap (λ (k : ℕ). drop k given) whole)
-        ∙ drop-drop 2 at given
+        sym (drop-drop answerLength at (answersBytes vs ++ drop (length (answersBytes vs)) given))
+        ∙ ap (drop answerLength) (drop-at (answersBytes vs) (drop (length (answersBytes vs)) given) at whole ∙ ap (λ (k : ℕ). drop k given) whole)
+        ∙ drop-drop answerLength at given
 
-    longer : length (answersBytes (vs ++ (v ∷ []))) ≡ at + 2
+    longer : length (answersBytes (vs ++ (v ∷ []))) ≡ at + answerLength
     longer = length-answersBytes (vs ++ (v ∷ [])) ∙ omega (arith, length-append vs (v ∷ []))
 
 -- the letters from an offset on
@@ -126,7 +126,7 @@ module _ {r : ℕ} {t letters s₀ given₀ : List ℕ} {h₀ : Standing} where
 
     -- one letter more
     pub partway-more : (l : Letter) → i < length letters → letterOf (getD letters i 0) ≡ some l → Answerable letters given₀ → {s′ given′ : List ℕ} {x : Landing}
-        → Stepped r t l (h .used) (h .rule) s s′ x → given′ ≡ put 2 given (2 * i) (x .answer) → Partway r t letters h₀ s₀ given₀ (i + 1) (x .at) s′ given′
+        → Stepped r t l (h .used) (h .rule) s s′ x → given′ ≡ put answerLength given (answerLength * i) (x .answer) → Partway r t letters h₀ s₀ given₀ (i + 1) (x .at) s′ given′
     unfolding after answers
     partway-more l d e room {s′} {given′} {x} z w =
         let more = letters-more letters i l d e in
@@ -135,8 +135,8 @@ module _ {r : ℕ} {t letters s₀ given₀ : List ℕ} {h₀ : Standing} where
           stands = stands-after (P .stands) l z;
           done = P .done ++ (x .answer ∷ []);
           count = length-append (P .done) (x .answer ∷ []) ∙ omega arith;
-          room = ap length w ∙ length-put 2 given (2 * i) (x .answer) ∙ P .room;
-          written = w ∙ ap (λ (g : List ℕ). put 2 g (2 * i) (x .answer)) (P .written) ∙ in-front-more (P .done) (x .answer) given₀ (2 * i) (omega arith) (omega arith);
+          room = ap length w ∙ length-put answerLength given (answerLength * i) (x .answer) ∙ P .room;
+          written = w ∙ ap (λ (g : List ℕ). put answerLength g (answerLength * i) (x .answer)) (P .written) ∙ in-front-more (P .done) (x .answer) given₀ (answerLength * i) (omega arith) (omega arith);
           left = append-assoc (P .done) (x .answer ∷ []) _ ∙ rw (z .node, z .answered) (rw more at (P .left));
           leads = rw (z .node) (rw more at (P .leads));
           within = within-both (P .within) (z .within);

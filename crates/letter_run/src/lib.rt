@@ -32,7 +32,7 @@ pub fn run(
             return at.used;
         };
         let landing = letter_step::step(rows, cursor, at, r, letter);
-        words::write16(answers, Letter::ANSWER_LENGTH * i, landing.answer as u16);
+        words::write32(answers, Letter::ANSWER_LENGTH * i, landing.answer);
         at = landing.at;
         i += 1;
     }

@@ -9,6 +9,7 @@ ghost use Rattle.demand.specs.Calls.{walkOf, lends};
 ghost use Rattle.c_result.specs.Interface.{measuredResult, measuredPosition, treesAfter, entriesAfter, levelsAfter};
 ghost use Rattle.c_result.specs.Interface.{checkedResult, writtenResult, checkedPosition, writtenPosition, countAfter};
 ghost use Rattle.c_result.specs.Interface.{startAfter, lengthAfter, walkedResult, walkedPosition};
+ghost use Rattle.c_result.specs.Interface.{unsealedResult, unsealedPosition, unsealedLength, unsealedCount, unsealedStart};
 
 // Check.
 #[no_mangle]
@@ -33,6 +34,7 @@ pub extern "C" fn plan_check(plan: &[u8], n: &mut u16, start: &mut u16, position
 #[no_mangle]
 pub extern "C" fn plan_seal(
     words: &[u8],
+    record_length: u16,
     start: u16,
     out: &mut [u8],
     written: &mut u64,
@@ -45,13 +47,14 @@ pub extern "C" fn plan_seal(
         let words = now (words .entry) in
         let out = now (out .entry) in
         let written = now (written .entry) in
-        let w = sealed words start out in
+        let w = sealed words record_length start out in
         ⌜ (r ≡ writtenResult w)
-        × (out′ ≡ sealedOutput words start out)
+        × (out′ ≡ sealedOutput words record_length start out)
         × (written′ ≡ lengthAfter w written)
         × (position′ ≡ writtenPosition w) ⌝ }
 {
-    c_result::give_written(seal::seal(words, start, out), written, position)
+    let answer = seal::seal(words, record_length, start, out);
+    c_result::give_written(answer, written, position)
 }
 
 // Unseal.
@@ -59,27 +62,31 @@ pub extern "C" fn plan_seal(
 pub extern "C" fn plan_unseal(
     plan: &[u8],
     out: &mut [u8],
+    record_length: &mut u16,
     n: &mut u16,
     start: &mut u16,
     position: &mut u64,
 ) -> u32
     ensures { λ r.
         let out′ = now (out .exit) in
+        let length′ = now (record_length .exit) in
         let n′ = now (n .exit) in
         let start′ = now (start .exit) in
         let position′ = now (position .exit) in
         let plan = now (plan .entry) in
         let out = now (out .entry) in
+        let length = now (record_length .entry) in
         let n = now (n .entry) in
         let start = now (start .entry) in
-        let c = unsealed plan out in
-        ⌜ (r ≡ checkedResult c)
+        let u = unsealed plan out in
+        ⌜ (r ≡ unsealedResult u)
         × (out′ ≡ unsealedOutput plan out)
-        × (n′ ≡ countAfter c n)
-        × (start′ ≡ startAfter c start)
-        × (position′ ≡ checkedPosition c) ⌝ }
+        × (length′ ≡ unsealedLength u length)
+        × (n′ ≡ unsealedCount u n)
+        × (start′ ≡ unsealedStart u start)
+        × (position′ ≡ unsealedPosition u) ⌝ }
 {
-    c_result::give_checked(unseal::unseal(plan, out), n, start, position)
+    c_result::give_unsealed(unseal::unseal(plan, out), record_length, n, start, position)
 }
 
 // Measure.

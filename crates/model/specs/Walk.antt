@@ -30,7 +30,7 @@ move F r (Letter.sibling s) x = fromNode (x .1) (sibling F s x)
 move F r Letter.parent x = fromNode (x .1) (parent F x)
 move F r Letter.stay x = fromNode (x .1) (some x)
 
--- "65,535 for nowhere, and then the place is kept"
+-- ".. for nowhere, and then the place is kept"
 unfoldable pub moved : Facts → ℕ → Letter → Node → Node
 moved F r l x = Option·getD (move F r l x) x
 

@@ -7,8 +7,7 @@ use mathlib.Core.List.{List, [], _++_, append-nil, append-assoc}
 use lib.ListN.{length, take, drop, replicate, length-drop}
 use lib.Seq.{take-all, drop-length, drop-drop, take-append-add, drop-append-add}
 use Rattle.words.specs.Number.{bytes}
-use Rattle.record.specs.Record.{recordBytes}
-use Rattle.record.proofs.Records.{record-put}
+use Rattle.words.proofs.Laws.{four-put}
 use Rattle.record.proofs.RecordBytes.{Bytes}
 use Rattle.forest.specs.Outcome.{cleared}
 use Rattle.forest.specs.Walk.{cellLength, cellsIn, cellBytes, cellsBytes, storedCursor}
@@ -31,8 +30,8 @@ clear-part s a e low high =
 
 -- the first cell written: its bytes, and the others
 put-first : (s : List ℕ) (c : Words) → cellLength ≤ length s → putCell s 0 c ≡ cellBytes (words c) ++ drop cellLength s
-unfolding putCell cellBytes recordBytes
-put-first s c fits = record-put (record { kind = c .kind; one = c .one; two = c .two; three = c .three }) s 0 fits
+unfolding putCell cellBytes
+put-first s c fits = four-put s 0 (c .kind) (c .one) (c .two) (c .three) fits
 
 -- a word has the low bytes of a number only
 low-digit : (m q : ℕ) → m < 256 → (256 * q + m) % 256 ≡ m % 256

@@ -15,10 +15,11 @@ use Rattle.words.specs.Number.{number}
 use Rattle.words.proofs.Laws.{number-after}
 use Rattle.refusal.specs.declared.Refusal.{Refusal}
 use Rattle.plan.specs.declared.Checked.{Checked}
-use Rattle.record.specs.Record.{recordLength}
+use Rattle.record.specs.declared.Format.{Format}
+use Rattle.record.specs.Format.{recordLength}
 use Rattle.record.specs.Records.{recordsFrom}
 use Rattle.rule.specs.Rule.{rulesIn}
-use Rattle.plan.specs.Check.{trailerLength, atStart, atDistance, atMark, magic, trailerAt, countOf, startOf, distanceOf, same, marked, firstAt, recordsOf, rulesOf, inLimits, checkedUpTo}
+use Rattle.plan.specs.Check.{trailerLength, atStart, atDistance, atMark, magic, trailerAt, countOf, startOf, distanceOf, same, markedAs, marked, formatOf, firstAt, recordsOf, rulesOf, inLimits, checkedUpTo}
 use Rattle.plan.proofs.Sound.{accepted-plan, answer, checked-answer}
 use Rattle.record.proofs.Records.{records-after}
 
@@ -45,23 +46,33 @@ module _ (p s : List ℕ) (long : trailerLength ≤ length s) where
   unfolding distanceOf
   prefix-distance = field 4 atDistance
 
-  pub prefix-marked : marked (p ++ s) ≡ marked s
-  unfolding marked
-  prefix-marked =
-      ap (λ (l : List ℕ). same l magic)
+  prefix-markedAs : (f : Format) → markedAs f (p ++ s) ≡ markedAs f s
+  unfolding markedAs
+  prefix-markedAs f =
+      ap (λ (l : List ℕ). same l (magic f))
       (ap (λ (k : ℕ). drop k (p ++ s)) (ap (λ (x : ℕ). x + atMark) prefix-trailerAt ∙ add-assoc (length p) (trailerAt s) atMark)
       ∙ drop-append-add p s (trailerAt s + atMark))
+
+  pub prefix-marked : marked (p ++ s) ≡ marked s
+  unfolding marked
+  prefix-marked = rw (prefix-markedAs Format.Narrow, prefix-markedAs Format.Wide)
+
+  pub prefix-format : formatOf (p ++ s) ≡ formatOf s
+  unfolding formatOf
+  prefix-format = rw (prefix-markedAs Format.Wide)
 
   module _ (within : distanceOf s ≤ trailerAt s) where
     pub prefix-records : recordsOf (p ++ s) ≡ recordsOf s
     unfolding recordsOf firstAt
     prefix-records =
         let e : trailerAt (p ++ s) - distanceOf (p ++ s) ≡ length p + (trailerAt s - distanceOf s) = omega (arith, prefix-trailerAt, prefix-distance) in
-        ap₂ (recordsFrom (p ++ s)) e prefix-count ∙ records-after p s (firstAt s) (countOf s)
+        ap (λ (f : Format). recordsFrom f (p ++ s) (trailerAt (p ++ s) - distanceOf (p ++ s)) (countOf (p ++ s))) prefix-format
+        ∙ ap₂ (recordsFrom (formatOf s) (p ++ s)) e prefix-count
+        ∙ records-after (formatOf s) p s (firstAt s) (countOf s)
 
     pub prefix-rules : rulesOf (p ++ s) ≡ rulesOf s
     unfolding rulesOf
-    prefix-rules = ap rulesIn prefix-records
+    prefix-rules = ap₂ rulesIn prefix-format prefix-records
 
     pub prefix-checked : (most : ℕ) → checkedUpTo most (p ++ s) ≡ checkedUpTo most s
     prefix-checked most =
@@ -69,7 +80,7 @@ module _ (p s : List ℕ) (long : trailerLength ≤ length s) where
         let b : leb trailerLength (length s) ≡ true = le-leb _ _ long in
         let c : leb (distanceOf s) (trailerAt (p ++ s)) ≡ true = le-leb (distanceOf s) (trailerAt (p ++ s)) (omega (arith, prefix-trailerAt)) in
         let d : leb (distanceOf s) (trailerAt s) ≡ true = le-leb _ _ within in
-        rw (checked-answer most (p ++ s), checked-answer most s, prefix-count, prefix-start, prefix-distance, prefix-marked, prefix-records, a, b, c, d)
+        rw (checked-answer most (p ++ s), checked-answer most s, prefix-count, prefix-start, prefix-distance, prefix-marked, prefix-format, prefix-records, a, b, c, d)
 
 -- check's answer is the same unless the plan by itself is refused for its mark or its distance: more bytes in front can make
 -- a trailer or a distance fit that didn't
@@ -82,10 +93,10 @@ module _ (p s : List ℕ) (most : ℕ) (magical : checkedUpTo most s ≡ Checked
   unfolding answer
   trailer-passed = is-true (leb trailerLength (length s) && marked s) (λ e. magical (checked-answer most s ∙ rw e))
 
-  distance-passed : inLimits most (countOf s) ≡ true → (eqb (distanceOf s) (recordLength * countOf s) && leb (distanceOf s) (trailerAt s)) ≡ true
+  distance-passed : inLimits most (countOf s) ≡ true → (eqb (distanceOf s) (recordLength (formatOf s) * countOf s) && leb (distanceOf s) (trailerAt s)) ≡ true
   unfolding answer
   distance-passed c =
-      is-true (eqb (distanceOf s) (recordLength * countOf s) && leb (distanceOf s) (trailerAt s))
+      is-true (eqb (distanceOf s) (recordLength (formatOf s) * countOf s) && leb (distanceOf s) (trailerAt s))
       (λ e. near (checked-answer most s ∙ rw (trailer-passed, c, e)))
 
   pub prefix-answer : checkedUpTo most (p ++ s) ≡ checkedUpTo most s
@@ -94,7 +105,7 @@ module _ (p s : List ℕ) (most : ℕ) (magical : checkedUpTo most s ≡ Checked
       let t = and-eq-true-iff (leb trailerLength (length s)) (marked s) .0 trailer-passed in
       let long : trailerLength ≤ length s = leb-true trailerLength (length s) (t .0) in
       cases (inLimits most (countOf s))
-      (λ c. prefix-checked p s long (leb-true (distanceOf s) (trailerAt s) (and-eq-true-iff (eqb (distanceOf s) (recordLength * countOf s)) (leb (distanceOf s) (trailerAt s)) .0 (distance-passed c) .1)) most)
+      (λ c. prefix-checked p s long (leb-true (distanceOf s) (trailerAt s) (and-eq-true-iff (eqb (distanceOf s) (recordLength (formatOf s) * countOf s)) (leb (distanceOf s) (trailerAt s)) .0 (distance-passed c) .1)) most)
       (λ c.
       let a : leb trailerLength (length (p ++ s)) ≡ true = le-leb trailerLength (length (p ++ s)) (omega (arith, length-append p s)) in
       rw (checked-answer most (p ++ s), checked-answer most s, prefix-count p s long, prefix-marked p s long, a, t .0, t .1, c))
@@ -106,3 +117,6 @@ module _ (p s : List ℕ) (most n start : ℕ) (h : checkedUpTo most s ≡ Check
 
   pub prefix-accepted-rules : rulesOf (p ++ s) ≡ rulesOf s
   prefix-accepted-rules = let q = accepted-plan most s n start h in prefix-rules p s (q .trailer) (q .within)
+
+  pub prefix-accepted-format : formatOf (p ++ s) ≡ formatOf s
+  prefix-accepted-format = let q = accepted-plan most s n start h in prefix-format p s (q .trailer)

@@ -9,10 +9,12 @@ use lib.Dec.{leb, eqb}
 use lib.ListN.{length}
 use borrow.Author.Tests.{leb-true, eqb-true}
 use Rattle.refusal.specs.declared.Refusal.{Refusal}
+use Rattle.record.specs.declared.Format.{Format}
 use Rattle.record.specs.declared.Record.{Record}
 use Rattle.rule.specs.declared.Rule.{Rule}
 use Rattle.rule.specs.declared.Decoded.{Decoded}
-use Rattle.record.specs.Record.{recordLength, recordAt}
+use Rattle.record.specs.Format.{recordLength}
+use Rattle.record.specs.Record.{recordAt}
 use Rattle.rule.specs.Rule.{decode}
 use Rattle.record.specs.Records.{recordsFrom, recordIn}
 use Rattle.rule.specs.Sound.{rule, Sound, Closed}
@@ -23,7 +25,7 @@ use Rattle.judge.specs.declared.Judged.{Judged}
 use Rattle.judge.specs.Judge.{judged}
 use Rattle.judge.proofs.Fit.{fine-fit}
 use Rattle.plan.specs.declared.Checked.{Checked}
-use Rattle.plan.specs.Check.{trailerLength, mostRules, trailerAt, countOf, startOf, distanceOf, firstAt, recordsOf, rulesOf, accepted, inLimits, marked, checkedUpTo, checked}
+use Rattle.plan.specs.Check.{trailerLength, mostRules, trailerAt, countOf, startOf, distanceOf, firstAt, recordsOf, rulesOf, accepted, inLimits, marked, formatOf, checkedUpTo, checked}
 
 -- ---- tests that passed
 accepted-passed : (b : Bool) (x : Checked) (e : Refusal) (n start : ℕ)
@@ -41,16 +43,16 @@ accepted-fine m from (Judged.Refused e) n start h = let z : _≡_ {A = ℕ} 0 1 
 
 -- check's answer as a function of what it looks at: whether the trailer fits, the mark, the trailer's numbers, whether the
 -- distance stays within, and the records
-unfoldable pub answer : ℕ → Bool → Bool → ℕ → ℕ → ℕ → Bool → List Record → Checked
-answer most long mark n start distance within ws =
+unfoldable pub answer : ℕ → Format → Bool → Bool → ℕ → ℕ → ℕ → Bool → List Record → Checked
+answer most f long mark n start distance within ws =
     cond (long && mark)
     (cond (inLimits most n)
-    (cond (eqb distance (recordLength * n) && within) (accepted n start (judged ws start)) (Checked.Refused Refusal.Distance))
+    (cond (eqb distance (recordLength f * n) && within) (accepted n start (judged f ws start)) (Checked.Refused Refusal.Distance))
     (Checked.Refused Refusal.Count))
     (Checked.Refused Refusal.Magic)
 
 pub checked-answer : (most : ℕ) (s : List ℕ)
-    → checkedUpTo most s ≡ answer most (leb trailerLength (length s)) (marked s) (countOf s) (startOf s) (distanceOf s) (leb (distanceOf s) (trailerAt s)) (recordsOf s)
+    → checkedUpTo most s ≡ answer most (formatOf s) (leb trailerLength (length s)) (marked s) (countOf s) (startOf s) (distanceOf s) (leb (distanceOf s) (trailerAt s)) (recordsOf s)
 unfolding checkedUpTo answer
 checked-answer most s = refl
 
@@ -62,9 +64,9 @@ pub record Plan (most : ℕ) (s : List ℕ) (n start : ℕ) : Type 0 where
   pub begins : start ≡ startOf s
   pub least : 1 ≤ n
   pub greatest : n ≤ most
-  pub distance : distanceOf s ≡ recordLength * n
+  pub distance : distanceOf s ≡ recordLength (formatOf s) * n
   pub within : distanceOf s ≤ trailerAt s
-  pub fine : judged (recordsOf s) start ≡ Judged.Fine
+  pub fine : judged (formatOf s) (recordsOf s) start ≡ Judged.Fine
   pub records : length (recordsOf s) ≡ n
   pub rules : length (rulesOf s) ≡ n
   pub ranged : Ranged (rulesOf s)
@@ -77,14 +79,14 @@ unfolding checkedUpTo inLimits recordsOf rulesOf
 accepted-plan most s n start h =
     let a = accepted-passed (leb trailerLength (length s) && marked s) _ Refusal.Magic n start h in
     let b = accepted-passed (inLimits most (countOf s)) _ Refusal.Count n start (a .1) in
-    let c = accepted-passed (eqb (distanceOf s) (recordLength * countOf s) && leb (distanceOf s) (trailerAt s)) _ Refusal.Distance n start (b .1) in
-    let d = accepted-fine (countOf s) (startOf s) (judged (recordsOf s) (startOf s)) n start (c .1) in
+    let c = accepted-passed (eqb (distanceOf s) (recordLength (formatOf s) * countOf s) && leb (distanceOf s) (trailerAt s)) _ Refusal.Distance n start (b .1) in
+    let d = accepted-fine (countOf s) (startOf s) (judged (formatOf s) (recordsOf s) (startOf s)) n start (c .1) in
     let a′ = and-eq-true-iff (leb trailerLength (length s)) (marked s) .0 (a .0) in
     let b′ = and-eq-true-iff (leb 1 (countOf s)) (leb (countOf s) most) .0 (b .0) in
-    let c′ = and-eq-true-iff (eqb (distanceOf s) (recordLength * countOf s)) (leb (distanceOf s) (trailerAt s)) .0 (c .0) in
-    let f : judged (recordsOf s) start ≡ Judged.Fine = ap (judged (recordsOf s)) (sym (d .1)) ∙ d .2 in
-    let l : length (recordsOf s) ≡ n = records-length s _ (countOf s) ∙ d .0 in
-    let fit = fine-fit (recordsOf s) start f in
+    let c′ = and-eq-true-iff (eqb (distanceOf s) (recordLength (formatOf s) * countOf s)) (leb (distanceOf s) (trailerAt s)) .0 (c .0) in
+    let fine : judged (formatOf s) (recordsOf s) start ≡ Judged.Fine = ap (judged (formatOf s) (recordsOf s)) (sym (d .1)) ∙ d .2 in
+    let l : length (recordsOf s) ≡ n = records-length (formatOf s) s _ (countOf s) ∙ d .0 in
+    let fit = fine-fit (formatOf s) (recordsOf s) start fine in
     record {
       trailer = leb-true _ _ (a′ .0);
       magical = a′ .1;
@@ -92,11 +94,11 @@ accepted-plan most s n start h =
       begins = sym (d .1);
       least = rw (sym (d .0)) (leb-true _ _ (b′ .0));
       greatest = rw (sym (d .0)) (leb-true _ _ (b′ .1));
-      distance = eqb-true _ _ (c′ .0) ∙ ap (λ (k : ℕ). recordLength * k) (d .0);
+      distance = eqb-true _ _ (c′ .0) ∙ ap (λ (k : ℕ). recordLength (formatOf s) * k) (d .0);
       within = leb-true _ _ (c′ .1);
-      fine = f;
+      fine = fine;
       records = l;
-      rules = length-rulesIn (recordsOf s) ∙ l;
+      rules = length-rulesIn (formatOf s) (recordsOf s) ∙ l;
       ranged = fit .ranged;
       acyclic = fit .acyclic;
       sound = fit .sound;
@@ -109,24 +111,24 @@ checked-plan s n start h = accepted-plan mostRules s n start h
 
 -- ---- where an accepted plan's rules lie
 module _ (most : ℕ) (s : List ℕ) (n start : ℕ) (q : Plan most s n start) where
-  pub plan-long : recordLength * n + trailerLength ≤ length s
+  pub plan-long : recordLength (formatOf s) * n + trailerLength ≤ length s
   unfolding trailerAt
   plan-long = omega (arith, q .trailer, q .distance, q .within)
 
-  pub plan-first : firstAt s ≡ length s - trailerLength - recordLength * n
+  pub plan-first : firstAt s ≡ length s - trailerLength - recordLength (formatOf s) * n
   unfolding firstAt trailerAt
   plan-first = ap (λ (d : ℕ). length s - trailerLength - d) (q .distance)
 
-  pub plan-records : recordsOf s ≡ recordsFrom s (firstAt s) n
+  pub plan-records : recordsOf s ≡ recordsFrom (formatOf s) s (firstAt s) n
   unfolding recordsOf
-  plan-records = ap (recordsFrom s (firstAt s)) (sym (q .count))
+  plan-records = ap (recordsFrom (formatOf s) s (firstAt s)) (sym (q .count))
 
   -- the record with a number means the rule with that number
-  pub plan-decodes : (i : ℕ) → i < n → decode (recordAt s (firstAt s + recordLength * i)) ≡ Decoded.Whole (rule (rulesOf s) i)
+  pub plan-decodes : (i : ℕ) → i < n → decode (formatOf s) (recordAt (formatOf s) s (firstAt s + recordLength (formatOf s) * i)) ≡ Decoded.Whole (rule (rulesOf s) i)
   unfolding rulesOf
   plan-decodes i l =
-      let named = (fine-fit (recordsOf s) start (q .fine)) .each i (omega (arith, q .records)) in
-      let at : recordIn (recordsOf s) i ≡ recordAt s (firstAt s + recordLength * i) =
-      ap (λ (ws : List Record). recordIn ws i) plan-records ∙ records-at s (firstAt s) n i l
+      let named = (fine-fit (formatOf s) (recordsOf s) start (q .fine)) .each i (omega (arith, q .records)) in
+      let at : recordIn (recordsOf s) i ≡ recordAt (formatOf s) s (firstAt s + recordLength (formatOf s) * i) =
+      ap (λ (ws : List Record). recordIn ws i) plan-records ∙ records-at (formatOf s) s (firstAt s) n i l
       in
-      ap decode (sym at) ∙ named .decodes ∙ ap {B = Decoded} (λ (r : Rule). Decoded.Whole r) (sym (rule-decoded (recordsOf s) i (named .means) (named .decodes)))
+      ap (decode (formatOf s)) (sym at) ∙ named .decodes ∙ ap {B = Decoded} (λ (r : Rule). Decoded.Whole r) (sym (rule-decoded (formatOf s) (recordsOf s) i (named .means) (named .decodes)))

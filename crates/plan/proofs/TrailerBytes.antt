@@ -1,89 +1,122 @@
 -- The trailer that is written is the one that check reads: each of its numbers is read back from the bytes written, and a
 -- trailer's bytes are those of the numbers that it holds. Assumes nothing.
-use Prim.Native.Nat.{ℕ, _+_, _-_, _*_, _^_, _≤_, _<_}
-use mathlib.Core.Bool.{true, and-eq-true-iff}
+use Prim.Native.Nat.{ℕ, suc, _+_, _-_, _*_, _^_, _≤_, _<_}
+use mathlib.Core.Bool.{true, cond, _||_, and-eq-true-iff}
 use mathlib.Core.List.{List, [], _∷_, _++_, append-assoc}
 use mathlib.Core.Path.{_≡_, refl, sym, ap, ap₂, _∙_}
 use native.Mathlib.Nat.{add-zero}
 use native.Mathlib.Numerals.{add-two, add-four, add-eight}
 use native.Mathlib.Omega.{arith}
 use lib.Dec.{leb, eqb}
-use lib.ListN.{length, take, drop, length-append, length-drop}
+use lib.ListN.{length, getD, set, take, drop, length-append, length-drop}
 use lib.Seq.{sets, sets-eq, drop-append-add, take-append-seam, take-all}
 use borrow.Author.Tests.{le-leb, eq-eqb, eqb-true}
 use Rattle.words.specs.Number.{number, bytes, base, put}
 use Rattle.words.proofs.Laws.{number-after, number-bytes}
-use Rattle.record.specs.Record.{recordLength}
+use Rattle.record.specs.declared.Format.{Format}
+use Rattle.record.specs.Format.{recordLength}
+use Rattle.record.proofs.Formats.{records-most}
 use Rattle.record.specs.Records.{recordsFrom}
 use Rattle.judge.specs.Judge.{judged}
-use Rattle.plan.specs.Check.{trailerLength, atStart, atDistance, atMark, magic, trailerBytes, trailerAt, countOf, startOf, distanceOf, same, marked, firstAt, recordsOf, accepted, inLimits, checkedUpTo}
+use Rattle.plan.specs.Check.{trailerLength, atStart, atDistance, atMark, magic, trailerBytes, trailerAt, countOf, startOf, distanceOf, same, markedAs, marked, formatOf, firstAt, recordsOf, accepted, inLimits, checkedUpTo}
 use Rattle.plan.proofs.Sound.{answer, checked-answer}
 use Rattle.record.proofs.RecordBytes.{Bytes, records-take, read-part}
 
-pub length-trailerBytes : (n start : ℕ) → length (trailerBytes n start) ≡ trailerLength
-unfolding trailerBytes
-length-trailerBytes n start = refl
+-- the mark has two bytes, and is no other format's
+pub length-magic : (f : Format) → length (magic f) ≡ 2
+unfolding magic
+length-magic Format.Narrow = refl
+length-magic Format.Wide = refl
+
+pub sets-magic : (f : Format) (s : List ℕ) (at : ℕ) → set (set s at (getD (magic f) 0 0)) (suc at) (getD (magic f) 1 0) ≡ sets s at (magic f)
+unfolding magic
+sets-magic Format.Narrow s at = refl
+sets-magic Format.Wide s at = refl
+
+pub length-trailerBytes : (f : Format) (n start : ℕ) → length (trailerBytes f n start) ≡ trailerLength
+unfolding trailerBytes bytes
+length-trailerBytes f n start = let e = length-magic f in omega arith
 
 -- the trailer's numbers and its mark, stored one after the other
-pub put-trailer : (s : List ℕ) (at n start : ℕ) → at + trailerLength ≤ length s
-    → sets (put 4 (put 2 (put 2 s at n) (at + atStart) start) (at + atDistance) (recordLength * n)) (at + atMark) magic
-    ≡ take at s ++ (trailerBytes n start ++ drop (at + trailerLength) s)
-unfolding put trailerBytes
-put-trailer s at n start h =
+pub put-trailer : (f : Format) (s : List ℕ) (at n start : ℕ) → at + trailerLength ≤ length s
+    → sets (put 4 (put 2 (put 2 s at n) (at + atStart) start) (at + atDistance) (recordLength f * n)) (at + atMark) (magic f)
+    ≡ take at s ++ (trailerBytes f n start ++ drop (at + trailerLength) s)
+unfolding put trailerBytes magic
+put-trailer Format.Narrow s at n start h =
     rw (add-two at, add-four at, add-eight at)
-    (sets-eq (trailerBytes n start) s at h ∙ append-assoc (take at s) (trailerBytes n start) (drop (at + trailerLength) s))
+    (sets-eq (trailerBytes Format.Narrow n start) s at h ∙ append-assoc (take at s) (trailerBytes Format.Narrow n start) (drop (at + trailerLength) s))
+put-trailer Format.Wide s at n start h =
+    rw (add-two at, add-four at, add-eight at)
+    (sets-eq (trailerBytes Format.Wide n start) s at h ∙ append-assoc (take at s) (trailerBytes Format.Wide n start) (drop (at + trailerLength) s))
 
--- ---- what check reads after the bytes f of n rules, from the trailer that seal writes
-module _ (f : List ℕ) (n start : ℕ) where
-  trailer-at : trailerAt (f ++ trailerBytes n start) ≡ length f
+-- ---- what check reads after the bytes rs of n rules, from the trailer that seal writes
+module _ (f : Format) (rs : List ℕ) (n start : ℕ) where
+  trailer-at : trailerAt (rs ++ trailerBytes f n start) ≡ length rs
   unfolding trailerAt
-  trailer-at = omega (arith, length-append f (trailerBytes n start), length-trailerBytes n start)
+  trailer-at = omega (arith, length-append rs (trailerBytes f n start), length-trailerBytes f n start)
 
-  field : (w k : ℕ) → number w (f ++ trailerBytes n start) (trailerAt (f ++ trailerBytes n start) + k) ≡ number w (trailerBytes n start) k
-  field w k = ap (λ (x : ℕ). number w (f ++ trailerBytes n start) (x + k)) trailer-at ∙ number-after w f (trailerBytes n start) k
+  field : (w k : ℕ) → number w (rs ++ trailerBytes f n start) (trailerAt (rs ++ trailerBytes f n start) + k) ≡ number w (trailerBytes f n start) k
+  field w k = ap (λ (x : ℕ). number w (rs ++ trailerBytes f n start) (x + k)) trailer-at ∙ number-after w rs (trailerBytes f n start) k
 
-  written-count : n < base ^ 2 → countOf (f ++ trailerBytes n start) ≡ n
+  written-count : n < base ^ 2 → countOf (rs ++ trailerBytes f n start) ≡ n
   unfolding countOf trailerBytes
   written-count h =
-      ap (number 2 (f ++ trailerBytes n start)) (sym (add-zero (trailerAt (f ++ trailerBytes n start))))
+      ap (number 2 (rs ++ trailerBytes f n start)) (sym (add-zero (trailerAt (rs ++ trailerBytes f n start))))
       ∙ field 2 0
-      ∙ number-bytes 2 n [] (bytes 2 start ++ (bytes 4 (recordLength * n) ++ magic)) 0 refl h
+      ∙ number-bytes 2 n [] (bytes 2 start ++ (bytes 4 (recordLength f * n) ++ magic f)) 0 refl h
 
-  written-start : start < base ^ 2 → startOf (f ++ trailerBytes n start) ≡ start
+  written-start : start < base ^ 2 → startOf (rs ++ trailerBytes f n start) ≡ start
   unfolding startOf trailerBytes
-  written-start h = field 2 atStart ∙ number-bytes 2 start (bytes 2 n) (bytes 4 (recordLength * n) ++ magic) 2 refl h
+  written-start h = field 2 atStart ∙ number-bytes 2 start (bytes 2 n) (bytes 4 (recordLength f * n) ++ magic f) 2 refl h
 
-  written-distance : n < base ^ 2 → distanceOf (f ++ trailerBytes n start) ≡ recordLength * n
+  written-distance : n < base ^ 2 → distanceOf (rs ++ trailerBytes f n start) ≡ recordLength f * n
   unfolding distanceOf trailerBytes
-  written-distance h = field 4 atDistance ∙ number-bytes 4 (recordLength * n) (bytes 2 n ++ bytes 2 start) magic 4 refl (omega arith)
+  written-distance h = let most = records-most f n in field 4 atDistance ∙ number-bytes 4 (recordLength f * n) (bytes 2 n ++ bytes 2 start) (magic f) 4 refl (omega arith)
 
-  written-mark : marked (f ++ trailerBytes n start) ≡ true
-  unfolding marked trailerBytes
-  written-mark =
-      ap (λ (x : ℕ). same (drop (x + atMark) (f ++ trailerBytes n start)) magic) trailer-at
-      ∙ ap (λ (l : List ℕ). same l magic) (drop-append-add f (trailerBytes n start) atMark)
+  written-as : (g : Format) → markedAs g (rs ++ trailerBytes f n start) ≡ same (magic f) (magic g)
+  unfolding markedAs trailerBytes
+  written-as g =
+      ap (λ (x : ℕ). same (drop (x + atMark) (rs ++ trailerBytes f n start)) (magic g)) trailer-at
+      ∙ ap (λ (l : List ℕ). same l (magic g)) (drop-append-add rs (trailerBytes f n start) atMark)
 
-  module _ (full : length f ≡ recordLength * n) (small : n < base ^ 2) where
-    pub written-records : recordsOf (f ++ trailerBytes n start) ≡ recordsFrom f 0 n
+  pub written-format : formatOf (rs ++ trailerBytes f n start) ≡ f
+  unfolding formatOf
+  written-format = rw (written-as Format.Wide) (its-own f)
+    where
+      its-own : (g : Format) → cond (same (magic g) (magic Format.Wide)) Format.Wide Format.Narrow ≡ g
+      its-own Format.Narrow = refl
+      its-own Format.Wide = refl
+
+  written-mark : marked (rs ++ trailerBytes f n start) ≡ true
+  unfolding marked
+  written-mark = rw (written-as Format.Narrow, written-as Format.Wide) (one-of f)
+    where
+      one-of : (g : Format) → (same (magic g) (magic Format.Narrow) || same (magic g) (magic Format.Wide)) ≡ true
+      one-of Format.Narrow = refl
+      one-of Format.Wide = refl
+
+  module _ (full : length rs ≡ recordLength f * n) (small : n < base ^ 2) where
+    pub written-records : recordsOf (rs ++ trailerBytes f n start) ≡ recordsFrom f rs 0 n
     unfolding recordsOf firstAt
     written-records =
-        let s = f ++ trailerBytes n start in
+        let s = rs ++ trailerBytes f n start in
         let e : trailerAt s - distanceOf s ≡ 0 = omega (arith, trailer-at, written-distance small) in
-        ap₂ (recordsFrom s) e (written-count small)
-        ∙ sym (records-take s (length f) 0 n (omega arith))
-        ∙ ap (λ (l : List ℕ). recordsFrom l 0 n) (take-append-seam f (trailerBytes n start))
+        ap (λ (g : Format). recordsFrom g s (trailerAt s - distanceOf s) (countOf s)) written-format
+        ∙ ap₂ (recordsFrom f s) e (written-count small)
+        ∙ sym (records-take f s (length rs) 0 n (omega arith))
+        ∙ ap (λ (l : List ℕ). recordsFrom f l 0 n) (take-append-seam rs (trailerBytes f n start))
 
     pub written-checked : (most : ℕ) → start < base ^ 2 → inLimits most n ≡ true
-        → checkedUpTo most (f ++ trailerBytes n start) ≡ accepted n start (judged (recordsFrom f 0 n) start)
+        → checkedUpTo most (rs ++ trailerBytes f n start) ≡ accepted n start (judged f (recordsFrom f rs 0 n) start)
     unfolding answer
     written-checked most below limits =
-        let s = f ++ trailerBytes n start in
+        let s = rs ++ trailerBytes f n start in
         let long : leb trailerLength (length s) ≡ true =
-        le-leb trailerLength (length s) (omega (arith, length-append f (trailerBytes n start), length-trailerBytes n start))
+        le-leb trailerLength (length s) (omega (arith, length-append rs (trailerBytes f n start), length-trailerBytes f n start))
         in
-        let within : leb (recordLength * n) (trailerAt s) ≡ true = le-leb (recordLength * n) (trailerAt s) (omega (arith, trailer-at)) in
-        let same-distance : eqb (recordLength * n) (recordLength * n) ≡ true = eq-eqb (recordLength * n) (recordLength * n) refl in
-        rw (checked-answer most s, written-count small, written-start below, written-distance small, written-mark, written-records, long, within, limits, same-distance)
+        let within : leb (recordLength f * n) (trailerAt s) ≡ true = le-leb (recordLength f * n) (trailerAt s) (omega (arith, trailer-at)) in
+        let same-distance : eqb (recordLength f * n) (recordLength f * n) ≡ true = eq-eqb (recordLength f * n) (recordLength f * n) refl in
+        rw (checked-answer most s, written-format, written-count small, written-start below, written-distance small, written-mark, written-records, long, within, limits, same-distance)
 
 -- ---- the other way round
 pub same-lists : (a b : List ℕ) → same a b ≡ true → a ≡ b

@@ -1,18 +1,18 @@
-// The plan's format (document 01, "A plan's bytes" and "Check"): the trailer and check.
+// The plan's format (document 01, "A plan's bytes" and "Check", and document 02, Note 2): the trailer and check.
 use judge::Judged;
 use judge::judge;
-use record::Record;
+use record::Format;
 use refusal::Refusal;
 ghost use mathlib.Core.Path.{_≡_};
 ghost use mathlib.Core.List.{_++_};
-ghost use Prim.Native.Nat.{_+_, _*_, _≤_};
+ghost use Prim.Native.Nat.{_+_, _-_, _*_, _≤_};
 ghost use lib.ListN.{length, take, drop};
 ghost use lib.Seq.{sets};
 ghost use mathlib.Core.Bool.{_&&_};
 ghost use lib.Dec.{leb, eqb};
-ghost use Rattle.record.specs.Record.{recordLength};
+ghost use Rattle.record.specs.Format.{recordLength};
 ghost use Rattle.plan.specs.Check.{trailerLength, magic, trailerBytes, mostRules, countOf, startOf, distanceOf};
-ghost use Rattle.plan.specs.Check.{marked, inLimits, accepted, checked};
+ghost use Rattle.plan.specs.Check.{markedAs, formatOf, inLimits, accepted, checked};
 
 // What check answers: document 01's n and start, or the refusal.
 pub enum Checked {
@@ -43,8 +43,10 @@ impl Trailer {
 
     const MARK: usize = 8;
 
-    // The mark bytes, and the largest number of rules.
-    const MAGIC: [u8; 2] = *b"mp";
+    // The mark bytes of each format, and the largest number of rules.
+    const NARROW_MAGIC: [u8; 2] = *b"mp";
+
+    const WIDE_MAGIC: [u8; 2] = *b"mq";
 
     pub const MOST_RULES: u16 = 1024;
 
@@ -63,38 +65,69 @@ impl Trailer {
         }
     }
 
+    // The mark of a format.
+    fn magic(format: Format) -> [u8; 2]
+        ensures { λ r. ⌜ r ≡ magic format ⌝ }
+    {
+        match format {
+            Format::Narrow => Trailer::NARROW_MAGIC,
+            Format::Wide => Trailer::WIDE_MAGIC,
+        }
+    }
+
     // The trailer of n rules, right after them.
-    pub fn write(out: &mut [u8], n: u16, start: u16)
-        requires { ⌜ recordLength * n + trailerLength ≤ length (now out) ⌝ }
+    pub fn write(out: &mut [u8], format: Format, n: u16, start: u16)
+        requires { ⌜ recordLength format * n + trailerLength ≤ length (now out) ⌝ }
         ensures { λ _.
             let s = now (out .entry) in
-            ⌜ now (out .exit) ≡ take (recordLength * n) s ++ (trailerBytes n start ++ drop (recordLength * n + trailerLength) s) ⌝ }
+            let l = recordLength format * n in
+            ⌜ now (out .exit) ≡ take l s ++ (trailerBytes format n start ++ drop (l + trailerLength) s) ⌝ }
     {
-        let distance = Record::LENGTH * (n as usize);
+        let distance = format.length() * (n as usize);
         words::write16(out, distance, n);
         words::write16(out, distance + Trailer::START, start);
         words::write32(out, distance + Trailer::DISTANCE, distance as u32);
-        Trailer::sign(out, distance + Trailer::MARK);
+        Trailer::sign(out, distance + Trailer::MARK, format);
     }
 
     // The mark, its first byte at `at`.
-    fn sign(out: &mut [u8], at: usize)
-        requires { ⌜ at + length magic ≤ length (now out) ⌝ }
-        ensures { λ _. ⌜ now (out .exit) ≡ sets (now (out .entry)) at magic ⌝ }
+    fn sign(out: &mut [u8], at: usize, format: Format)
+        requires { ⌜ at + 2 ≤ length (now out) ⌝ }
+        ensures { λ _. ⌜ now (out .exit) ≡ sets (now (out .entry)) at (magic format) ⌝ }
     {
-        let magic = Trailer::MAGIC;
+        let magic = Trailer::magic(format);
         out[at] = magic[0];
         out[at + 1] = magic[1];
     }
 
-    // Does the plan end in the mark?
-    fn marked(s: &[u8]) -> bool
+    // Does the plan end in the mark of this format?
+    fn marked(s: &[u8], format: Format) -> bool
         requires { ⌜ trailerLength ≤ length (now s) ⌝ }
-        ensures { λ r. ⌜ r ≡ marked (now (s .entry)) ⌝ }
+        ensures { λ r. ⌜ r ≡ markedAs format (now (s .entry)) ⌝ }
     {
         let at = s.len() - Trailer::LENGTH + Trailer::MARK;
-        let magic = Trailer::MAGIC;
+        let magic = Trailer::magic(format);
         (s[at] == magic[0]) & (s[at + 1] == magic[1])
+    }
+
+    // The format of a plan, by its mark.
+    pub fn format(s: &[u8]) -> Format
+        requires { ⌜ trailerLength ≤ length (now s) ⌝ }
+        ensures { λ r. ⌜ r ≡ formatOf (now (s .entry)) ⌝ }
+    {
+        if Trailer::marked(s, Format::Wide) {
+            Format::Wide
+        } else {
+            Format::Narrow
+        }
+    }
+
+    // Where the first of n rules begins, which stand right before the trailer.
+    pub fn first(s: &[u8], format: Format, n: u16) -> usize
+        requires { ⌜ recordLength format * n + trailerLength ≤ length (now s) ⌝ }
+        ensures { λ r. ⌜ r ≡ length (now (s .entry)) - trailerLength - recordLength format * n ⌝ }
+    {
+        s.len() - Trailer::LENGTH - format.length() * (n as usize)
     }
 
     // Is the number of rules in range?
@@ -105,10 +138,10 @@ impl Trailer {
     }
 
     // Is the distance that of n rules, and no longer than what stands before the trailer?
-    fn reaches(n: u16, distance: usize, end: usize) -> bool
-        ensures { λ r. ⌜ r ≡ (eqb distance (recordLength * n) && leb distance end) ⌝ }
+    fn reaches(format: Format, n: u16, distance: usize, end: usize) -> bool
+        ensures { λ r. ⌜ r ≡ (eqb distance (recordLength format * n) && leb distance end) ⌝ }
     {
-        (distance == Record::LENGTH * (n as usize)) & (distance <= end)
+        (distance == format.length() * (n as usize)) & (distance <= end)
     }
 }
 
@@ -131,7 +164,8 @@ pub fn check(plan: &[u8]) -> Checked
     if plan.len() < Trailer::LENGTH {
         return Checked::Refused(Refusal::Magic);
     }
-    if !Trailer::marked(plan) {
+    let format = Trailer::format(plan);
+    if !Trailer::marked(plan, format) {
         return Checked::Refused(Refusal::Magic);
     }
     let trailer = Trailer::read(plan);
@@ -142,8 +176,8 @@ pub fn check(plan: &[u8]) -> Checked
     }
     let end = plan.len() - Trailer::LENGTH;
     let distance = trailer.distance as usize;
-    if !Trailer::reaches(n, distance, end) {
+    if !Trailer::reaches(format, n, distance, end) {
         return Checked::Refused(Refusal::Distance);
     }
-    Checked::accepted(n, start, judge(plan, end - distance, n, start))
+    Checked::accepted(n, start, judge(plan, format, end - distance, n, start))
 }

@@ -3,6 +3,7 @@ use Prim.Native.Nat.{ℕ, _+_, _*_, _<_}
 use mathlib.Core.Path.{_≡_, refl, sym, ap, _∙_}
 use mathlib.Core.List.{List}
 use Rattle.record.specs.declared.Record.{Record}
+use Rattle.record.specs.declared.Format.{Format}
 use Rattle.record.specs.Record.{recordLength, recordAt}
 use Rattle.rule.specs.declared.Decoded.{Decoded}
 use Rattle.rule.specs.Rule.{decode, ruleOf}
@@ -74,14 +75,14 @@ module _ (mark : ℕ → ℕ) (d : Named) where
   close-two {a} {b} e p q = rw e (λ k i. ⊎-elim (λ h. rw h p) (λ h. rw h q) i)
 
 -- a rule read from its record
-module _ (s : List ℕ) (first i : ℕ) {w : Record} {d : Decoded} (decoded : d ≡ decode w) (read : w ≡ recordAt s (first + recordLength * i)) where
-  rule-is : (n : ℕ) → i < n → rule (rulesAt s first n) i ≡ ruleOf d
-  rule-is n l = rule-recorded s first n i l ∙ sym (ap ruleOf (decoded ∙ ap decode read))
+module _ (format : Format) (s : List ℕ) (first i : ℕ) {w : Record} {d : Decoded} (decoded : d ≡ decode format w) (read : w ≡ recordAt format s (first + recordLength format * i)) where
+  rule-is : (n : ℕ) → i < n → rule (rulesAt format s first n) i ≡ ruleOf d
+  rule-is n l = rule-recorded format s first n i l ∙ sym (ap ruleOf (decoded ∙ ap (decode format) read))
 
-  pub rule-read : {x : Rule} → d ≡ Decoded.Whole x → (n : ℕ) → i < n → x ≡ rule (rulesAt s first n) i
+  pub rule-read : {x : Rule} → d ≡ Decoded.Whole x → (n : ℕ) → i < n → x ≡ rule (rulesAt format s first n) i
   unfolding ruleOf
   rule-read e n l = sym (rule-is n l ∙ ap ruleOf e)
 
-  pub rule-none : d ≡ Decoded.Malformed → (n : ℕ) → i < n → rule (rulesAt s first n) i ≡ Rule.Empty
+  pub rule-none : d ≡ Decoded.Malformed → (n : ℕ) → i < n → rule (rulesAt format s first n) i ≡ Rule.Empty
   unfolding ruleOf
   rule-none e n l = rule-is n l ∙ ap ruleOf e

@@ -5,6 +5,9 @@ use native.Mathlib.Decide.{decLt}
 use mathlib.Core.Path.{_≡_, _∙_}
 use mathlib.Core.List.{List}
 use lib.ListN.{length}
+use Rattle.record.specs.Format.{recordLength}
+use Rattle.record.proofs.Formats.{record-lies}
+use Rattle.record.specs.declared.Format.{Format}
 use Rattle.words.specs.Number.{base, put}
 use Rattle.words.specs.Within.{Within}
 use Rattle.words.proofs.Laws.{length-put, put-same, put-other}
@@ -33,5 +36,9 @@ module _ (n k v at : ℕ) (t : List ℕ) (below : k < n) (past : 2 * n ≤ at) (
       gap i ne h = apart (2 * k + 2 ≤ 2 * i) i k ne (λ l. absurd (omega arith)) (λ l. omega arith)
 
 -- the room stays as long
-pub ready-kept : {s : List ℕ} {first n : ℕ} {t u : List ℕ} → Ready s first n t → Within 0 (4 * n) t u → Ready s first n u
+-- a record lies in the slice
+pub record-inside : {format : Format} {s : List ℕ} {first n i : ℕ} {t : List ℕ} → Ready format s first n t → i < n → first + recordLength format * i + recordLength format ≤ length s
+record-inside {format} a l = let lies = record-lies format l in omega (arith, a .lies)
+
+pub ready-kept : {format : Format} {s : List ℕ} {first n : ℕ} {t u : List ℕ} → Ready format s first n t → Within 0 (4 * n) t u → Ready format s first n u
 ready-kept a w = record { lies = a .lies; few = a .few; ranged = a .ranged; fits = let e = w .same-length in omega (arith, a .fits) }

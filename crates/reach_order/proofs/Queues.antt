@@ -11,6 +11,7 @@ use mathlib.Core.List.{List}
 use lib.ListN.{length}
 use lib.Dec.{ltb}
 use borrow.Table.Steps.{cases}
+use Rattle.record.specs.declared.Format.{Format}
 use Rattle.words.specs.Number.{number}
 use Rattle.words.specs.Front.{cleared}
 use Rattle.words.specs.Within.{Within}
@@ -143,9 +144,9 @@ listed-both {n} {m} {x} {y} {a} {b} {t} {u} {v} e c p q = rw e (record {
 })
 
 -- the rules that rule r names
-module _ {s : List ℕ} {first n r : ℕ} {t : List ℕ} {d : Named} (a : Ready s first n t) (below : r < n) (found : NamesRead s first r d) where
+module _ {format : Format} {s : List ℕ} {first n r : ℕ} {t : List ℕ} {d : Named} (a : Ready format s first n t) (below : r < n) (found : NamesRead format s first r d) where
   abbrev R : List Rule
-  R = rulesAt s first n
+  R = rulesAt format s first n
 
   pub read-names : (k : ℕ) → In d k → Names (rule R r) k
   read-names k i = names-exact (rule R r) k .1 (rw (found n below) at i)
@@ -155,7 +156,7 @@ module _ {s : List ℕ} {first n r : ℕ} {t : List ℕ} {d : Named} (a : Ready 
 
   pub read-lists : {m : ℕ} → count (seen (markIn t)) n ≡ m → Listable d n m t
   read-lists e = record {
-    below = λ k i. omega (arith, named-below R (a .ranged) r k (read-names k i), rules-length s first n);
+    below = λ k i. omega (arith, named-below R (a .ranged) r k (read-names k i), rules-length format s first n);
     fits = a .fits;
     counted = e;
   }
@@ -173,7 +174,7 @@ module _ {s : List ℕ} {first n r : ℕ} {t : List ℕ} {d : Named} (a : Ready 
   }
 
 -- the search goes on with the rule r that was taken
-module _ {s : List ℕ} {first n i m taken : ℕ} {t : List ℕ} (a : Ready s first n t) (f : Following (rulesAt s first n) n i t m taken) where
+module _ {format : Format} {s : List ℕ} {first n i m taken : ℕ} {t : List ℕ} (a : Ready format s first n t) (f : Following (rulesAt format s first n) n i t m taken) where
   pub follow-room : m ≤ n
   follow-room = omega (arith, f .counted, count-most n (seen (markIn t)))
 
@@ -182,19 +183,19 @@ module _ {s : List ℕ} {first n i m taken : ℕ} {t : List ℕ} (a : Ready s fi
     unfolding frontIn
     taken-is = sym read
 
-    taken-reached : Reaches (rulesAt s first n) i r
+    taken-reached : Reaches (rulesAt format s first n) i r
     taken-reached = rw taken-is at (f .reached taken some)
 
     pub taken-below : r < n
-    taken-below = omega (arith, reaches-below (a .ranged) taken-reached, rules-length s first n)
+    taken-below = omega (arith, reaches-below (a .ranged) taken-reached, rules-length format s first n)
 
     -- it is rule i
-    pub follow-finds : r ≡ i → true ≡ reaches (rulesAt s first n) i i
-    follow-finds e = sym (reaches-exact (rulesAt s first n) (a .ranged) i i .1 (rw e at taken-reached))
+    pub follow-finds : r ≡ i → true ≡ reaches (rulesAt format s first n) i i
+    follow-finds e = sym (reaches-exact (rulesAt format s first n) (a .ranged) i i .1 (rw e at taken-reached))
 
     -- it isn't
-    pub follow-more : {d : Named} {x : ℕ} {u : List ℕ} → (r ≡ i → ⊥) → NamesRead s first r d → Listed d n m x t u
-        → Following (rulesAt s first n) n i u x (taken + 1)
+    pub follow-more : {d : Named} {x : ℕ} {u : List ℕ} → (r ≡ i → ⊥) → NamesRead format s first r d → Listed d n m x t u
+        → Following (rulesAt format s first n) n i u x (taken + 1)
     follow-more {d} {x} {u} other found h = record {
       far = omega (arith, h .more);
       counted = h .counted;
@@ -211,37 +212,37 @@ module _ {s : List ℕ} {first n i m taken : ℕ} {t : List ℕ} (a : Ready s fi
       named = λ k g z. f .named k g (stays i k g z);
       passed = λ j l. up-to taken j (omega arith) (λ y. frontIn n u y ≡ i → ⊥) (λ b e. f .passed j b (sym (h .kept j (omega arith)) ∙ e))
           (λ e. other (sym taken-is ∙ sym (h .kept taken some) ∙ e));
-      closed = λ j k l. up-to taken j (omega arith) (λ y. Names (rule (rulesAt s first n) (frontIn n u y)) k → markIn u k ≡ unseen → ⊥)
+      closed = λ j k l. up-to taken j (omega arith) (λ y. Names (rule (rulesAt format s first n) (frontIn n u y)) k → markIn u k ≡ unseen → ⊥)
           (λ b g z. f .closed j k b (rw (h .kept j (omega arith)) at g) (stays (frontIn n u j) k g z))
           (λ g. h .all k (read-all a taken-below found k (rw (h .kept taken some, taken-is) at g)));
     }
       where
-        stays : (c k : ℕ) → Names (rule (rulesAt s first n) c) k → markIn u k ≡ unseen → markIn t k ≡ unseen
-        stays c k g z = h .grown .saw k (omega (arith, named-below (rulesAt s first n) (a .ranged) c k g, rules-length s first n)) z
+        stays : (c k : ℕ) → Names (rule (rulesAt format s first n) c) k → markIn u k ≡ unseen → markIn t k ≡ unseen
+        stays c k g z = h .grown .saw k (omega (arith, named-below (rulesAt format s first n) (a .ranged) c k g, rules-length format s first n)) z
 
   -- no rule is left: all that is reached has been seen
   module _ (past : m ≤ taken) where
-    reached-seen : {b : ℕ} → Reaches (rulesAt s first n) i b → markIn t b ≡ unseen → ⊥
+    reached-seen : {b : ℕ} → Reaches (rulesAt format s first n) i b → markIn t b ≡ unseen → ⊥
     reached-seen c =
         reaches-closed (λ k. markIn t k ≡ unseen → ⊥)
-        (λ k b ne g. let (j, l, e) = f .queued k (omega (arith, names-below (rulesAt s first n) k b g, rules-length s first n)) ne in
+        (λ k b ne g. let (j, l, e) = f .queued k (omega (arith, names-below (rulesAt format s first n) k b g, rules-length format s first n)) ne in
         f .closed j b (omega arith) (rw e g)) (f .named) c
 
-    never : Reaches (rulesAt s first n) i i → ⊥
-    never c = let (j, l, e) = f .queued i (omega (arith, reaches-from c, rules-length s first n)) (reached-seen c) in f .passed j (omega arith) e
+    never : Reaches (rulesAt format s first n) i i → ⊥
+    never c = let (j, l, e) = f .queued i (omega (arith, reaches-from c, rules-length format s first n)) (reached-seen c) in f .passed j (omega arith) e
 
-    pub follow-ends : false ≡ reaches (rulesAt s first n) i i
+    pub follow-ends : false ≡ reaches (rulesAt format s first n) i i
     follow-ends =
-        sym (cases (reaches (rulesAt s first n) i i) (λ q. absurd (never (reaches-exact (rulesAt s first n) (a .ranged) i i .0 q))) (λ q. q))
+        sym (cases (reaches (rulesAt format s first n) i i) (λ q. absurd (never (reaches-exact (rulesAt format s first n) (a .ranged) i i .0 q))) (λ q. q))
 
 -- the search from rule i begins when the marks are cleared
-module _ {s : List ℕ} {first n : ℕ} {t u : List ℕ} (a : Ready s first n t) (e : u ≡ cleared (2 * n) t) where
+module _ {format : Format} {s : List ℕ} {first n : ℕ} {t u : List ℕ} (a : Ready format s first n t) (e : u ≡ cleared (2 * n) t) where
   pub marks-within : Within 0 (4 * n) t u
   marks-within =
       let w : Within 0 (2 * n) t u = rw e (within-cleared (2 * n) t (omega (arith, a .fits))) in
       within-wider 0 (4 * n) (omega arith) (omega arith) w
 
-  pub marks-ready : Ready s first n u
+  pub marks-ready : Ready format s first n u
   marks-ready = ready-kept a marks-within
 
   pub marks-blank : (k : ℕ) → k < n → markIn u k ≡ unseen
@@ -252,33 +253,33 @@ module _ {s : List ℕ} {first n : ℕ} {t u : List ℕ} (a : Ready s first n t)
   marks-none = count-none n (seen (markIn u)) (λ k l. ap (λ (v : ℕ). ltb 0 v) (marks-blank k l))
 
 -- going up from rule 0
-pub record Seeking (s : List ℕ) (first n : ℕ) (t₀ t : List ℕ) (i : ℕ) : Type 0 where
-  pub none : NoneBelow (rulesAt s first n) i
+pub record Seeking (format : Format) (s : List ℕ) (first n : ℕ) (t₀ t : List ℕ) (i : ℕ) : Type 0 where
+  pub none : NoneBelow (rulesAt format s first n) i
   pub below : i < n
-  pub ready : Ready s first n t
+  pub ready : Ready format s first n t
   pub within : Within 0 (4 * n) t₀ t
 
-pub seeking-none : {s : List ℕ} {first n : ℕ} {t : List ℕ} → Ready s first n t → Cyclic (rulesAt s first n) → Seeking s first n t t 0
-seeking-none {s} {first} {n} {t} a (r, c) = record {
+pub seeking-none : {format : Format} {s : List ℕ} {first n : ℕ} {t : List ℕ} → Ready format s first n t → Cyclic (rulesAt format s first n) → Seeking format s first n t t 0
+seeking-none {format} {s} {first} {n} {t} a (r, c) = record {
   none = λ k l. absurd (omega arith);
-  below = omega (arith, reaches-from c, rules-length s first n);
+  below = omega (arith, reaches-from c, rules-length format s first n);
   ready = a;
   within = within-none 0 (4 * n) t;
 }
 
-module _ {s : List ℕ} {first n : ℕ} {t₀ t u : List ℕ} {i : ℕ} {x : Bool} (v : Seeking s first n t₀ t i)
-    (h : (x ≡ reaches (rulesAt s first n) i i) × Within 0 (4 * n) t u) where
+module _ {format : Format} {s : List ℕ} {first n : ℕ} {t₀ t u : List ℕ} {i : ℕ} {x : Bool} (v : Seeking format s first n t₀ t i)
+    (h : (x ≡ reaches (rulesAt format s first n) i i) × Within 0 (4 * n) t u) where
   -- rule i doesn't reach itself, so there is a higher one that does
-  module _ (some : Cyclic (rulesAt s first n)) (e : x ≡ false) where
-    none-yet : NoneBelow (rulesAt s first n) (suc i)
-    none-yet = none-more (rulesAt s first n) (v .ready .ranged) i (v .none) (sym (h .0) ∙ e)
+  module _ (some : Cyclic (rulesAt format s first n)) (e : x ≡ false) where
+    none-yet : NoneBelow (rulesAt format s first n) (suc i)
+    none-yet = none-more (rulesAt format s first n) (v .ready .ranged) i (v .none) (sym (h .0) ∙ e)
 
     pub seeking-below : i + 1 < n
     seeking-below =
         let (r, c) = some in
-        elim (decLt r (suc i)) [ yes l ↦ absurd (none-yet r l c) | no l ↦ omega (arith, reaches-from c, rules-length s first n) ]
+        elim (decLt r (suc i)) [ yes l ↦ absurd (none-yet r l c) | no l ↦ omega (arith, reaches-from c, rules-length format s first n) ]
 
-    pub seeking-more : Seeking s first n t₀ u (i + 1)
+    pub seeking-more : Seeking format s first n t₀ u (i + 1)
     seeking-more = record {
       none = rw (add-one i) none-yet;
       below = seeking-below;
@@ -287,10 +288,10 @@ module _ {s : List ℕ} {first n : ℕ} {t₀ t u : List ℕ} {i : ℕ} {x : Boo
     }
 
   -- and if it does, it is the lowest
-  pub seeking-found : x ≡ true → (lowestCycle (rulesAt s first n) ≡ some i) × Within 0 (4 * n) t₀ u
+  pub seeking-found : x ≡ true → (lowestCycle (rulesAt format s first n) ≡ some i) × Within 0 (4 * n) t₀ u
   seeking-found e =
       let ok = v .ready .ranged in
-      let l : i < length (rulesAt s first n) = rw (rules-length s first n) (v .below) in (
-        lowest-some (rulesAt s first n) ok i .1 (l, reaches-exact (rulesAt s first n) ok i i .0 (sym (h .0) ∙ e), v .none),
+      let l : i < length (rulesAt format s first n) = rw (rules-length format s first n) (v .below) in (
+        lowest-some (rulesAt format s first n) ok i .1 (l, reaches-exact (rulesAt format s first n) ok i i .0 (sym (h .0) ∙ e), v .none),
         within-both (v .within) (h .1),
       )

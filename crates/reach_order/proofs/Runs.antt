@@ -7,6 +7,7 @@ use mathlib.Core.Path.{_≡_, refl, sym, ap, subst, _∙_}
 use mathlib.Core.List.{List}
 use lib.ListN.{length, getD}
 use borrow.Table.Steps.{cases}
+use Rattle.record.specs.declared.Format.{Format}
 use Rattle.words.specs.Number.{number}
 use Rattle.words.specs.Front.{cleared}
 use Rattle.words.specs.Words.{wordsAt}
@@ -41,11 +42,11 @@ module _ {R : List Rule} {n top m : ℕ} {x : Step} {t u : List ℕ} (h : Turned
   unfolding Made Ended
   run-cycle g e = record { grown = g; ended = rw e at (h .made) }
 
-abbrev pub Running : List ℕ → ℕ → ℕ → List ℕ → List ℕ → ℕ → ℕ → Type 0
-Running s first n t₀ t top m = Ready s first n t × Searching (rulesAt s first n) n t top m × Grown n t₀ t
+abbrev pub Running : Format → List ℕ → ℕ → ℕ → List ℕ → List ℕ → ℕ → ℕ → Type 0
+Running format s first n t₀ t top m = Ready format s first n t × Searching (rulesAt format s first n) n t top m × Grown n t₀ t
 
-pub run-again : {s : List ℕ} {first n : ℕ} {t₀ t u : List ℕ} {top m i j : ℕ} → Running s first n t₀ t top m → Grown n t u → Searching (rulesAt s first n) n u i j
-    → Running s first n t₀ u i j
+pub run-again : {format : Format} {s : List ℕ} {first n : ℕ} {t₀ t u : List ℕ} {top m i j : ℕ} → Running format s first n t₀ t top m → Grown n t u → Searching (rulesAt format s first n) n u i j
+    → Running format s first n t₀ u i j
 run-again (a, S, g) h T = (ready-kept a (h .within), T, grown-both g h)
 
 -- no rule is open
@@ -58,11 +59,11 @@ pub visited-before : {R : List Rule} {n i m : ℕ} {t : List ℕ} → Searching 
 unfolding Ended
 visited-before {n = n} {t = t} S own = record { found = record { grown = grown-none n t; ended = S }; own = own }
 
-pub visit-begins : {s : List ℕ} {first n i m at : ℕ} {t u : List ℕ} → Ready s first n t → Searching (rulesAt s first n) n t 0 m → i < n → markIn t i ≡ unseen
-    → at ≡ 4 * n - 2 → Placed n i opened at t u → Ready s first n u × Searching (rulesAt s first n) n u 1 m
+pub visit-begins : {format : Format} {s : List ℕ} {first n i m at : ℕ} {t u : List ℕ} → Ready format s first n t → Searching (rulesAt format s first n) n t 0 m → i < n → markIn t i ≡ unseen
+    → at ≡ 4 * n - 2 → Placed n i opened at t u → Ready format s first n u × Searching (rulesAt format s first n) n u 1 m
 unfolding backIn frontIn
-visit-begins {s} {first} {n} {i} {m} {at} {t} {u} a S below fresh q p =
-    let long : length (rulesAt s first n) ≡ n = rules-length s first n in
+visit-begins {format} {s} {first} {n} {i} {m} {at} {t} {u} a S below fresh q p =
+    let long : length (rulesAt format s first n) ≡ n = rules-length format s first n in
     let g : 0 + m < n = rw long at (search-more S i (rw long below) fresh) in
     let pushed : backIn n u 0 ≡ i = (let w : 4 * n - 2 * 1 ≡ at = omega arith in ap (number 2 u) w ∙ p .word) in (
       ready-kept a (p .within),
@@ -77,19 +78,19 @@ visited-run {i = i} below p f = record {
 }
 
 -- searches from the rules below i
-pub record Visiting (s : List ℕ) (first n : ℕ) (t₀ t : List ℕ) (m i : ℕ) : Type 0 where
+pub record Visiting (format : Format) (s : List ℕ) (first n : ℕ) (t₀ t : List ℕ) (m i : ℕ) : Type 0 where
   pub far : i ≤ n
-  pub running : Running s first n t₀ t 0 m
+  pub running : Running format s first n t₀ t 0 m
   pub all : (k : ℕ) → k < i → markIn t k ≡ unseen → ⊥
 
-pub visiting-none : {s : List ℕ} {first n : ℕ} {t : List ℕ} → Ready s first n t → Searching (rulesAt s first n) n t 0 0 → Visiting s first n t t 0 0
+pub visiting-none : {format : Format} {s : List ℕ} {first n : ℕ} {t : List ℕ} → Ready format s first n t → Searching (rulesAt format s first n) n t 0 0 → Visiting format s first n t t 0 0
 visiting-none {n = n} {t = t} a S = record { far = omega arith; running = (a, S, grown-none n t); all = λ k l. absurd (omega arith) }
 
-module _ {s : List ℕ} {first n : ℕ} {t₀ t u : List ℕ} {m i : ℕ} {x : Searched} (v : Visiting s first n t₀ t m i) (h : Visited (rulesAt s first n) n i x t u) where
+module _ {format : Format} {s : List ℕ} {first n : ℕ} {t₀ t u : List ℕ} {m i : ℕ} {x : Searched} (v : Visiting format s first n t₀ t m i) (h : Visited (rulesAt format s first n) n i x t u) where
   pub visiting-grown : Grown n t₀ u
   visiting-grown = grown-both (v .running .2) (h .found .grown)
 
-  pub visiting-more : {j : ℕ} → x ≡ Searched.Done j → i < n → Visiting s first n t₀ u j (i + 1)
+  pub visiting-more : {j : ℕ} → x ≡ Searched.Done j → i < n → Visiting format s first n t₀ u j (i + 1)
   unfolding Ended
   visiting-more e l = record {
     far = omega arith;
@@ -97,7 +98,7 @@ module _ {s : List ℕ} {first n : ℕ} {t₀ t u : List ℕ} {m i : ℕ} {x : S
     all = λ k b. up-to i k (omega arith) (λ y. markIn u y ≡ unseen → ⊥) (λ c z. v .all k c (h .found .grown .saw k (omega arith) z)) (h .own);
   }
 
-  pub visiting-cycle : x ≡ Searched.Cycle → Answered (rulesAt s first n) n false t₀ u
+  pub visiting-cycle : x ≡ Searched.Cycle → Answered (rulesAt format s first n) n false t₀ u
   unfolding Ended
   visiting-cycle e = record {
     within = visiting-grown .within;
@@ -113,23 +114,23 @@ done-orders R n t m long S all =
     begun-orders R (wordsAt t (2 * n) n) (length-words t (2 * n) n ∙ sym long)
     (rw e at (begun-same R (frontIn n t) (λ i. getD (wordsAt t (2 * n) n) i 0) m (λ i l. word-at t (2 * n) n i (omega arith)) (S .begun)))
 
-pub visiting-all : {s : List ℕ} {first n : ℕ} {t₀ t : List ℕ} {m i : ℕ} → Visiting s first n t₀ t m i → n ≤ i → Answered (rulesAt s first n) n true t₀ t
-visiting-all {s} {first} {n} {t₀} {t} {m} v past = record {
+pub visiting-all : {format : Format} {s : List ℕ} {first n : ℕ} {t₀ t : List ℕ} {m i : ℕ} → Visiting format s first n t₀ t m i → n ≤ i → Answered (rulesAt format s first n) n true t₀ t
+visiting-all {format} {s} {first} {n} {t₀} {t} {m} v past = record {
   within = v .running .2 .within;
-  sorted = λ q. done-orders (rulesAt s first n) n t m (rules-length s first n) (v .running .1) (λ k l. v .all k (omega arith));
+  sorted = λ q. done-orders (rulesAt format s first n) n t m (rules-length format s first n) (v .running .1) (λ k l. v .all k (omega arith));
   cyclic = λ q. absurd (false≢true (sym q));
 }
 
 -- the search begins in a room that is cleared
-pub order-begins : {s : List ℕ} {first n : ℕ} {t u : List ℕ} → Ready s first n t → u ≡ cleared (4 * n) t → Ready s first n u × Searching (rulesAt s first n) n u 0 0
+pub order-begins : {format : Format} {s : List ℕ} {first n : ℕ} {t u : List ℕ} → Ready format s first n t → u ≡ cleared (4 * n) t → Ready format s first n u × Searching (rulesAt format s first n) n u 0 0
 unfolding markIn
-order-begins {s} {first} {n} {t} {u} a e = (
+order-begins {format} {s} {first} {n} {t} {u} a e = (
   ready-kept a (rw e (within-cleared (4 * n) t (a .fits))),
-  search-none (rulesAt s first n) (markIn u) (backIn n u) (frontIn n u)
-      (λ i l. rw e (cleared-number 2 (4 * n) t (2 * i) (omega (arith, rules-length s first n)))),
+  search-none (rulesAt format s first n) (markIn u) (backIn n u) (frontIn n u)
+      (λ i l. rw e (cleared-number 2 (4 * n) t (2 * i) (omega (arith, rules-length format s first n)))),
 )
 
-pub order-answers : {s : List ℕ} {first n : ℕ} {t u v : List ℕ} {x : Bool} {R : List Rule} → Ready s first n t → u ≡ cleared (4 * n) t → Answered R n x u v → Answered R n x t v
+pub order-answers : {format : Format} {s : List ℕ} {first n : ℕ} {t u v : List ℕ} {x : Bool} {R : List Rule} → Ready format s first n t → u ≡ cleared (4 * n) t → Answered R n x u v → Answered R n x t v
 order-answers {n = n} {t = t} a e h = record {
   within = within-both (rw e (within-cleared (4 * n) t (a .fits))) (h .within);
   sorted = h .sorted;

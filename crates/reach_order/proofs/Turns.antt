@@ -6,6 +6,7 @@ use native.Mathlib.Numerals.{add-one}
 use mathlib.Core.Path.{_≡_, sym, ap, subst, _∙_}
 use mathlib.Core.List.{List}
 use lib.ListN.{length}
+use Rattle.record.specs.declared.Format.{Format}
 use Rattle.words.specs.Number.{number}
 use Rattle.words.proofs.Within.{within-none, within-both}
 use Rattle.record.specs.Records.{recordsFrom}
@@ -25,8 +26,8 @@ use Rattle.reach_order.proofs.Finding.{names-exact}
 use Rattle.reach_order.proofs.Searches.{search-most, search-more, search-cycle, search-open, search-close}
 
 -- there are n rules
-pub rules-length : (s : List ℕ) (first n : ℕ) → length (rulesAt s first n) ≡ n
-rules-length s first n = length-rulesIn (recordsFrom s first n) ∙ records-length s first n
+pub rules-length : (format : Format) (s : List ℕ) (first n : ℕ) → length (rulesAt format s first n) ≡ n
+rules-length format s first n = length-rulesIn format (recordsFrom format s first n) ∙ records-length format s first n
 
 -- what has been seen stays so
 pub grown-none : (n : ℕ) (t : List ℕ) → Grown n t t
@@ -42,31 +43,31 @@ placed-grown {n} {k} {v} {at} {t} {u} p = record {
 }
 
 -- the stack and the order have room
-pub search-room : {s : List ℕ} {first n : ℕ} {t : List ℕ} {top m : ℕ} → Ready s first n t → Searching (rulesAt s first n) n t top m → top + m ≤ n
-search-room {s} {first} {n} a S = omega (arith, search-most S, rules-length s first n)
+pub search-room : {format : Format} {s : List ℕ} {first n : ℕ} {t : List ℕ} {top m : ℕ} → Ready format s first n t → Searching (rulesAt format s first n) n t top m → top + m ≤ n
+search-room {format} {s} {first} {n} a S = omega (arith, search-most S, rules-length format s first n)
 
 -- a turn that begins: the top is rule r, and names d
-pub record Top (s : List ℕ) (first n : ℕ) (t : List ℕ) (top m r : ℕ) (d : Named) : Type 0 where
-  pub ready : Ready s first n t
-  pub search : Searching (rulesAt s first n) n t top m
+pub record Top (format : Format) (s : List ℕ) (first n : ℕ) (t : List ℕ) (top m r : ℕ) (d : Named) : Type 0 where
+  pub ready : Ready format s first n t
+  pub search : Searching (rulesAt format s first n) n t top m
   pub some : 0 < top
   pub read : r ≡ number 2 t (4 * n - 2 * top)
-  pub found : NamesRead s first r d
+  pub found : NamesRead format s first r d
 
 pub top-read : (t : List ℕ) (n top at : ℕ) {r : ℕ} → r ≡ number 2 t at → at ≡ 4 * n - 2 * top → r ≡ number 2 t (4 * n - 2 * top)
 top-read t n top at e q = e ∙ ap (number 2 t) q
 
 -- the top, as a rule on the stack
-pub top-word : {s : List ℕ} {first n : ℕ} {t : List ℕ} {top m r : ℕ} → Ready s first n t → Searching (rulesAt s first n) n t top m → 0 < top → r ≡ number 2 t (4 * n - 2 * top) → backIn n t (top - 1) ≡ r
+pub top-word : {format : Format} {s : List ℕ} {first n : ℕ} {t : List ℕ} {top m r : ℕ} → Ready format s first n t → Searching (rulesAt format s first n) n t top m → 0 < top → r ≡ number 2 t (4 * n - 2 * top) → backIn n t (top - 1) ≡ r
 unfolding backIn
 top-word {n = n} {t = t} {top = top} a S some e = let q : 4 * n - 2 * suc (top - 1) ≡ 4 * n - 2 * top = omega arith in ap (number 2 t) q ∙ sym e
 
-pub top-below : {s : List ℕ} {first n : ℕ} {t : List ℕ} {top m r : ℕ} → Ready s first n t → Searching (rulesAt s first n) n t top m → 0 < top → r ≡ number 2 t (4 * n - 2 * top) → r < n
-top-below {s} {first} {n} {top = top} a S some e = rw (top-word a S some e, rules-length s first n) at (S .inside (top - 1) (omega arith))
+pub top-below : {format : Format} {s : List ℕ} {first n : ℕ} {t : List ℕ} {top m r : ℕ} → Ready format s first n t → Searching (rulesAt format s first n) n t top m → 0 < top → r ≡ number 2 t (4 * n - 2 * top) → r < n
+top-below {format} {s} {first} {n} {top = top} a S some e = rw (top-word a S some e, rules-length format s first n) at (S .inside (top - 1) (omega arith))
 
-module _ {s : List ℕ} {first n : ℕ} {t : List ℕ} {top m r : ℕ} {d : Named} (z : Top s first n t top m r d) where
+module _ {format : Format} {s : List ℕ} {first n : ℕ} {t : List ℕ} {top m r : ℕ} {d : Named} (z : Top format s first n t top m r d) where
   abbrev R : List Rule
-  R = rulesAt s first n
+  R = rulesAt format s first n
 
   word : backIn n t (top - 1) ≡ r
   word = top-word (z .ready) (z .search) (z .some) (z .read)
@@ -75,7 +76,7 @@ module _ {s : List ℕ} {first n : ℕ} {t : List ℕ} {top m r : ℕ} {d : Name
   room = search-room (z .ready) (z .search)
 
   long : length R ≡ n
-  long = rules-length s first n
+  long = rules-length format s first n
 
   names : (k : ℕ) → In d k → Names (rule R r) k
   names k i = names-exact (rule R r) k .1 (rw (z .found n (top-below (z .ready) (z .search) (z .some) (z .read))) at i)

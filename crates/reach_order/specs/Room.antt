@@ -5,7 +5,8 @@ use mathlib.Core.List.{List}
 use lib.ListN.{length}
 use Rattle.words.specs.Number.{number}
 use Rattle.words.specs.Within.{Within}
-use Rattle.record.specs.Record.{recordLength}
+use Rattle.record.specs.declared.Format.{Format}
+use Rattle.record.specs.Format.{recordLength}
 use Rattle.record.specs.Records.{recordsFrom}
 use Rattle.rule.specs.declared.Rule.{Rule}
 use Rattle.rule.specs.Rule.{rulesIn}
@@ -15,8 +16,8 @@ use Rattle.reach_order.specs.declared.Named.{Named}
 use Rattle.reach_order.specs.Named.{namesOf, In}
 
 -- n rules whose records begin at an offset
-abbrev pub rulesAt : List ℕ → ℕ → ℕ → List Rule
-rulesAt s first n = rulesIn (recordsFrom s first n)
+abbrev pub rulesAt : Format → List ℕ → ℕ → ℕ → List Rule
+rulesAt format s first n = rulesIn format (recordsFrom format s first n)
 
 -- the mark of rule i
 unfoldable pub markIn : List ℕ → ℕ → ℕ
@@ -31,18 +32,18 @@ unfoldable pub backIn : ℕ → List ℕ → ℕ → ℕ
 backIn n t j = number 2 t (4 * n - 2 * suc j)
 
 -- x are the rules that rule i names, of however many rules it is one
-abbrev pub NamesRead : List ℕ → ℕ → ℕ → Named → Type 0
-NamesRead s first i x = (n : ℕ) → i < n → x ≡ namesOf (rule (rulesAt s first n) i)
+abbrev pub NamesRead : Format → List ℕ → ℕ → ℕ → Named → Type 0
+NamesRead format s first i x = (n : ℕ) → i < n → x ≡ namesOf (rule (rulesAt format s first n) i)
 
 -- the named rules have marks
 abbrev pub Marked : Named → List ℕ → Type 0
 Marked d t = (k : ℕ) → In d k → 2 * k + 2 ≤ length t
 
 -- what every search asks for: the records lie in the slice, the rules name rules, and there is room for two words a rule
-pub record Ready (s : List ℕ) (first n : ℕ) (room : List ℕ) : Type 0 where
-  pub lies : first + recordLength * n ≤ length s
+pub record Ready (format : Format) (s : List ℕ) (first n : ℕ) (room : List ℕ) : Type 0 where
+  pub lies : first + recordLength format * n ≤ length s
   pub few : n ≤ 16384
-  pub ranged : Ranged (rulesAt s first n)
+  pub ranged : Ranged (rulesAt format s first n)
   pub fits : 4 * n ≤ length room
 
 -- rule k has the mark v, the word at an offset is k, and no other mark or word has changed

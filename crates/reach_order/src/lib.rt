@@ -10,6 +10,7 @@ ghost use Rattle.reach_order.specs.Named.{namesOf};
 ghost use Rattle.reach_order.specs.Room.{rulesAt, markIn, NamesRead, Marked, Ready, Placed};
 ghost use Rattle.reach_order.specs.Search.{Searching, Cyclic, Chosen, Turned, Found, Visited, Answered};
 ghost use Rattle.reach_order.specs.Queue.{Listable, Listed, Following};
+use record::Format;
 use record::Record;
 use rule::Decoded;
 use rule::Rule;
@@ -62,11 +63,12 @@ fn named_by(rule: Rule) -> Named
 }
 
 // The rules that rule i names; the records begin at first.
-fn names_at(s: &[u8], first: usize, i: u16) -> Named
-    requires { ⌜ first + recordLength * i + recordLength ≤ length (now s) ⌝ }
-    ensures { λ x. ⌜ NamesRead (now (s .entry)) first i x ⌝ }
+fn names_at(s: &[u8], format: Format, first: usize, i: u16) -> Named
+    requires { ⌜ first + recordLength format * i + recordLength format ≤ length (now s) ⌝ }
+    ensures { λ x. ⌜ NamesRead format (now (s .entry)) first i x ⌝ }
 {
-    match Rule::decode(Record::read(s, first + Record::LENGTH * (i as usize))) {
+    let record = Record::read(s, format, first + format.length() * (i as usize));
+    match Rule::decode(record, format) {
         Decoded::Whole(rule) => named_by(rule),
         Decoded::Malformed => Named::None,
     }
@@ -117,17 +119,25 @@ fn choose(room: &[u8], named: Named) -> Next
 }
 
 // One turn: the rule on top of the stack, of top rules that are open, and what the rules that it names ask for.
-fn turn(s: &[u8], first: usize, n: u16, room: &mut [u8], top: usize, done: usize) -> Step
-    requires { ⌜ Ready (now s) first n (now room)
-        × Searching (rulesAt (now s) first n) n (now room) top done
+fn turn(
+    s: &[u8],
+    format: Format,
+    first: usize,
+    n: u16,
+    room: &mut [u8],
+    top: usize,
+    done: usize,
+) -> Step
+    requires { ⌜ Ready format (now s) first n (now room)
+        × Searching (rulesAt format (now s) first n) n (now room) top done
         × (0 < top) ⌝ }
     ensures { λ x.
-        ⌜ Turned (rulesAt (now (s .entry)) first n) n top done x (now (room .entry)) (now (room .exit)) ⌝ }
+        ⌜ Turned (rulesAt format (now (s .entry)) first n) n top done x (now (room .entry)) (now (room .exit)) ⌝ }
 {
     let half = 2 * (n as usize);
     let over = 2 * half - 2 * top;
     let r = words::read16(room, over);
-    match choose(room, names_at(s, first, r)) {
+    match choose(room, names_at(s, format, first, r)) {
         Next::Open(k) => {
             place(room, n, k, OPEN, over - 2);
             Step::Opened
@@ -141,16 +151,16 @@ fn turn(s: &[u8], first: usize, n: u16, room: &mut [u8], top: usize, done: usize
 }
 
 // Turns until no rule is open, beginning with one.
-fn run(s: &[u8], first: usize, n: u16, room: &mut [u8], begun: usize) -> Searched
-    requires { ⌜ Ready (now s) first n (now room)
-        × Searching (rulesAt (now s) first n) n (now room) 1 begun ⌝ }
+fn run(s: &[u8], format: Format, first: usize, n: u16, room: &mut [u8], begun: usize) -> Searched
+    requires { ⌜ Ready format (now s) first n (now room)
+        × Searching (rulesAt format (now s) first n) n (now room) 1 begun ⌝ }
     ensures { λ x.
-        ⌜ Found (rulesAt (now (s .entry)) first n) n x (now (room .entry)) (now (room .exit)) ⌝ }
+        ⌜ Found (rulesAt format (now (s .entry)) first n) n x (now (room .entry)) (now (room .exit)) ⌝ }
 {
     let mut top: usize = 1;
     let mut done = begun;
     while 0 < top {
-        match turn(s, first, n, room, top, done) {
+        match turn(s, format, first, n, room, top, done) {
             Step::Opened => top += 1,
             Step::Closed => {
                 top -= 1;
@@ -163,31 +173,39 @@ fn run(s: &[u8], first: usize, n: u16, room: &mut [u8], begun: usize) -> Searche
 }
 
 // The search from rule i, if it hasn't been seen.
-fn visit(s: &[u8], first: usize, n: u16, room: &mut [u8], i: u16, done: usize) -> Searched
-    requires { ⌜ Ready (now s) first n (now room)
-        × Searching (rulesAt (now s) first n) n (now room) 0 done
+fn visit(
+    s: &[u8],
+    format: Format,
+    first: usize,
+    n: u16,
+    room: &mut [u8],
+    i: u16,
+    done: usize,
+) -> Searched
+    requires { ⌜ Ready format (now s) first n (now room)
+        × Searching (rulesAt format (now s) first n) n (now room) 0 done
         × (i < n) ⌝ }
     ensures { λ x.
-        ⌜ Visited (rulesAt (now (s .entry)) first n) n i x (now (room .entry)) (now (room .exit)) ⌝ }
+        ⌜ Visited (rulesAt format (now (s .entry)) first n) n i x (now (room .entry)) (now (room .exit)) ⌝ }
 {
     if mark(room, i) != UNSEEN {
         return Searched::Done(done);
     }
     place(room, n, i, OPEN, 4 * (n as usize) - 2);
-    run(s, first, n, room, done)
+    run(s, format, first, n, room, done)
 }
 
 // The search from every rule, once the room is cleared.
-fn visit_all(s: &[u8], first: usize, n: u16, room: &mut [u8]) -> bool
-    requires { ⌜ Ready (now s) first n (now room)
-        × Searching (rulesAt (now s) first n) n (now room) 0 0 ⌝ }
+fn visit_all(s: &[u8], format: Format, first: usize, n: u16, room: &mut [u8]) -> bool
+    requires { ⌜ Ready format (now s) first n (now room)
+        × Searching (rulesAt format (now s) first n) n (now room) 0 0 ⌝ }
     ensures { λ x.
-        ⌜ Answered (rulesAt (now (s .entry)) first n) n x (now (room .entry)) (now (room .exit)) ⌝ }
+        ⌜ Answered (rulesAt format (now (s .entry)) first n) n x (now (room .entry)) (now (room .exit)) ⌝ }
 {
     let mut done: usize = 0;
     let mut i: u16 = 0;
     while i < n {
-        match visit(s, first, n, room, i, done) {
+        match visit(s, format, first, n, room, i, done) {
             Searched::Done(d) => done = d,
             Searched::Cycle => return false,
         }
@@ -197,13 +215,13 @@ fn visit_all(s: &[u8], first: usize, n: u16, room: &mut [u8]) -> bool
 }
 
 // Whether there is an order of the n rules whose records begin at first. It ends in the room: n words behind n others.
-pub fn order(s: &[u8], first: usize, n: u16, room: &mut [u8]) -> bool
-    requires { ⌜ Ready (now s) first n (now room) ⌝ }
+pub fn order(s: &[u8], format: Format, first: usize, n: u16, room: &mut [u8]) -> bool
+    requires { ⌜ Ready format (now s) first n (now room) ⌝ }
     ensures { λ x.
-        ⌜ Answered (rulesAt (now (s .entry)) first n) n x (now (room .entry)) (now (room .exit)) ⌝ }
+        ⌜ Answered (rulesAt format (now (s .entry)) first n) n x (now (room .entry)) (now (room .exit)) ⌝ }
 {
     words::clear(room, 4 * (n as usize));
-    visit_all(s, first, n, room)
+    visit_all(s, format, first, n, room)
 }
 
 // Rule k put behind m others of the queue, if it hasn't been seen; how many there are then.
@@ -233,11 +251,19 @@ fn enqueue_all(room: &mut [u8], n: u16, named: Named, m: usize) -> usize
 }
 
 // The rules in the queue taken one after another, and those that they name put behind, until rule i is taken or none is left.
-fn follow(s: &[u8], first: usize, n: u16, i: u16, room: &mut [u8], begun: usize) -> bool
-    requires { ⌜ Ready (now s) first n (now room)
-        × Following (rulesAt (now s) first n) n i (now room) begun 0 ⌝ }
+fn follow(
+    s: &[u8],
+    format: Format,
+    first: usize,
+    n: u16,
+    i: u16,
+    room: &mut [u8],
+    begun: usize,
+) -> bool
+    requires { ⌜ Ready format (now s) first n (now room)
+        × Following (rulesAt format (now s) first n) n i (now room) begun 0 ⌝ }
     ensures { λ x.
-        ⌜ (x ≡ reaches (rulesAt (now (s .entry)) first n) i i)
+        ⌜ (x ≡ reaches (rulesAt format (now (s .entry)) first n) i i)
         × Within 0 (4 * n) (now (room .entry)) (now (room .exit)) ⌝ }
 {
     let mut m = begun;
@@ -247,33 +273,33 @@ fn follow(s: &[u8], first: usize, n: u16, i: u16, room: &mut [u8], begun: usize)
         if r == i {
             return true;
         }
-        m = enqueue_all(room, n, names_at(s, first, r), m);
+        m = enqueue_all(room, n, names_at(s, format, first, r), m);
         taken += 1;
     }
     false
 }
 
 // Whether rule i reaches itself.
-fn reaches_itself(s: &[u8], first: usize, n: u16, i: u16, room: &mut [u8]) -> bool
-    requires { ⌜ Ready (now s) first n (now room) × (i < n) ⌝ }
+fn reaches_itself(s: &[u8], format: Format, first: usize, n: u16, i: u16, room: &mut [u8]) -> bool
+    requires { ⌜ Ready format (now s) first n (now room) × (i < n) ⌝ }
     ensures { λ x.
-        ⌜ (x ≡ reaches (rulesAt (now (s .entry)) first n) i i)
+        ⌜ (x ≡ reaches (rulesAt format (now (s .entry)) first n) i i)
         × Within 0 (4 * n) (now (room .entry)) (now (room .exit)) ⌝ }
 {
     words::clear(room, 2 * (n as usize));
-    let m = enqueue_all(room, n, names_at(s, first, i), 0);
-    follow(s, first, n, i, room, m)
+    let m = enqueue_all(room, n, names_at(s, format, first, i), 0);
+    follow(s, format, first, n, i, room, m)
 }
 
 // The lowest rule that reaches itself, of n rules of which some does.
-pub fn lowest(s: &[u8], first: usize, n: u16, room: &mut [u8]) -> u16
-    requires { ⌜ Ready (now s) first n (now room) × Cyclic (rulesAt (now s) first n) ⌝ }
+pub fn lowest(s: &[u8], format: Format, first: usize, n: u16, room: &mut [u8]) -> u16
+    requires { ⌜ Ready format (now s) first n (now room) × Cyclic (rulesAt format (now s) first n) ⌝ }
     ensures { λ x.
-        ⌜ (lowestCycle (rulesAt (now (s .entry)) first n) ≡ some x)
+        ⌜ (lowestCycle (rulesAt format (now (s .entry)) first n) ≡ some x)
         × Within 0 (4 * n) (now (room .entry)) (now (room .exit)) ⌝ }
 {
     let mut r: u16 = 0;
-    while !reaches_itself(s, first, n, r, room) {
+    while !reaches_itself(s, format, first, n, r, room) {
         r += 1;
     }
     r

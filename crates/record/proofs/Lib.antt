@@ -1,3 +1,4 @@
+pub mod Formats
 pub mod Records
 pub mod RecordBytes
 pub mod Copied

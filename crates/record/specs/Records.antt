@@ -2,24 +2,26 @@
 use Prim.Native.Nat.{ℕ, zero, suc, _+_}
 use mathlib.Core.List.{List, [], _∷_, _++_}
 use lib.ListN.{getD}
+use Rattle.record.specs.declared.Format.{Format}
 use Rattle.record.specs.declared.Record.{Record}
-use Rattle.record.specs.Record.{recordLength, recordAt, recordBytes}
+use Rattle.record.specs.Format.{recordLength}
+use Rattle.record.specs.Record.{recordAt, recordBytes}
 
 -- the records of n rules from an offset on
-unfoldable pub recordsFrom : List ℕ → ℕ → ℕ → List Record
+unfoldable pub recordsFrom : Format → List ℕ → ℕ → ℕ → List Record
 unfolding recordAt
-recordsFrom s at zero = []
-recordsFrom s at (suc n) = recordAt s at ∷ recordsFrom s (at + recordLength) n
+recordsFrom f s at zero = []
+recordsFrom f s at (suc n) = recordAt f s at ∷ recordsFrom f s (at + recordLength f) n
 
 -- the bytes of records
-unfoldable pub recordsBytes : List Record → List ℕ
+unfoldable pub recordsBytes : Format → List Record → List ℕ
 unfolding recordBytes
-recordsBytes [] = []
-recordsBytes (w ∷ ws) = recordBytes w ++ recordsBytes ws
+recordsBytes f [] = []
+recordsBytes f (w ∷ ws) = recordBytes f w ++ recordsBytes f ws
 
 -- the kind of the record with a number
 noRecord : Record
-noRecord = record { kind = 0; one = 0; two = 0; three = 0 }
+noRecord = record { kind = 0; one = 0; two = 0; three = 0; high = 0 }
 
 unfoldable pub recordIn : List Record → ℕ → Record
 unfolding noRecord

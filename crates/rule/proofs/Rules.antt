@@ -8,6 +8,7 @@ use native.Mathlib.Decide.{decLt}
 use native.Mathlib.Omega.{arith}
 use lib.Dec.{T, ltb, ltb→lt, lt→ltb}
 use lib.ListN.{length, length-map, List·getD-map, List·getD-eq-default}
+use Rattle.record.specs.declared.Format.{Format}
 use Rattle.record.specs.declared.Record.{Record}
 use Rattle.rule.specs.declared.Rule.{Rule}
 use Rattle.rule.specs.declared.Decoded.{Decoded}
@@ -19,9 +20,9 @@ use Rattle.rule.specs.Sound.{rule, kindIn, Sound}
 use Rattle.rule.proofs.Decode.{decode-kind, decode-labelled}
 
 -- past the end of the records a kind is that of the empty rule
-pub kind-past : (s : List ℕ) (at n i : ℕ) → n ≤ i → kindAt (recordsFrom s at n) i ≡ kindEmpty
+pub kind-past : (f : Format) (s : List ℕ) (at n i : ℕ) → n ≤ i → kindAt (recordsFrom f s at n) i ≡ kindEmpty
 unfolding kindAt
-kind-past s at n i past = ap (λ (w : Record). w .kind) (List·getD-eq-default (recordsFrom s at n) _ (rw records-length past))
+kind-past f s at n i past = ap (λ (w : Record). w .kind) (List·getD-eq-default (recordsFrom f s at n) _ (rw (records-length f s at n) past))
 
 -- past the last rule a rule is empty
 pub past-rule : (R : List Rule) (r : ℕ) → length R ≤ r → rule R r ≡ Rule.Empty
@@ -36,63 +37,63 @@ pub record Named (ws : List Record) (i : ℕ) (d : Decoded) : Type 0 where
   pub sorted : T (sorts (kindAt ws) means)
 
 -- the rule with a number
-rule-in : (ws : List Record) (i : ℕ) → rule (rulesIn ws) i ≡ ruleOf (decode (recordIn ws i))
+rule-in : (f : Format) (ws : List Record) (i : ℕ) → rule (rulesIn f ws) i ≡ ruleOf (decode f (recordIn ws i))
 unfolding rule rulesIn recordIn decode ruleOf
-rule-in ws i = List·getD-map (λ (w : Record). ruleOf (decode w)) ws i (record { kind = 0; one = 0; two = 0; three = 0 })
+rule-in f ws i = List·getD-map (λ (w : Record). ruleOf (decode f w)) ws i (record { kind = 0; one = 0; two = 0; three = 0; high = 0 })
 
-pub length-rulesIn : (ws : List Record) → length (rulesIn ws) ≡ length ws
+pub length-rulesIn : (f : Format) (ws : List Record) → length (rulesIn f ws) ≡ length ws
 unfolding rulesIn
-length-rulesIn ws = length-map ws (λ (w : Record). ruleOf (decode w))
+length-rulesIn f ws = length-map ws (λ (w : Record). ruleOf (decode f w))
 
-pub rule-decoded : (ws : List Record) (i : ℕ) (r : Rule) → decode (recordIn ws i) ≡ Decoded.Whole r → rule (rulesIn ws) i ≡ r
+pub rule-decoded : (f : Format) (ws : List Record) (i : ℕ) (r : Rule) → decode f (recordIn ws i) ≡ Decoded.Whole r → rule (rulesIn f ws) i ≡ r
 unfolding ruleOf
-rule-decoded ws i r h = rule-in ws i ∙ ap ruleOf h
+rule-decoded f ws i r h = rule-in f ws i ∙ ap ruleOf h
 
 -- past the end a record counts as the empty rule's
-past : (ws : List Record) (i : ℕ) → length ws ≤ i → decode (recordIn ws i) ≡ Decoded.Whole Rule.Empty
+past : (f : Format) (ws : List Record) (i : ℕ) → length ws ≤ i → decode f (recordIn ws i) ≡ Decoded.Whole Rule.Empty
 unfolding recordIn decode
-past ws i h = rw (List·getD-eq-default ws (record { kind = 0; one = 0; two = 0; three = 0 }) h)
+past f ws i h = rw (List·getD-eq-default ws (record { kind = 0; one = 0; two = 0; three = 0; high = 0 }) h)
 
-kind-decoded : (ws : List Record) (i : ℕ) (r : Rule) → decode (recordIn ws i) ≡ Decoded.Whole r → kindIn (rulesIn ws) i ≡ kindAt ws i
+kind-decoded : (f : Format) (ws : List Record) (i : ℕ) (r : Rule) → decode f (recordIn ws i) ≡ Decoded.Whole r → kindIn (rulesIn f ws) i ≡ kindAt ws i
 unfolding kindIn kindAt
-kind-decoded ws i r h = ap (λ (x : Rule). (encode x) .kind) (rule-decoded ws i r h) ∙ decode-kind (recordIn ws i) r h
+kind-decoded f ws i r h = ap (λ (x : Rule). (encode x) .kind) (rule-decoded f ws i r h) ∙ decode-kind f (recordIn ws i) r h
 
 -- where every record decodes, the records' kinds are the rules' kinds
-pub kinds : (ws : List Record) → ((i : ℕ) → i < length ws → Named ws i (decode (recordIn ws i))) → kindAt ws ≡ kindIn (rulesIn ws)
-kinds ws each =
+pub kinds : (f : Format) (ws : List Record) → ((i : ℕ) → i < length ws → Named ws i (decode f (recordIn ws i))) → kindAt ws ≡ kindIn (rulesIn f ws)
+kinds f ws each =
     fun-ext λ i. elim (decLt i (length ws)) [
-      | yes l ↦ sym (kind-decoded ws i ((each i l) .means) ((each i l) .decodes))
-      | no g ↦ sym (kind-decoded ws i Rule.Empty (past ws i (omega (arith, g))))
+      | yes l ↦ sym (kind-decoded f ws i ((each i l) .means) ((each i l) .decodes))
+      | no g ↦ sym (kind-decoded f ws i Rule.Empty (past f ws i (omega (arith, g))))
     ]
 
 -- the rule that a record means
-module _ (ws : List Record) (each : (i : ℕ) → i < length ws → Named ws i (decode (recordIn ws i))) where
-  at : (i : ℕ) → i < length (rulesIn ws) → Named ws i (decode (recordIn ws i))
-  at i l = each i (omega (arith, length-rulesIn ws))
+module _ (f : Format) (ws : List Record) (each : (i : ℕ) → i < length ws → Named ws i (decode f (recordIn ws i))) where
+  at : (i : ℕ) → i < length (rulesIn f ws) → Named ws i (decode f (recordIn ws i))
+  at i l = each i (omega (arith, length-rulesIn f ws))
 
-  means-rule : (i : ℕ) (l : i < length (rulesIn ws)) → rule (rulesIn ws) i ≡ (at i l) .means
-  means-rule i l = rule-decoded ws i ((at i l) .means) ((at i l) .decodes)
+  means-rule : (i : ℕ) (l : i < length (rulesIn f ws)) → rule (rulesIn f ws) i ≡ (at i l) .means
+  means-rule i l = rule-decoded f ws i ((at i l) .means) ((at i l) .decodes)
 
-  pub named-ranged : (i : ℕ) → i < length (rulesIn ws) → T (every (λ x. ltb x (length (rulesIn ws))) (rule (rulesIn ws) i))
-  named-ranged i l = rw (means-rule i l, length-rulesIn ws) ((at i l) .ranged)
+  pub named-ranged : (i : ℕ) → i < length (rulesIn f ws) → T (every (λ x. ltb x (length (rulesIn f ws))) (rule (rulesIn f ws) i))
+  named-ranged i l = rw (means-rule i l, length-rulesIn f ws) ((at i l) .ranged)
 
   pub named-sound : (rank : ℕ → ℕ)
-      → ((i : ℕ) → i < length (rulesIn ws) → T (every (λ x. ltb (rank x) (rank i)) (rule (rulesIn ws) i)))
-      → ((i : ℕ) → i < length (rulesIn ws) → rank i < length (rulesIn ws))
-      → Sound (rulesIn ws) rank
+      → ((i : ℕ) → i < length (rulesIn f ws) → T (every (λ x. ltb (rank x) (rank i)) (rule (rulesIn f ws) i)))
+      → ((i : ℕ) → i < length (rulesIn f ws) → rank i < length (rulesIn f ws))
+      → Sound (rulesIn f ws) rank
   named-sound rank falls ranked =
       record {
         in-range = named-ranged;
         falls = falls;
         ranked = ranked;
-        sorted = λ i l. rw (means-rule i l, ← kinds ws each) ((at i l) .sorted);
-        labels = λ i l. rw (means-rule i l) (decode-labelled (recordIn ws i) ((at i l) .means) ((at i l) .decodes));
+        sorted = λ i l. rw (means-rule i l, ← kinds f ws each) ((at i l) .sorted);
+        labels = λ i l. rw (means-rule i l) (decode-labelled f (recordIn ws i) ((at i l) .means) ((at i l) .decodes));
       }
 
 -- the rule with a number is what its record means
-pub rule-recorded : (s : List ℕ) (at n i : ℕ) → i < n → rule (rulesIn (recordsFrom s at n)) i ≡ ruleOf (decode (recordAt s (at + recordLength * i)))
+pub rule-recorded : (f : Format) (s : List ℕ) (at n i : ℕ) → i < n → rule (rulesIn f (recordsFrom f s at n)) i ≡ ruleOf (decode f (recordAt f s (at + recordLength f * i)))
 unfolding rule rulesIn recordsFrom
-rule-recorded s at zero i below = absurd (omega arith)
-rule-recorded s at (suc n) zero below = ap (λ (k : ℕ). ruleOf (decode (recordAt s k))) (omega arith)
-rule-recorded s at (suc n) (suc i) below =
-    rule-recorded s (at + recordLength) n i (omega arith) ∙ ap (λ (k : ℕ). ruleOf (decode (recordAt s k))) (omega arith)
+rule-recorded f s at zero i below = absurd (omega arith)
+rule-recorded f s at (suc n) zero below = ap (λ (k : ℕ). ruleOf (decode f (recordAt f s k))) (omega arith)
+rule-recorded f s at (suc n) (suc i) below =
+    rule-recorded f s (at + recordLength f) n i (omega arith) ∙ ap (λ (k : ℕ). ruleOf (decode f (recordAt f s k))) (omega arith)

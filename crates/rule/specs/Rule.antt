@@ -1,10 +1,12 @@
--- The rule that a record means (document 01, "A plan's bytes").
-use Prim.Native.Nat.{ℕ}
+-- The rule that a record means (document 01, "A plan's bytes"; document 02, Note 2).
+use Prim.Native.Nat.{ℕ, _+_, _*_, _/_, _%_}
 use mathlib.Core.Bool.{Bool, true, false, cond, _&&_, _||_}
 use mathlib.Core.List.{List, map}
 use lib.ListN.{getD}
 use lib.Dec.{leb, eqb}
+use Rattle.record.specs.declared.Format.{Format}
 use Rattle.record.specs.declared.Record.{Record}
+use Rattle.record.specs.Format.{mostLabel}
 use Rattle.rule.specs.declared.Rule.{Rule}
 use Rattle.rule.specs.declared.Decoded.{Decoded}
 
@@ -27,9 +29,16 @@ kindPart = 4
 abbrev pub kindJoin : ℕ
 kindJoin = 5
 
--- "A label is 0 to 255"
+-- Note 2: "Labels go to 16,777,215"
 abbrev pub largestLabel : ℕ
-largestLabel = 255
+largestLabel = 16777215
+
+-- Note 2: "the fifth word is the label's high part"
+abbrev pub highPart : ℕ
+highPart = 65536
+
+unfoldable pub labelIn : Record → ℕ
+labelIn w = w .one + highPart * w .high
 
 -- a rule if its record is well formed
 unfoldable pub whole : Bool → Rule → Decoded
@@ -39,29 +48,26 @@ whole false r = Decoded.Malformed
 unused : ℕ → Bool
 unused w = eqb w 0
 
-labels : ℕ → Bool
-labels a = leb a largestLabel
-
--- The table of kinds: words 1, 2, 3 of each, "unused words are 0".
-unfoldable pub decode : Record → Decoded
-unfolding whole unused labels
-decode w =
-    cond (eqb (w .kind) kindEmpty) (whole (unused (w .one) && unused (w .two) && unused (w .three)) Rule.Empty)
-    (cond (eqb (w .kind) kindPair) (whole (unused (w .three)) (Rule.Pair (w .one) (w .two)))
-    (cond (eqb (w .kind) kindNode) (whole (labels (w .one) && unused (w .three)) (Rule.Node (w .one) (w .two)))
-    (cond (eqb (w .kind) kindFill) (whole (unused (w .three)) (Rule.Fill (w .one) (w .two)))
-    (cond (eqb (w .kind) kindPart) (whole (labels (w .one)) (Rule.Part (w .one) (w .two) (w .three)))
-    (cond (eqb (w .kind) kindJoin) (whole (unused (w .three)) (Rule.Join (w .one) (w .two)))
+-- The table of kinds: words 1, 2, 3 of each, "unused words are 0"; Note 2: the fifth word is "zero in kinds without a label".
+unfoldable pub decode : Format → Record → Decoded
+unfolding whole unused labelIn
+decode f w =
+    cond (eqb (w .kind) kindEmpty) (whole (unused (w .one) && unused (w .two) && unused (w .three) && unused (w .high)) Rule.Empty)
+    (cond (eqb (w .kind) kindPair) (whole (unused (w .three) && unused (w .high)) (Rule.Pair (w .one) (w .two)))
+    (cond (eqb (w .kind) kindNode) (whole (leb (labelIn w) (mostLabel f) && unused (w .three)) (Rule.Node (labelIn w) (w .two)))
+    (cond (eqb (w .kind) kindFill) (whole (unused (w .three) && unused (w .high)) (Rule.Fill (w .one) (w .two)))
+    (cond (eqb (w .kind) kindPart) (whole (leb (labelIn w) (mostLabel f)) (Rule.Part (labelIn w) (w .two) (w .three)))
+    (cond (eqb (w .kind) kindJoin) (whole (unused (w .three) && unused (w .high)) (Rule.Join (w .one) (w .two)))
     Decoded.Malformed)))))
 
 -- a rule's record, the same table read the other way
 unfoldable pub encode : Rule → Record
-encode Rule.Empty = record { kind = kindEmpty; one = 0; two = 0; three = 0 }
-encode (Rule.Pair b c) = record { kind = kindPair; one = b; two = c; three = 0 }
-encode (Rule.Node a c) = record { kind = kindNode; one = a; two = c; three = 0 }
-encode (Rule.Fill b c) = record { kind = kindFill; one = b; two = c; three = 0 }
-encode (Rule.Part a l r) = record { kind = kindPart; one = a; two = l; three = r }
-encode (Rule.Join b c) = record { kind = kindJoin; one = b; two = c; three = 0 }
+encode Rule.Empty = record { kind = kindEmpty; one = 0; two = 0; three = 0; high = 0 }
+encode (Rule.Pair b c) = record { kind = kindPair; one = b; two = c; three = 0; high = 0 }
+encode (Rule.Node a c) = record { kind = kindNode; one = a % highPart; two = c; three = 0; high = a / highPart }
+encode (Rule.Fill b c) = record { kind = kindFill; one = b; two = c; three = 0; high = 0 }
+encode (Rule.Part a l r) = record { kind = kindPart; one = a % highPart; two = l; three = r; high = a / highPart }
+encode (Rule.Join b c) = record { kind = kindJoin; one = b; two = c; three = 0; high = 0 }
 
 -- "Kinds 0 to 3 are closed, 4 and 5 holed."
 unfoldable pub closed : ℕ → Bool
@@ -94,15 +100,18 @@ sorts kind (Rule.Fill b c) = holed (kind b) && tree (kind c)
 sorts kind (Rule.Part a l r) = closed (kind l) && closed (kind r)
 sorts kind (Rule.Join b c) = holed (kind b) && holed (kind c)
 
--- the label of a rule that has one is at most the largest
+-- the label of a rule that has one is at most m, and at most the largest
+unfoldable pub labelledTo : ℕ → Rule → Bool
+labelledTo m Rule.Empty = true
+labelledTo m (Rule.Pair b c) = true
+labelledTo m (Rule.Node a c) = leb a m
+labelledTo m (Rule.Fill b c) = true
+labelledTo m (Rule.Part a l r) = leb a m
+labelledTo m (Rule.Join b c) = true
+
 unfoldable pub labelled : Rule → Bool
-unfolding labels
-labelled Rule.Empty = true
-labelled (Rule.Pair b c) = true
-labelled (Rule.Node a c) = labels a
-labelled (Rule.Fill b c) = true
-labelled (Rule.Part a l r) = labels a
-labelled (Rule.Join b c) = true
+unfolding labelledTo
+labelled x = labelledTo largestLabel x
 
 -- the rule of a record, and the empty rule where there is none (no accepted plan has such a record)
 unfoldable pub ruleOf : Decoded → Rule
@@ -110,9 +119,9 @@ ruleOf (Decoded.Whole r) = r
 ruleOf Decoded.Malformed = Rule.Empty
 
 -- the rules of records
-unfoldable pub rulesIn : List Record → List Rule
+unfoldable pub rulesIn : Format → List Record → List Rule
 unfolding decode ruleOf
-rulesIn ws = map (λ (w : Record). ruleOf (decode w)) ws
+rulesIn f ws = map (λ (w : Record). ruleOf (decode f w)) ws
 
 -- the rule with a number, empty past the end
 unfoldable pub rule : List Rule → ℕ → Rule

@@ -1,8 +1,11 @@
-// The rule of a plan (document 01, "A plan's bytes"): what a record means, by the table of kinds.
+// The rule of a plan (document 01, "A plan's bytes", and document 02, Note 2): what a record means, by the table of kinds.
+use record::Format;
 use record::Record;
 ghost use mathlib.Core.Path.{_≡_};
 ghost use Prim.Native.Nat.{_<_};
-ghost use Rattle.rule.specs.Rule.{kindNode, decode, whole};
+ghost use lib.Dec.{leb};
+ghost use Rattle.record.specs.Format.{mostLabel};
+ghost use Rattle.rule.specs.Rule.{kindNode, labelIn, decode, whole};
 
 // A rule as the paper's right-hand side; the numbers are those of the rules it names.
 pub enum Rule {
@@ -14,7 +17,7 @@ pub enum Rule {
     Join { outer: u16, inner: u16 },
 }
 
-// What four words mean: a rule, or none.
+// What a record means: a rule, or none.
 pub enum Decoded {
     Whole(Rule),
     Malformed,
@@ -47,25 +50,46 @@ impl Rule {
 
     pub const JOIN: u16 = 5;
 
-    pub const LARGEST_LABEL: u32 = 255;
+    // What the fifth word counts for in a label.
+    const HIGH_PART: u32 = 65536;
 
-    // The rule that four words mean: the table of kinds.
-    pub fn decode(w: Record) -> Decoded
-        ensures { λ r. ⌜ r ≡ decode w ⌝ }
+    // The label of a record that has one: word 1, and the fifth word as its high part.
+    pub fn label(w: Record) -> u32
+        ensures { λ a. ⌜ a ≡ labelIn w ⌝ }
+    {
+        let one = w.one;
+        let high = w.high;
+        one as u32 + Rule::HIGH_PART * (high as u32)
+    }
+
+    // Whether that label is one of the format's.
+    pub fn label_fits(w: Record, format: Format) -> bool
+        ensures { λ x. ⌜ x ≡ leb (labelIn w) (mostLabel format) ⌝ }
+    {
+        let label = Rule::label(w);
+        label <= format.most_label()
+    }
+
+    // The rule that a record means: the table of kinds.
+    pub fn decode(w: Record, format: Format) -> Decoded
+        ensures { λ r. ⌜ r ≡ decode format w ⌝ }
     {
         let kind = w.kind;
         let one = w.one;
         let two = w.two;
-        let unused = w.three == Record::UNUSED;
+        let three = w.three;
+        let high = w.high;
+        let unused = three == Record::UNUSED;
+        let low = high == Record::UNUSED;
         if kind == Rule::EMPTY {
             return Decoded::whole(
-                (one == Record::UNUSED) & (two == Record::UNUSED) & unused,
+                (one == Record::UNUSED) & (two == Record::UNUSED) & unused & low,
                 Rule::Empty,
             );
         }
         if kind == Rule::PAIR {
             return Decoded::whole(
-                unused,
+                unused & low,
                 Rule::Pair {
                     first: one,
                     second: two,
@@ -73,25 +97,26 @@ impl Rule {
             );
         }
         if kind == Rule::NODE {
-            let label = one as u32;
+            let label = Rule::label(w);
             return Decoded::whole(
-                (label <= Rule::LARGEST_LABEL) & unused,
+                (label <= format.most_label()) & unused,
                 Rule::Node { label, under: two },
             );
         }
-        Rule::decode_filled(w)
+        Rule::decode_filled(w, format)
     }
 
     // The same table from kind 3 on: the kinds that have to do with a hole.
-    fn decode_filled(w: Record) -> Decoded
+    fn decode_filled(w: Record, format: Format) -> Decoded
         requires { ⌜ kindNode < w .kind ⌝ }
-        ensures { λ r. ⌜ r ≡ decode w ⌝ }
+        ensures { λ r. ⌜ r ≡ decode format w ⌝ }
     {
         let kind = w.kind;
         let one = w.one;
         let two = w.two;
         let three = w.three;
-        let unused = three == Record::UNUSED;
+        let high = w.high;
+        let unused = (three == Record::UNUSED) & (high == Record::UNUSED);
         if kind == Rule::FILL {
             return Decoded::whole(
                 unused,
@@ -102,9 +127,9 @@ impl Rule {
             );
         }
         if kind == Rule::PART {
-            let label = one as u32;
+            let label = Rule::label(w);
             return Decoded::whole(
-                label <= Rule::LARGEST_LABEL,
+                label <= format.most_label(),
                 Rule::Part {
                     label,
                     left: two,

@@ -1,65 +1,95 @@
-// Document 01, "Seal".
+// Document 01, "Seal", and document 02, Note 2.
 use judge::Judged;
 use judge::judge;
 use plan::Trailer;
 use plan::Written;
-use record::Record;
+use record::Format;
 use record::copy_records;
 use refusal::Refusal;
-ghost use Prim.Native.Nat.{ℕ, _/_, _%_};
+ghost use Prim.Native.Nat.{ℕ, _%_};
 ghost use mathlib.Core.Path.{_≡_};
 ghost use mathlib.Core.Bool.{_&&_};
 ghost use mathlib.Core.List.{List};
 ghost use lib.ListN.{length};
 ghost use lib.Dec.{eqb};
-ghost use Rattle.record.specs.Record.{recordWords};
+ghost use Rattle.words.specs.Number.{wordCount};
+ghost use Rattle.record.specs.Format.{recordWords};
 ghost use Rattle.plan.specs.Check.{mostRules, inLimits};
-ghost use Rattle.seal.specs.Seal.{sealed, sealedOutput};
+ghost use Rattle.seal.specs.Seal.{formatFor, isLength, givenCount, sealedUpTo, sealed, outputAs, sealedOutput};
 
 // Seal: the rule words as a plan without prefix. The answer comes first: refused, nothing is written.
-pub fn seal(words: &[u8], start: u16, out: &mut [u8]) -> Written
-    ensures { λ r. ⌜ (r ≡ sealed (now (words .entry)) start (now (out .entry)))
-        × (now (out .exit) ≡ sealedOutput (now (words .entry)) start (now (out .entry))) ⌝ }
+pub fn seal(words: &[u8], record_length: u16, start: u16, out: &mut [u8]) -> Written
+    ensures { λ r. ⌜ (r ≡ sealed (now (words .entry)) record_length start (now (out .entry)))
+        × (now (out .exit) ≡ sealedOutput (now (words .entry)) record_length start (now (out .entry))) ⌝ }
 {
-    let answer = sealing(words, start, out.len());
-    write_plan(words, start, out, answer);
+    if !is_length(record_length) {
+        return Written::Refused(Refusal::Magic);
+    }
+    let format = format_for(record_length);
+    let answer = sealing(words, format, start, out.len());
+    write_plan(words, format, start, out, answer);
     answer
 }
 
+// Is this the length of a record?
+fn is_length(length: u16) -> bool
+    ensures { λ r. ⌜ r ≡ isLength length ⌝ }
+{
+    let length = length as usize;
+    (length == Format::NARROW_LENGTH) | (length == Format::WIDE_LENGTH)
+}
+
+// The format whose records have this length.
+fn format_for(length: u16) -> Format
+    ensures { λ r. ⌜ r ≡ formatFor length ⌝ }
+{
+    if length as usize == Format::WIDE_LENGTH {
+        Format::Wide
+    } else {
+        Format::Narrow
+    }
+}
+
 // What seal writes, given its answer: the plan's bytes, or nothing.
-fn write_plan(words: &[u8], start: u16, out: &mut [u8], answer: Written)
-    requires { ⌜ answer ≡ sealed (now words) start (now out) ⌝ }
-    ensures { λ _. ⌜ now (out .exit) ≡ sealedOutput (now (words .entry)) start (now (out .entry)) ⌝ }
+fn write_plan(words: &[u8], format: Format, start: u16, out: &mut [u8], answer: Written)
+    requires { ⌜ answer ≡ sealedUpTo mostRules format (now words) start (now out) ⌝ }
+    ensures { λ _. ⌜ now (out .exit) ≡ outputAs answer format (now (words .entry)) start (now (out .entry)) ⌝ }
 {
     let Written::Length(_) = answer else {
         return;
     };
-    let n = words::word_count(words) / Record::WORDS;
-    copy_records(words, 0, n, out);
-    Trailer::write(out, n as u16, start);
+    let n = given_count(words, format);
+    copy_records(words, format, 0, n, out);
+    Trailer::write(out, format, n as u16, start);
 }
 
-// Are so many words four to a rule, and the number of rules in range?
-fn counted(count: usize) -> bool
-    ensures { λ r. ⌜ r ≡ (eqb (count % recordWords) 0 && inLimits mostRules (count / recordWords)) ⌝ }
+// The number of rules in a slice of rule words.
+fn given_count(words: &[u8], format: Format) -> usize
+    ensures { λ r. ⌜ r ≡ givenCount format (now (words .entry)) ⌝ }
 {
-    let n = count / Record::WORDS;
-    (count % Record::WORDS == 0) & ((1 <= n) & (n <= Trailer::MOST_RULES as usize))
+    words::word_count(words) / format.words()
+}
+
+// Are the words four to a rule, or five in a wide plan, and is the number of rules n in range?
+fn counted(words: &[u8], format: Format, n: usize) -> bool
+    ensures { λ r. ⌜ r ≡ (eqb (wordCount (now (words .entry)) % recordWords format) 0 && inLimits mostRules n) ⌝ }
+{
+    (words::word_count(words) % format.words() == 0)
+        & ((1 <= n) & (n <= Trailer::MOST_RULES as usize))
 }
 
 // Seal's answer, for an output of room bytes.
-fn sealing(words: &[u8], start: u16, room: usize) -> Written
-    ensures { λ r. ⌜ ((out : List ℕ) → length out ≡ room → r ≡ sealed (now (words .entry)) start out) ⌝ }
+fn sealing(words: &[u8], format: Format, start: u16, room: usize) -> Written
+    ensures { λ r. ⌜ ((out : List ℕ) → length out ≡ room → r ≡ sealedUpTo mostRules format (now (words .entry)) start out) ⌝ }
 {
-    let count = words::word_count(words);
-    if !counted(count) {
+    let n = given_count(words, format);
+    if !counted(words, format, n) {
         return Written::Refused(Refusal::Count);
     }
-    let n = count / Record::WORDS;
-    match judge(words, 0, n as u16, start) {
+    match judge(words, format, 0, n as u16, start) {
         Judged::Refused(why) => Written::Refused(why),
         Judged::Fine => {
-            let need = Record::LENGTH * n + Trailer::LENGTH;
+            let need = format.length() * n + Trailer::LENGTH;
             if room < need {
                 return Written::Refused(Refusal::Room);
             }

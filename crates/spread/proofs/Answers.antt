@@ -1,5 +1,5 @@
--- The answer for one rule: its nodes are counted, three bytes of room for each decide, and where they are there the rows get their tasks
--- and the rule's text is written. Assumes nothing.
+-- The answer for one rule: its nodes are counted, three bytes of room for each decide, or five where labels are wide, and where they are
+-- there the rows get their tasks and the rule's text is written. Assumes nothing.
 use Prim.Native.Nat.{ℕ, _*_, _/_, _≤_, _<_}
 use native.Mathlib.Omega.{arith}
 use mathlib.Core.Path.{_≡_, refl, sym, ap, _∙_}
@@ -8,6 +8,8 @@ use mathlib.Core.List.{List}
 use lib.ListN.{length}
 use lib.Dec.{leb}
 use borrow.Author.Tests.{leb-true, leb-false, le-leb, lt-leb}
+use Rattle.record.specs.declared.Format.{Format}
+use Rattle.record.specs.Format.{highLength}
 use Rattle.refusal.specs.declared.Refusal.{Refusal}
 use Rattle.rule.specs.declared.Rule.{Rule}
 use Rattle.plan.specs.declared.Written.{Written}
@@ -46,12 +48,32 @@ same-test a b c d f g =
     (λ w. let l : b < a = leb-false a b u in let m : a ≤ b = g (leb-true c d w) in absurd (omega arith))
     (λ w. u ∙ sym w))
 
--- room for three bytes a node
-pub fits-over : (c : Count) (room : ℕ) → (c .over ≡ 0 → ⊥) → room < limit → false ≡ leb (nodeLength * numberOf c) room
-fits-over c room over small = sym (lt-leb (nodeLength * numberOf c) room (omega arith))
+-- a node takes a byte at least
+at-least : (f : Format) (m : ℕ) → m ≤ nodeLength f * m
+at-least f m = omega arith
 
-pub fits-low : (c : Count) (room : ℕ) → c .over ≡ 0 → leb (c .low) (room / 3) ≡ leb (nodeLength * numberOf c) room
-fits-low c room clear = same-test (c .low) (room / 3) (nodeLength * numberOf c) room (λ l. omega arith) (λ l. omega arith)
+-- room for three bytes a node, or five
+pub fits-over : (f : Format) (c : Count) (room : ℕ) → (c .over ≡ 0 → ⊥) → room < limit → false ≡ leb (nodeLength f * numberOf c) room
+fits-over f c room over small = sym (lt-leb (nodeLength f * numberOf c) room (omega (arith, at-least f (numberOf c))))
+
+pub fits-narrow : {f : Format} (c : Count) (room : ℕ) → f ≡ Format.Narrow → c .over ≡ 0 → leb (c .low) (room / 3) ≡ leb (nodeLength f * numberOf c) room
+unfolding highLength
+fits-narrow c room q clear = rw q (same-test (c .low) (room / 3) (3 * numberOf c) room (λ l. omega arith) (λ l. omega arith))
+
+pub fits-wide : {f : Format} (c : Count) (room : ℕ) → f ≡ Format.Wide → c .over ≡ 0 → leb (c .low) (room / 5) ≡ leb (nodeLength f * numberOf c) room
+unfolding highLength
+fits-wide c room q clear = rw q (same-test (c .low) (room / 5) (5 * numberOf c) room (λ l. omega arith) (λ l. omega arith))
+
+-- a capped count asks for too much exactly where the count does, since no output is as long as the cap
+capped-room : (f : Format) (m c room : ℕ) → c ≡ capped m → room < limit → nodeLength f * c ≤ room → nodeLength f * m ≤ room
+unfolding highLength
+capped-room Format.Narrow m c room q small l = omega (arith, q)
+capped-room Format.Wide m c room q small l = omega (arith, q)
+
+capped-short : (f : Format) (m c room : ℕ) → c ≡ capped m → room < nodeLength f * c → room < nodeLength f * m
+unfolding highLength
+capped-short Format.Narrow m c room q l = omega (arith, q)
+capped-short Format.Wide m c room q l = omega (arith, q)
 
 -- from the rows
 module _ {t : List ℕ} {n r : ℕ} (a : Answerable t n r) where
@@ -81,14 +103,13 @@ module _ {t : List ℕ} {n r : ℕ} (a : Answerable t n r) where
   taskable =
       record {
         ready = startable .ready;
-        labels = λ k below. rw (← (first-rule t n k below)) (a .sound .labels k (omega (arith, first-length t n)));
         few = a .few;
       }
 
   -- the rule's text
-  rule-text : says (meant t n r) whole ≡ text (forest (firstRules t n) r)
+  rule-text : (f : Format) → says f (meant t n r) whole ≡ text f (forest (firstRules t n) r)
   unfolding forest
-  rule-text = told closed-good
+  rule-text f = told f closed-good
 
 -- the rows keep their rules, and the order
 answerable-kept : {o w n r : ℕ} {s t : List ℕ} → Besides o w n s t → ownEnd ≤ o → Answerable s n r → Answerable t n r
@@ -115,19 +136,22 @@ module _ {s t : List ℕ} {n r : ℕ} {c : Count} (a : Answerable s n r) (p : Co
   pub tasks-next : Taskable t n
   tasks-next = taskable counted
 
-  pub refused : (out : List ℕ) → leb (nodeLength * numberOf c) (length out) ≡ false → Answered n r (Written.Refused Refusal.Room) s t out out
+  pub refused : (f : Format) (out : List ℕ) → leb (nodeLength f * numberOf c) (length out) ≡ false → Answered f n r (Written.Refused Refusal.Room) s t out out
   unfolding textRoomed outputAfter
-  refused out e =
-      let l : length out < nodeLength * numberOf c = leb-false (nodeLength * numberOf c) (length out) e in
+  refused f out e =
+      let m : ℕ = weigh one (forest (firstRules s n) r) in
+      let short : length out < nodeLength f * numberOf c = leb-false (nodeLength f * numberOf c) (length out) e in
       record {
-        answer = rw (lt-leb (nodeLength * weigh one (forest (firstRules s n) r)) (length out) (omega (arith, nodes)));
+        answer = rw (lt-leb (nodeLength f * m) (length out) (capped-short f m (numberOf c) (length out) nodes short));
         writes = refl;
         within = within-wider 0 (workEnd n) (omega arith) (omega arith) (p .besides .beyond);
       }
 
-  module _ (out : List ℕ) (small : length out < limit) (e : leb (nodeLength * numberOf c) (length out) ≡ true) where
-    enough : nodeLength * weigh one (forest (firstRules s n) r) ≤ length out
-    enough = let l : nodeLength * numberOf c ≤ length out = leb-true (nodeLength * numberOf c) (length out) e in omega (arith, nodes)
+  module _ (f : Format) (out : List ℕ) (small : length out < limit) (e : leb (nodeLength f * numberOf c) (length out) ≡ true) where
+    enough : nodeLength f * weigh one (forest (firstRules s n) r) ≤ length out
+    enough =
+        capped-room f (weigh one (forest (firstRules s n) r)) (numberOf c) (length out) nodes small
+        (leb-true (nodeLength f * numberOf c) (length out) e)
 
     module _ {u : List ℕ} (q : Tasked n t u) where
       tasked : Answerable u n r
@@ -150,23 +174,23 @@ module _ {s t : List ℕ} {n r : ℕ} {c : Count} (a : Answerable s n r) (p : Co
                 (λ k below. sym (besides-rule (q .besides) (omega arith) k) ∙ sym (first-rule u n k below)));
           }
 
-      same-text : says (meant u n r) whole ≡ text (forest (firstRules s n) r)
-      same-text = rule-text tasked ∙ ap (λ (R : List Rule). text (forest R r)) all-same
+      same-text : says f (meant u n r) whole ≡ text f (forest (firstRules s n) r)
+      same-text = rule-text tasked f ∙ ap (λ (R : List Rule). text f (forest R r)) all-same
 
-      pub spreadable : Spreadable u out n r
+      pub spreadable : Spreadable f u out n r
       spreadable =
           record {
             rows-tasked = rows-tasked;
             below = in-rows tasked;
-            fits = rw same-text (omega (arith, text-length (forest (firstRules s n) r), enough));
+            fits = rw same-text (omega (arith, text-length f (forest (firstRules s n) r), enough));
           }
 
-      pub spread-out : {x : ℕ} {w out′ : List ℕ} → Ran n (says (meant u n r) whole) x u w out out′ → Answered n r (Written.Length x) s w out out′
+      pub spread-out : {x : ℕ} {w out′ : List ℕ} → Ran n (says f (meant u n r) whole) x u w out out′ → Answered f n r (Written.Length x) s w out out′
       unfolding textRoomed outputAfter
       spread-out g =
           let h = rw same-text at g in
           record {
-            answer = rw (le-leb (nodeLength * weigh one (forest (firstRules s n) r)) (length out) enough) (ap Written.Length (h .long));
+            answer = rw (le-leb (nodeLength f * weigh one (forest (firstRules s n) r)) (length out) enough) (ap Written.Length (h .long));
             writes = h .writes;
             within =
                 within-both (within-wider 0 (workEnd n) (omega arith) (omega arith) (p .besides .beyond))

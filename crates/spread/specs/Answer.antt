@@ -3,6 +3,7 @@ use Prim.Native.Nat.{ℕ, _≤_}
 use mathlib.Core.Path.{_≡_}
 use mathlib.Core.List.{List}
 use lib.ListN.{length}
+use Rattle.record.specs.declared.Format.{Format}
 use Rattle.plan.specs.declared.Written.{Written}
 use Rattle.rule.specs.Sound.{Sound, Closed}
 use Rattle.plan.specs.Written.{outputAfter}
@@ -24,7 +25,7 @@ pub record Answerable (t : List ℕ) (n r : ℕ) : Type 0 where
   pub room : workEnd n ≤ length t
 
 -- what is answered for it
-pub record Answered (n r : ℕ) (x : Written) (s t out out′ : List ℕ) : Type 0 where
-  pub answer : x ≡ textRoomed (forest (firstRules s n) r) out
-  pub writes : out′ ≡ outputAfter x (text (forest (firstRules s n) r)) out
+pub record Answered (f : Format) (n r : ℕ) (x : Written) (s t out out′ : List ℕ) : Type 0 where
+  pub answer : x ≡ textRoomed f (forest (firstRules s n) r) out
+  pub writes : out′ ≡ outputAfter x (text f (forest (firstRules s n) r)) out
   pub within : Within 0 (workEnd n) s t

@@ -8,30 +8,35 @@ ghost use Rattle.count_capped.specs.Count.{numberOf};
 use count_capped::Count;
 use count_rule::Weight;
 use plan::Checked;
+use plan::Trailer;
 use plan::Written;
+use record::Format;
 use refusal::Refusal;
 
-// Whether the text of a forest with so many nodes fits the output: three bytes a node.
-fn fits(nodes: Count, room: usize) -> bool
-    ensures { λ r. ⌜ r ≡ leb (nodeLength * numberOf nodes) room ⌝ }
+// Whether the text of a forest with so many nodes fits the output: three bytes a node, or five where labels are wide.
+fn fits(nodes: Count, room: usize, format: Format) -> bool
+    ensures { λ r. ⌜ r ≡ leb (nodeLength format * numberOf nodes) room ⌝ }
 {
     if nodes.over != 0 {
         return false;
     }
-    nodes.low <= (room as u64) / 3
+    match format {
+        Format::Narrow => nodes.low <= (room as u64) / 3,
+        Format::Wide => nodes.low <= (room as u64) / 5,
+    }
 }
 
 // The answer for rule r of the rules in the rows: measured first, then written.
-fn answer(work: &mut [u8], out: &mut [u8], n: u16, r: u16) -> Written
+fn answer(work: &mut [u8], out: &mut [u8], n: u16, r: u16, format: Format) -> Written
     requires { ⌜ Answerable (now work) n r ⌝ }
-    ensures { λ x. ⌜ Answered n r x (now (work .entry)) (now (work .exit)) (now (out .entry)) (now (out .exit)) ⌝ }
+    ensures { λ x. ⌜ Answered format n r x (now (work .entry)) (now (work .exit)) (now (out .entry)) (now (out .exit)) ⌝ }
 {
     let nodes = count_passes::total(work, n, r, Weight::Node);
-    if !fits(nodes, out.len()) {
+    if !fits(nodes, out.len(), format) {
         return Written::Refused(Refusal::Room);
     }
     spread_stack::task_rows(work, n);
-    Written::Length(spread_stack::spread_rule(work, out, n, r))
+    Written::Length(spread_stack::spread_rule(work, out, n, r, format))
 }
 
 // Spread a plan: its text and the length of it, or why it is turned down.
@@ -42,7 +47,8 @@ pub fn spread(plan: &[u8], work: &mut [u8], out: &mut [u8]) -> Written
 {
     match work_load::load_plan(plan, work) {
         Checked::Accepted { n, start } => {
-            let answer = answer(work, out, n, start);
+            let format = Trailer::format(plan);
+            let answer = answer(work, out, n, start, format);
             work_rows::clear_work(work, n);
             answer
         }

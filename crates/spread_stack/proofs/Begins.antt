@@ -5,6 +5,7 @@ use native.Mathlib.Omega.{arith}
 use mathlib.Core.Path.{_≡_, sym, ap, _∙_}
 use mathlib.Core.List.{List, [], append-nil}
 use lib.ListN.{length}
+use Rattle.record.specs.declared.Format.{Format}
 use Rattle.forest.specs.Expression.{Expression, expression}
 use Rattle.forest.specs.Sizes.{height}
 use Rattle.forest.proofs.Unfold.{height-expression}
@@ -36,7 +37,7 @@ rows-tasked-kept s t n w a =
       tasks = λ k below. task-kept n (workEnd n) w k below ∙ a .tasks k below ∙ ap (λ (E : ℕ → Expression). taskIn (E k)) (sym (meant-kept s t n w));
     }
 
-module _ {n r v k : ℕ} {s t out : List ℕ} (a : Spreadable s out n r) (q : v ≡ tasksAt s r) (p : Pushed (stackAt n) 0 v k s t) where
+module _ {f : Format} {n r v k : ℕ} {s t out : List ℕ} (a : Spreadable f s out n r) (q : v ≡ tasksAt s r) (p : Pushed (stackAt n) 0 v k s t) where
   changed : Within (stackAt n) (workEnd n) s t
   changed = within-wider (stackAt n) (workEnd n) (omega arith) (omega (arith, a .rows-tasked .least)) (p .within)
 
@@ -55,13 +56,13 @@ module _ {n r v k : ℕ} {s t out : List ℕ} (a : Spreadable s out n r) (q : v 
       let h : height (meant s n r) ≤ length (firstRules s n) = height-expression (firstRules s n) r in
       fit-whole (meant s n) n (2 * n) 0 v (meant s n r) stood (omega (arith, first-length s n))
 
-  begun : stackText t n k ≡ says (meant s n r) whole
+  begun : stackText f t n k ≡ says f (meant s n r) whole
   unfolding tasksText
   begun =
       rw (same, only)
-      (add-text (meant s n) v [] ∙ append-nil (taskText (meant s n) v) ∙ stood .text)
+      (add-text f (meant s n) v [] ∙ append-nil (taskText f (meant s n) v) ∙ stood .text f)
 
-  pub runnable : Runnable t out n k
+  pub runnable : Runnable f t out n k
   runnable =
       record {
         rows-tasked = rows-tasked-kept s t n changed (a .rows-tasked);
@@ -69,5 +70,5 @@ module _ {n r v k : ℕ} {s t out : List ℕ} (a : Spreadable s out n r) (q : v 
         fits = rw begun (a .fits);
       }
 
-  pub spread-all : {x : ℕ} {u out′ : List ℕ} → Ran n (stackText t n k) x t u out out′ → Ran n (says (meant s n r) whole) x s u out out′
+  pub spread-all : {x : ℕ} {u out′ : List ℕ} → Ran n (stackText f t n k) x t u out out′ → Ran n (says f (meant s n r) whole) x s u out out′
   spread-all g = let h = rw begun at g in record { long = h .long; writes = h .writes; within = within-both changed (h .within) }

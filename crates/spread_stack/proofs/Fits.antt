@@ -7,6 +7,7 @@ use mathlib.Core.List.{List, [], _++_, append-assoc}
 use lib.Dec.{eqb}
 use lib.ListN.{length}
 use borrow.Author.Tests.{eqb-true, eqb-false}
+use Rattle.record.specs.declared.Format.{Format}
 use Rattle.rule.specs.declared.Rule.{Rule}
 use Rattle.forest.specs.Expression.{Expression, rhs}
 use Rattle.forest.specs.Sizes.{height}
@@ -20,20 +21,27 @@ use Rattle.spread_stack.specs.Run.{Fit, Stacked, on}
 use Rattle.spread_step.proofs.Tasks.{by-test, text-none, turns-none, height-part, height-close, Stands}
 use Rattle.spread_step.proofs.Steps.{stepText, stepTurns}
 
-module _ (E : ℕ → Expression) where
-  no-text : (v : ℕ) → v ≡ noTask → taskText E v ≡ []
-  no-text v q = ap (taskText E) q ∙ text-none E
+-- a task more, and those of a step: the text in a format
+module _ (f : Format) (E : ℕ → Expression) where
+  no-text : (v : ℕ) → v ≡ noTask → taskText f E v ≡ []
+  no-text v q = ap (taskText f E) q ∙ text-none f E
 
-  no-turns : (v : ℕ) → v ≡ noTask → taskTurns E v ≡ 0
-  no-turns v q = ap (taskTurns E) q ∙ turns-none E
-
-  -- a task more
-  pub add-text : (v : ℕ) (vs : List ℕ) → tasksText E (addTask v vs) ≡ taskText E v ++ tasksText E vs
+  pub add-text : (v : ℕ) (vs : List ℕ) → tasksText f E (addTask v vs) ≡ taskText f E v ++ tasksText f E vs
   unfolding addTask tasksText
   add-text v vs =
       by-test (eqb v noTask)
-      (λ u. rw u (ap (λ (l : List ℕ). l ++ tasksText E vs) (sym (no-text v (eqb-true v noTask u)))))
+      (λ u. rw u (ap (λ (l : List ℕ). l ++ tasksText f E vs) (sym (no-text v (eqb-true v noTask u)))))
       (λ u. rw u)
+
+  pub adds-text : (x : Step) (vs : List ℕ) → tasksText f E (addTasks x vs) ≡ stepText f E x ++ tasksText f E vs
+  unfolding addTasks stepText
+  adds-text x vs =
+      rw (add-text (x .high) (addTask (x .mid) (addTask (x .low) vs)), add-text (x .mid) (addTask (x .low) vs), add-text (x .low) vs) (simp append-assoc)
+
+-- how many tasks there are
+module _ (E : ℕ → Expression) where
+  no-turns : (v : ℕ) → v ≡ noTask → taskTurns E v ≡ 0
+  no-turns v q = ap (taskTurns E) q ∙ turns-none E
 
   add-turns : (v : ℕ) (vs : List ℕ) → tasksTurns E (addTask v vs) ≡ taskTurns E v + tasksTurns E vs
   unfolding addTask tasksTurns
@@ -41,11 +49,6 @@ module _ (E : ℕ → Expression) where
       by-test (eqb v noTask)
       (λ u. rw u (let z : taskTurns E v ≡ 0 = no-turns v (eqb-true v noTask u) in omega arith))
       (λ u. rw u)
-
-  pub adds-text : (x : Step) (vs : List ℕ) → tasksText E (addTasks x vs) ≡ stepText E x ++ tasksText E vs
-  unfolding addTasks stepText
-  adds-text x vs =
-      rw (add-text (x .high) (addTask (x .mid) (addTask (x .low) vs)), add-text (x .mid) (addTask (x .low) vs), add-text (x .low) vs) (simp append-assoc)
 
   pub adds-turns : (x : Step) (vs : List ℕ) → tasksTurns E (addTasks x vs) ≡ stepTurns E x + tasksTurns E vs
   unfolding addTasks stepTurns

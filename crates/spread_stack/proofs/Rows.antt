@@ -1,13 +1,11 @@
--- What a step needs to know of the rows: each rule's task stands for it, its expression unfolds, the rules that it names have rows, its
--- label is a byte. What is written past the rows changes none of it. Assumes nothing.
+-- What a step needs to know of the rows: each rule's task stands for it, its expression unfolds, the rules that it names have rows. What
+-- is written past the rows changes none of it. Assumes nothing.
 use Prim.Native.Nat.{ℕ, _<_}
 use native.Mathlib.Omega.{arith}
 use mathlib.Core.Path.{_≡_, ap, subst, _∙_}
 use mathlib.Core.List.{List}
 use lib.ListN.{length}
-use lib.Dec.{T}
 use Rattle.rule.specs.declared.Rule.{Rule}
-use Rattle.rule.specs.Rule.{labelled}
 use Rattle.rule.specs.Names.{Names}
 use Rattle.record.specs.Record.{wordLength}
 use Rattle.rule.specs.Sound.{rule, Sound}
@@ -26,7 +24,6 @@ pub record View (E : ℕ → Expression) (n : ℕ) (t : List ℕ) : Type 0 where
   pub stood : (k : ℕ) → k < n → Stands E n (tasksAt t k) (E k)
   pub unfolds : (k : ℕ) → k < n → E k ≡ rhs k (ruleIn t k) E
   pub named : (k : ℕ) → k < n → (j : ℕ) → Names (ruleIn t k) j → j < n
-  pub labels : (k : ℕ) → k < n → T (labelled (ruleIn t k))
 
 pub view : (s : List ℕ) (n : ℕ) → RowsTasked s n → View (meant s n) n s
 view s n a =
@@ -36,7 +33,6 @@ view s n a =
       unfolds = λ k below. rw (← (first-rule s n k below)) (unfolding-equation (a .sound) k (omega arith));
       named = λ k below j m.
           let l : j < length (firstRules s n) = named-below (a .sound) k j (omega arith) (rw (first-rule s n k below) m) in omega arith;
-      labels = λ k below. rw (← (first-rule s n k below)) (a .sound .labels k (omega arith));
     }
 
 -- rows below what has changed
@@ -52,7 +48,6 @@ view-kept n e w a =
       stood = λ k below. rw (task-kept n e w k below) (a .stood k below);
       unfolds = λ k below. rw (rule-kept n e w k below) (a .unfolds k below);
       named = λ k below. rw (rule-kept n e w k below) (a .named k below);
-      labels = λ k below. rw (rule-kept n e w k below) (a .labels k below);
     }
 
 -- the tasks of expressions obey the recurrence of tasks

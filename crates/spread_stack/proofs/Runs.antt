@@ -7,6 +7,7 @@ use mathlib.Core.Path.{_≡_, refl, sym, ap, ap₂, _∙_}
 use mathlib.Core.List.{List, _∷_, _++_, append-assoc, append-nil}
 use lib.ListN.{length, take, drop, length-append, length-drop, take-append-drop}
 use lib.Seq.{length-take-le, take-at, drop-append-add, drop-drop}
+use Rattle.record.specs.declared.Format.{Format}
 use Rattle.record.specs.Record.{wordLength}
 use Rattle.words.specs.Front.{inFront}
 use Rattle.forest.specs.Expression.{Expression}
@@ -32,16 +33,16 @@ tasks-length t from zero = refl
 tasks-length t from (suc k) = ap suc (tasks-length t from k)
 
 -- the loop so far; s and out₀ are work and output where it begins, with the first tasks on the stack
-pub record Running (n first : ℕ) (s out₀ t out : List ℕ) (k at : ℕ) : Type 0 where
+pub record Running (f : Format) (n first : ℕ) (s out₀ t out : List ℕ) (k at : ℕ) : Type 0 where
   pub within : Within (stackAt n) (workEnd n) s t
   pub long : length out ≡ length out₀
   pub far : at ≤ length out
-  pub text : take at out ++ tasksText (meant s n) (tasksIn t (stackAt n) k) ≡ stackText s n first
-  pub rest : drop (length (stackText s n first)) out ≡ drop (length (stackText s n first)) out₀
+  pub text : take at out ++ tasksText f (meant s n) (tasksIn t (stackAt n) k) ≡ stackText f s n first
+  pub rest : drop (length (stackText f s n first)) out ≡ drop (length (stackText f s n first)) out₀
   pub stacked : Stacked (meant s n) n (2 * n) (tasksIn t (stackAt n) k)
 
-pub running-start : (n first : ℕ) (s out : List ℕ) → Runnable s out n first → Running n first s out s out first 0
-running-start n first s out a =
+pub running-start : (f : Format) (n first : ℕ) (s out : List ℕ) → Runnable f s out n first → Running f n first s out s out first 0
+running-start f n first s out a =
     record {
       within = within-none (stackAt n) (workEnd n) s;
       long = refl;
@@ -56,7 +57,7 @@ stacked-top : {E : ℕ → Expression} {n H v : ℕ} {vs : List ℕ} → Stacked
     → ((v ≡ closeTask → ⊥) → v / parts < n) × (length vs ≤ H)
 stacked-top {E} {H = H} {v = v} {vs = vs} (on some a s) = (a .reads some, let l : length vs + 2 * taskHeight E v ≤ H = a .low some in omega arith)
 
-module _ {n first : ℕ} {s out₀ t out : List ℕ} {k at : ℕ} (a : Runnable s out₀ n first) (p : Running n first s out₀ t out k at) (some : 0 < k) where
+module _ {f : Format} {n first : ℕ} {s out₀ t out : List ℕ} {k at : ℕ} (a : Runnable f s out₀ n first) (p : Running f n first s out₀ t out k at) (some : 0 < k) where
   top-task : ℕ
   top-task = taskOver t (stackAt n) (k - 1)
 
@@ -71,21 +72,21 @@ module _ {n first : ℕ} {s out₀ t out : List ℕ} {k at : ℕ} (a : Runnable 
   rows = view-kept n (workEnd n) (p .within) (view s n (a .rows-tasked))
 
   -- the turn that follows, on the model
-  turned : Turned (meant s n) n (2 * n) top-task below-top (stepIn t top-task)
+  turned : Turned f (meant s n) n (2 * n) top-task below-top (stepIn t top-task)
   turned =
-      turn (meant s n) n (2 * n) (tasksAt t) (ruleIn t) (rows .stood) (rows .unfolds) (rows .named) top-task below-top top-stacked
+      turn f (meant s n) n (2 * n) (tasksAt t) (ruleIn t) (rows .stood) (rows .unfolds) (rows .named) top-task below-top top-stacked
 
-  top-text : take at out ++ (saidBytes ((stepIn t top-task) .said) ++ tasksText (meant s n) (addTasks (stepIn t top-task) below-top)) ≡ stackText s n first
+  top-text : take at out ++ (saidBytes f ((stepIn t top-task) .said) ++ tasksText f (meant s n) (addTasks (stepIn t top-task) below-top)) ≡ stackText f s n first
   unfolding top-task below-top
   top-text =
-      ap (λ (l : List ℕ). take at out ++ l) (sym (turned .text) ∙ ap (tasksText (meant s n)) (sym (tasks-top t (stackAt n) k some)))
+      ap (λ (l : List ℕ). take at out ++ l) (sym (turned .text) ∙ ap (tasksText f (meant s n)) (sym (tasks-top t (stackAt n) k some)))
       ∙ p .text
 
   -- its bytes end within the text
-  next-far : at + length (saidBytes ((stepIn t top-task) .said)) ≤ length (stackText s n first)
+  next-far : at + length (saidBytes f ((stepIn t top-task) .said)) ≤ length (stackText f s n first)
   next-far =
       let l : length (take at out) ≡ at = length-take-le at out (p .far) in
-      let e : length (take at out ++ (saidBytes ((stepIn t top-task) .said) ++ tasksText (meant s n) (addTasks (stepIn t top-task) below-top))) ≡ length (stackText s n first) = ap length top-text in
+      let e : length (take at out ++ (saidBytes f ((stepIn t top-task) .said) ++ tasksText f (meant s n) (addTasks (stepIn t top-task) below-top))) ≡ length (stackText f s n first) = ap length top-text in
       omega (arith, simp length-append at e)
 
   -- and its tasks within the work
@@ -95,7 +96,7 @@ module _ {n first : ℕ} {s out₀ t out : List ℕ} {k at : ℕ} (a : Runnable 
       let height : length below-top ≡ k - 1 = unfold below-top in tasks-length t (stackAt n) (k - 1) in
       omega (arith, a .rows-tasked .least)
 
-  pub turnable : Turnable t out (stackAt n) (k - 1) at
+  pub turnable : Turnable f t out (stackAt n) (k - 1) at
   unfolding top-task
   turnable =
       let l : length t ≡ length s = p .within .same-length in
@@ -106,7 +107,6 @@ module _ {n first : ℕ} {s out₀ t out : List ℕ} {k at : ℕ} (a : Runnable 
             record {
               room = omega arith;
               named = λ j m. let l : j < n = rows .named (top-task / parts) below j m in (omega arith, omega (arith, a .rows-tasked .few));
-              labels = rows .labels (top-task / parts) below;
               few = omega (arith, a .rows-tasked .few);
             };
         stack = omega (arith, stack-below);
@@ -146,23 +146,23 @@ module _ (out : List ℕ) (at : ℕ) (bs : List ℕ) (fits : at + length bs ≤ 
       ∙ drop-drop (m - (at + length bs)) (at + length bs) out
       ∙ ap (λ (i : ℕ). drop i out) d
 
-module _ {n first : ℕ} {s out₀ t out u out′ : List ℕ} {k at : ℕ} {x : State} (a : Runnable s out₀ n first) (p : Running n first s out₀ t out k at) (some : 0 < k)
-    (made : TurnMade (stackAt n) (k - 1) at x t u out out′) where
+module _ {f : Format} {n first : ℕ} {s out₀ t out u out′ : List ℕ} {k at : ℕ} {x : State} (a : Runnable f s out₀ n first) (p : Running f n first s out₀ t out k at) (some : 0 < k)
+    (made : TurnMade f (stackAt n) (k - 1) at x t u out out′) where
   said : List ℕ
-  said = saidBytes ((stepIn t (taskOver t (stackAt n) (k - 1))) .said)
+  said = saidBytes f ((stepIn t (taskOver t (stackAt n) (k - 1))) .said)
 
   roomy : at + length said ≤ length out
   unfolding said
   roomy = turnable a p some .fits
 
-  next-text : take (x .at) out′ ++ tasksText (meant s n) (tasksIn u (stackAt n) (x .tasks)) ≡ stackText s n first
+  next-text : take (x .at) out′ ++ tasksText f (meant s n) (tasksIn u (stackAt n) (x .tasks)) ≡ stackText f s n first
   unfolding said
   next-text =
       rw (made .moves, made .writes, made .tasks, written-take out at said roomy)
-      (append-assoc (take at out) said (tasksText (meant s n) (addTasks (stepIn t (taskOver t (stackAt n) (k - 1))) (tasksIn t (stackAt n) (k - 1))))
+      (append-assoc (take at out) said (tasksText f (meant s n) (addTasks (stepIn t (taskOver t (stackAt n) (k - 1))) (tasksIn t (stackAt n) (k - 1))))
       ∙ (unfold top-task below-top in top-text a p some))
 
-  pub running-more : Running n first s out₀ u out′ (x .tasks) (x .at)
+  pub running-more : Running f n first s out₀ u out′ (x .tasks) (x .at)
   unfolding said top-task below-top
   running-more =
       let moves : x .at ≡ at + length said = made .moves in
@@ -173,7 +173,7 @@ module _ {n first : ℕ} {s out₀ t out u out′ : List ℕ} {k at : ℕ} {x : 
         long = long ∙ p .long;
         far = let r : at + length said ≤ length out = roomy in omega arith;
         text = next-text;
-        rest = ap (drop (length (stackText s n first))) (made .writes) ∙ written-drop out at said roomy (length (stackText s n first)) (next-far a p some) ∙ p .rest;
+        rest = ap (drop (length (stackText f s n first))) (made .writes) ∙ written-drop out at said roomy (length (stackText f s n first)) (next-far a p some) ∙ p .rest;
         stacked = rw (made .tasks) (turned a p some .stacked);
       }
 
@@ -182,13 +182,13 @@ module _ {n first : ℕ} {s out₀ t out u out′ : List ℕ} {k at : ℕ} {x : 
   running-less = rw (made .tasks, tasks-top t (stackAt n) k some) (turned a p some .turns)
 
 -- no task is left
-pub running-end : {n first : ℕ} {s out₀ t out : List ℕ} {k at : ℕ} → Running n first s out₀ t out k at → k ≤ 0
-    → Ran n (stackText s n first) at s t out₀ out
+pub running-end : {f : Format} {n first : ℕ} {s out₀ t out : List ℕ} {k at : ℕ} → Running f n first s out₀ t out k at → k ≤ 0
+    → Ran n (stackText f s n first) at s t out₀ out
 unfolding tasksIn tasksText inFront
-running-end {n} {first} {s} {out₀} {t} {out} {k} {at} p none =
+running-end {f} {n} {first} {s} {out₀} {t} {out} {k} {at} p none =
     let z : k ≡ 0 = omega arith in
-    let whole : take at out ≡ stackText s n first = sym (append-nil (take at out)) ∙ (rw z at (p .text)) in
-    let far : at ≡ length (stackText s n first) = sym (length-take-le at out (p .far)) ∙ ap length whole in
+    let whole : take at out ≡ stackText f s n first = sym (append-nil (take at out)) ∙ (rw z at (p .text)) in
+    let far : at ≡ length (stackText f s n first) = sym (length-take-le at out (p .far)) ∙ ap length whole in
     record {
       long = far;
       writes =

@@ -1,19 +1,23 @@
 -- The stack in bytes is the list of tasks, the top first: a word written over k tasks leaves those below it, and bytes written to the
 -- output after others leave what stands before and after them. Assumes nothing.
-use Prim.Native.Nat.{ℕ, zero, suc, _+_, _*_, _^_, _≤_, _<_}
+use Prim.Native.Nat.{ℕ, zero, suc, _+_, _*_, _/_, _%_, _^_, _≤_, _<_}
 use native.Mathlib.Nat.{add-zero}
-use native.Mathlib.Numerals.{add-one}
+use native.Mathlib.Numerals.{add-one, add-two}
 use native.Mathlib.Omega.{arith}
 use mathlib.Core.Path.{_≡_, refl, sym, ap, ap₂, _∙_}
 use mathlib.Core.List.{List, [], _∷_, append-assoc}
 use lib.ListN.{length, take, drop, set, take-append-drop}
-use lib.Seq.{sets-eq}
+use lib.Seq.{sets, sets-eq}
 use borrow.Author.Tests.{eq-eqb, ne-eqb}
-use Rattle.words.specs.Number.{base, put}
-use Rattle.words.proofs.Laws.{length-put, put-same, put-other, put-take, put-drop}
+use Rattle.words.specs.Number.{base, bytes, put}
+use Rattle.words.proofs.Laws.{length-bytes, length-put, put-same, put-other, put-take, put-drop}
+use Rattle.record.specs.declared.Format.{Format}
 use Rattle.record.specs.Record.{wordLength}
+use Rattle.record.specs.Format.{highLength, labelLength}
 use Rattle.work_rows.specs.Rows.{Within}
 use Rattle.work_rows.proofs.Rows.{within-none, within-both, within-wider}
+use Rattle.count_passes.specs.Says.{opening, opened}
+use Rattle.spread_step.specs.declared.Said.{Said}
 use Rattle.spread_step.specs.declared.Step.{Step}
 use Rattle.spread_step.specs.Task.{noTask}
 use Rattle.spread_step.specs.Step.{saidBytes, stepIn, Decidable}
@@ -71,29 +75,55 @@ pushed-all {from} {k} {a} {b} x p q r =
 pub says-nothing : (out : List ℕ) (at : ℕ) → out ≡ written out at []
 says-nothing out at = rw (add-zero at) (sym (take-append-drop at out))
 
-pub says-two : (out : List ℕ) (at x y : ℕ) → at + 2 ≤ length out → set (set out at x) (at + 1) y ≡ written out at (x ∷ y ∷ [])
-says-two out at x y fits = rw (add-one at) (sets-eq (x ∷ y ∷ []) out at fits ∙ append-assoc (take at out) (x ∷ y ∷ []) (drop (at + 2) out))
+says-all : (out : List ℕ) (at : ℕ) (bs : List ℕ) → at + length bs ≤ length out → sets out at bs ≡ written out at bs
+says-all out at bs fits = sets-eq bs out at fits ∙ append-assoc (take at out) bs (drop (at + length bs) out)
 
 pub says-one : (out : List ℕ) (at x : ℕ) → at + 1 ≤ length out → set out at x ≡ written out at (x ∷ [])
-says-one out at x fits = sets-eq (x ∷ []) out at fits ∙ append-assoc (take at out) (x ∷ []) (drop (at + 1) out)
+says-one out at x fits = says-all out at (x ∷ []) fits
+
+opened-length : (f : Format) (a : ℕ) → length (opened f a) ≡ 1 + labelLength f
+opened-length f a = omega (arith, length-bytes (labelLength f) a)
+
+-- a node opened: its label's bytes fit behind the first byte, and the two together are what is said
+pub opening-fits : (f : Format) (at m : ℕ) {a : ℕ} {x : Said} → x ≡ Said.Opening a → at + length (saidBytes f x) ≤ m → at + 1 + labelLength f ≤ m
+unfolding saidBytes
+opening-fits f at m {a} q fits = let l : at + length (opened f a) ≤ m = rw q at fits in omega (arith, opened-length f a)
+
+pub opening-said : (f : Format) (at : ℕ) (out : List ℕ) {r a : ℕ} {out′ : List ℕ} {x : Said} → x ≡ Said.Opening a → at + length (saidBytes f x) ≤ length out
+    → (r ≡ at + 1 + labelLength f) × (out′ ≡ put (labelLength f) (set out at opening) (at + 1) a)
+    → (r ≡ at + length (saidBytes f x)) × (out′ ≡ written out at (saidBytes f x))
+unfolding saidBytes put
+opening-said f at out {a = a} q fits p =
+    rw q
+    (omega (arith, p .0, opened-length f a), p .1 ∙ rw (add-one at) (says-all out at (opened f a) (rw q at fits)))
+
+-- a label's bytes, in each format
+pub label-narrow : (out : List ℕ) (at a : ℕ) → set out at (a % base) ≡ put (labelLength Format.Narrow) out at a
+unfolding put bytes highLength
+label-narrow out at a = refl
+
+pub label-wide : (out : List ℕ) (at a : ℕ)
+    → set (set (set out at (a % base)) (at + 1) (a / base % base)) (at + 2) (a / 65536 % base) ≡ put (labelLength Format.Wide) out at a
+unfolding put bytes highLength
+label-wide out at a = let high : a / 65536 ≡ a / base / base = omega arith in rw (add-one at, add-two at, high)
 
 -- a turn's parts put together
-pub turn-made : {from k at v next j : ℕ} {s t out out′ : List ℕ} {x : Step} → v ≡ taskOver s from k → x ≡ stepIn s v
-    → (next ≡ at + length (saidBytes (x .said))) × (out′ ≡ written out at (saidBytes (x .said))) → AllPushed from k x j s t
-    → TurnMade from k at (record { tasks = j; at = next }) s t out out′
-turn-made {from} {k} {at} {s = s} {out = out} {x = x} q r w p =
+pub turn-made : {f : Format} {from k at v next j : ℕ} {s t out out′ : List ℕ} {x : Step} → v ≡ taskOver s from k → x ≡ stepIn s v
+    → (next ≡ at + length (saidBytes f (x .said))) × (out′ ≡ written out at (saidBytes f (x .said))) → AllPushed from k x j s t
+    → TurnMade f from k at (record { tasks = j; at = next }) s t out out′
+turn-made {f} {from} {k} {at} {s = s} {out = out} {x = x} q r w p =
     let e : x ≡ stepIn s (taskOver s from k) = r ∙ ap (stepIn s) q in
     record {
       tasks = p .tasks ∙ ap (λ (y : Step). addTasks y (tasksIn s from k)) e;
       within = p .within;
-      writes = w .1 ∙ ap (λ (y : Step). written out at (saidBytes (y .said))) e;
-      moves = w .0 ∙ ap (λ (y : Step). at + length (saidBytes (y .said))) e;
+      writes = w .1 ∙ ap (λ (y : Step). written out at (saidBytes f (y .said))) e;
+      moves = w .0 ∙ ap (λ (y : Step). at + length (saidBytes f (y .said))) e;
     }
 
 -- what a turn may do, seen at the task that was read and the step that was decided
-pub turn-steps : {from k at v : ℕ} {s out : List ℕ} → Turnable s out from k at → v ≡ taskOver s from k → Decidable s v
+pub turn-steps : {f : Format} {from k at v : ℕ} {s out : List ℕ} → Turnable f s out from k at → v ≡ taskOver s from k → Decidable s v
 turn-steps a q = rw q (a .steps)
 
-pub turn-fits : {from k at v : ℕ} {s out : List ℕ} {x : Step} → Turnable s out from k at → v ≡ taskOver s from k → x ≡ stepIn s v
-    → at + length (saidBytes (x .said)) ≤ length out
+pub turn-fits : {f : Format} {from k at v : ℕ} {s out : List ℕ} {x : Step} → Turnable f s out from k at → v ≡ taskOver s from k → x ≡ stepIn s v
+    → at + length (saidBytes f (x .said)) ≤ length out
 turn-fits a q r = rw (r, q) (a .fits)

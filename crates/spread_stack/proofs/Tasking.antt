@@ -61,7 +61,6 @@ module _ {n i : ℕ} {s t : List ℕ} (a : Taskable s n) (p : Passing n i s t) w
       record {
         room = omega arith;
         few = omega (arith, a .few);
-        labels = rw (besides-rule (p .besides) (omega arith) r) (a .labels r inside);
         named = λ k m. let l : k < n = named-below now r k inside m in (omega arith, omega (arith, a .few));
       }
 

@@ -8,6 +8,7 @@ use mathlib.Core.List.{List, [], _∷_, _++_, append-assoc}
 use lib.Dec.{eqb}
 use lib.ListN.{length}
 use borrow.Author.Tests.{ne-eqb, eqb-false}
+use Rattle.record.specs.declared.Format.{Format}
 use Rattle.rule.specs.declared.Rule.{Rule}
 use Rattle.forest.specs.Expression.{Expression, rhs}
 use Rattle.forest.specs.Sizes.{height}
@@ -34,9 +35,9 @@ module _ {A : Type 0} (none closes : A) (part : ℕ → ℕ → A) (v : ℕ) (so
   is-part u = rw (ne-eqb v noTask some, u)
 
 module _ (E : ℕ → Expression) (v : ℕ) (some : v ≡ noTask → ⊥) (u : eqb v closeTask ≡ false) where
-  part-text : taskText E v ≡ says (E (v / parts)) (v % parts)
+  part-text : (φ : Format) → taskText φ E v ≡ says φ (E (v / parts)) (v % parts)
   unfolding taskText
-  part-text = is-part [] (closing ∷ []) (λ r p. says (E r) p) v some u
+  part-text φ = is-part [] (closing ∷ []) (λ r p. says φ (E r) p) v some u
 
   part-turns : taskTurns E v ≡ turnsIn (E (v / parts))
   unfolding taskTurns
@@ -47,39 +48,39 @@ module _ (E : ℕ → Expression) (v : ℕ) (some : v ≡ noTask → ⊥) (u : e
   part-height = is-part 0 0 (λ r p. height (E r)) v some u
 
 -- what a turn leaves
-pub record Turned (E : ℕ → Expression) (n H v : ℕ) (vs : List ℕ) (x : Step) : Type 0 where
-  pub text : tasksText E (v ∷ vs) ≡ saidBytes (x .said) ++ tasksText E (addTasks x vs)
+pub record Turned (φ : Format) (E : ℕ → Expression) (n H v : ℕ) (vs : List ℕ) (x : Step) : Type 0 where
+  pub text : tasksText φ E (v ∷ vs) ≡ saidBytes φ (x .said) ++ tasksText φ E (addTasks x vs)
   pub turns : tasksTurns E (addTasks x vs) < tasksTurns E (v ∷ vs)
   pub stacked : Stacked E n H (addTasks x vs)
 
 -- from the step's own text, turns and places
-turned : (E : ℕ → Expression) (n H v : ℕ) (vs : List ℕ) (x : Step) → taskText E v ≡ saidBytes (x .said) ++ stepText E x → stepTurns E x < taskTurns E v
-    → Fits E n H (length vs) x → Stacked E n H vs → Turned E n H v vs x
+turned : (φ : Format) (E : ℕ → Expression) (n H v : ℕ) (vs : List ℕ) (x : Step) → taskText φ E v ≡ saidBytes φ (x .said) ++ stepText φ E x
+    → stepTurns E x < taskTurns E v → Fits E n H (length vs) x → Stacked E n H vs → Turned φ E n H v vs x
 unfolding tasksText tasksTurns
-turned E n H v vs x q l f s =
+turned φ E n H v vs x q l f s =
     record {
       text =
-          ap (λ (t : List ℕ). t ++ tasksText E vs) q
-          ∙ append-assoc (saidBytes (x .said)) (stepText E x) (tasksText E vs)
-          ∙ ap (λ (t : List ℕ). saidBytes (x .said) ++ t) (sym (adds-text E x vs));
+          ap (λ (t : List ℕ). t ++ tasksText φ E vs) q
+          ∙ append-assoc (saidBytes φ (x .said)) (stepText φ E x) (tasksText φ E vs)
+          ∙ ap (λ (t : List ℕ). saidBytes φ (x .said) ++ t) (sym (adds-text φ E x vs));
       turns = omega (arith, adds-turns E x vs);
       stacked = adds-stacked E n H x vs (f .at-low) (f .at-mid) (f .at-high) s;
     }
 
-module _ (E : ℕ → Expression) (n H : ℕ) (f : ℕ → ℕ) (X : ℕ → Rule) (S : (k : ℕ) → k < n → Stands E n (f k) (E k))
+module _ (φ : Format) (E : ℕ → Expression) (n H : ℕ) (f : ℕ → ℕ) (X : ℕ → Rule) (S : (k : ℕ) → k < n → Stands E n (f k) (E k))
     (unfolds : (k : ℕ) → k < n → E k ≡ rhs k (X k) E) (names : (k : ℕ) → k < n → (j : ℕ) → Names (X k) j → j < n) where
   turned-close : (v : ℕ) (vs : List ℕ) → (v ≡ noTask → ⊥) → eqb v closeTask ≡ true → Stacked E n H vs
-      → Turned E n H v vs (leaving Said.Closing noTask noTask noTask)
+      → Turned φ E n H v vs (leaving Said.Closing noTask noTask noTask)
   unfolding saidBytes stepText stepTurns taskText taskTurns
   turned-close v vs some u s =
-      turned E n H v vs (leaving Said.Closing noTask noTask noTask)
-      (is-close [] (closing ∷ []) (λ r p. says (E r) p) v some u)
+      turned φ E n H v vs (leaving Said.Closing noTask noTask noTask)
+      (is-close [] (closing ∷ []) (λ r p. says φ (E r) p) v some u)
       (let t : taskTurns E v ≡ 1 = is-close 0 1 (λ r p. turnsIn (E r)) v some u in omega arith)
       (record { at-low = fit-none E n H (length vs); at-mid = fit-none E n H (suc (length vs)); at-high = fit-none E n H (suc (suc (length vs))) })
       s
 
   turned-part : (v : ℕ) (vs : List ℕ) → (v ≡ noTask → ⊥) → eqb v closeTask ≡ false → Fit E n H (length vs) v → Stacked E n H vs
-      → Turned E n H v vs (ruleStep f (v / parts) (v % parts) (X (v / parts)))
+      → Turned φ E n H v vs (ruleStep f (v / parts) (v % parts) (X (v / parts)))
   turned-part v vs some u a s =
       let r : ℕ = v / parts in
       let p : ℕ = v % parts in
@@ -88,14 +89,14 @@ module _ (E : ℕ → Expression) (n H : ℕ) (f : ℕ → ℕ) (X : ℕ → Rul
       let e : E r ≡ rhs r (X r) E = unfolds r below in
       let high : taskHeight E v ≡ height (rhs r (X r) E) = part-height E v some u ∙ ap height e in
       let long : taskTurns E v ≡ turnsIn (rhs r (X r) E) = part-turns E v some u ∙ ap turnsIn e in
-      turned E n H v vs (ruleStep f r p (X r))
-      (part-text E v some u
-      ∙ ap (λ (d : Expression). says d p) e
-      ∙ rule-text E n f S r p (X r) (names r below))
+      turned φ E n H v vs (ruleStep f r p (X r))
+      (part-text E v some u φ
+      ∙ ap (λ (d : Expression). says φ d p) e
+      ∙ rule-text E n f S r p φ (X r) (names r below))
       (omega (arith, rule-turns E n f S r p (X r) (names r below)))
       (rule-fits E n f S r p H (length vs) (X r) (names r below) (omega arith))
       s
 
-  pub turn : (v : ℕ) (vs : List ℕ) → Stacked E n H (v ∷ vs) → Turned E n H v vs (stepOf f X v)
+  pub turn : (v : ℕ) (vs : List ℕ) → Stacked E n H (v ∷ vs) → Turned φ E n H v vs (stepOf f X v)
   unfolding stepOf
   turn v vs (on some a s) = by-test (eqb v closeTask) (λ u. rw u (turned-close v vs some u s)) (λ u. rw u (turned-part v vs some u a s))

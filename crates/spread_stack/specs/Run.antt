@@ -3,9 +3,8 @@ use Prim.Native.Nat.{ℕ, _+_, _*_, _/_, _^_, _≤_, _<_}
 use mathlib.Core.Path.{_≡_}
 use mathlib.Core.List.{List, [], _∷_}
 use lib.ListN.{length}
-use lib.Dec.{T}
 use Rattle.words.specs.Number.{base}
-use Rattle.rule.specs.Rule.{labelled}
+use Rattle.record.specs.declared.Format.{Format}
 use Rattle.record.specs.Record.{wordLength}
 use Rattle.rule.specs.Sound.{Sound}
 use Rattle.words.specs.Front.{inFront}
@@ -41,7 +40,6 @@ workEnd n = workLength * n
 -- the rows of n rules can be given their tasks, in the order that is kept behind them
 pub record Taskable (t : List ℕ) (n : ℕ) : Type 0 where
   pub ready : Ready t n
-  pub labels : (r : ℕ) → r < n → T (labelled (ruleIn t r))
   pub few : n ≤ taskLimit
 
 -- row r is given its task
@@ -68,14 +66,14 @@ pub record RowsTasked (t : List ℕ) (n : ℕ) : Type 0 where
   pub tasks : (k : ℕ) → k < n → tasksAt t k ≡ taskIn (meant t n k)
 
 -- the text of k tasks
-abbrev pub stackText : List ℕ → ℕ → ℕ → List ℕ
-stackText t n k = tasksText (meant t n) (tasksIn t (stackAt n) k)
+abbrev pub stackText : Format → List ℕ → ℕ → ℕ → List ℕ
+stackText f t n k = tasksText f (meant t n) (tasksIn t (stackAt n) k)
 
 -- the k tasks can be run: each fits the stack, and their text the output
-pub record Runnable (t out : List ℕ) (n k : ℕ) : Type 0 where
+pub record Runnable (f : Format) (t out : List ℕ) (n k : ℕ) : Type 0 where
   pub rows-tasked : RowsTasked t n
   pub stacked : Stacked (meant t n) n (2 * n) (tasksIn t (stackAt n) k)
-  pub fits : length (stackText t n k) ≤ length out
+  pub fits : length (stackText f t n k) ≤ length out
 
 -- a text is written to the front of the output; of work nothing has changed but the stack
 pub record Ran (n : ℕ) (text : List ℕ) (x : ℕ) (s t out out′ : List ℕ) : Type 0 where
@@ -84,7 +82,7 @@ pub record Ran (n : ℕ) (text : List ℕ) (x : ℕ) (s t out out′ : List ℕ)
   pub within : Within (stackAt n) (workEnd n) s t
 
 -- rule r can be spread
-pub record Spreadable (t out : List ℕ) (n r : ℕ) : Type 0 where
+pub record Spreadable (f : Format) (t out : List ℕ) (n r : ℕ) : Type 0 where
   pub rows-tasked : RowsTasked t n
   pub below : r < n
-  pub fits : length (says (meant t n r) whole) ≤ length out
+  pub fits : length (says f (meant t n r) whole) ≤ length out

@@ -7,6 +7,7 @@ use mathlib.Core.List.{List, [], _∷_, _++_}
 use lib.ListN.{length, take, drop}
 use lib.Dec.{eqb}
 use Rattle.words.specs.Number.{number}
+use Rattle.record.specs.declared.Format.{Format}
 use Rattle.record.specs.Record.{wordLength}
 use Rattle.forest.specs.Expression.{Expression}
 use Rattle.work_rows.specs.Rows.{Within}
@@ -16,9 +17,9 @@ use Rattle.spread_step.specs.Task.{noTask, taskText, taskTurns}
 use Rattle.spread_step.specs.Step.{saidBytes, Decidable, stepIn}
 
 -- the text of a stack, and how many tasks it comes to
-unfoldable pub tasksText : (ℕ → Expression) → List ℕ → List ℕ
-tasksText E [] = []
-tasksText E (v ∷ vs) = taskText E v ++ tasksText E vs
+unfoldable pub tasksText : Format → (ℕ → Expression) → List ℕ → List ℕ
+tasksText f E [] = []
+tasksText f E (v ∷ vs) = taskText f E v ++ tasksText f E vs
 
 unfoldable pub tasksTurns : (ℕ → Expression) → List ℕ → ℕ
 tasksTurns E [] = 0
@@ -54,18 +55,18 @@ abbrev pub taskOver : List ℕ → ℕ → ℕ → ℕ
 taskOver t from k = number wordLength t (from + wordLength * k)
 
 -- a turn may be made: the task over k others can be read, its bytes fit the output after at others, its tasks fit the stack
-pub record Turnable (t out : List ℕ) (from k at : ℕ) : Type 0 where
+pub record Turnable (f : Format) (t out : List ℕ) (from k at : ℕ) : Type 0 where
   pub steps : Decidable t (taskOver t from k)
   pub stack : from + wordLength * (k + 3) ≤ length t
-  pub fits : at + length (saidBytes ((stepIn t (taskOver t from k)) .said)) ≤ length out
+  pub fits : at + length (saidBytes f ((stepIn t (taskOver t from k)) .said)) ≤ length out
 
 -- bytes written after at others
 abbrev pub written : List ℕ → ℕ → List ℕ → List ℕ
 written out at bs = take at out ++ (bs ++ drop (at + length bs) out)
 
 -- after a turn
-pub record TurnMade (from k at : ℕ) (x : State) (s t out out′ : List ℕ) : Type 0 where
+pub record TurnMade (f : Format) (from k at : ℕ) (x : State) (s t out out′ : List ℕ) : Type 0 where
   pub tasks : tasksIn t from (x .tasks) ≡ addTasks (stepIn s (taskOver s from k)) (tasksIn s from k)
   pub within : Within from (from + wordLength * (k + 3)) s t
-  pub writes : out′ ≡ written out at (saidBytes ((stepIn s (taskOver s from k)) .said))
-  pub moves : x .at ≡ at + length (saidBytes ((stepIn s (taskOver s from k)) .said))
+  pub writes : out′ ≡ written out at (saidBytes f ((stepIn s (taskOver s from k)) .said))
+  pub moves : x .at ≡ at + length (saidBytes f ((stepIn s (taskOver s from k)) .said))

@@ -2,11 +2,14 @@
 ghost use mathlib.Core.Path.{_≡_};
 ghost use Prim.Native.Nat.{_+_, _*_, _≤_};
 ghost use lib.ListN.{length};
+ghost use Rattle.words.specs.Number.{put};
+ghost use Rattle.record.specs.Format.{labelLength};
 ghost use Rattle.work_rows.specs.Rows.{ruleIn};
 ghost use Rattle.spread_step.specs.Step.{saidBytes, Steppable};
 ghost use Rattle.spread_stack.specs.Stack.{written, Pushed, AllPushed, Turnable, TurnMade};
 ghost use Rattle.spread_stack.specs.Run.{meant, stackText, Taskable, TaskPut, Tasked, Runnable, Ran, Spreadable};
 ghost use Rattle.count_passes.specs.Says.{whole, says};
+use record::Format;
 use spread_step::Said;
 use spread_step::Step;
 use work_rows::Row;
@@ -39,19 +42,36 @@ fn push_all(work: &mut [u8], from: usize, k: usize, step: Step) -> usize
     push(work, from, two, step.high)
 }
 
-// A step's bytes written after at others; how many there are then.
-fn say(out: &mut [u8], at: usize, said: Said) -> usize
-    requires { ⌜ at + length (saidBytes said) ≤ length (now out) ⌝ }
+// A label's bytes, low first, written after at others: one, or three of a wide label; how many there are then.
+fn put_label(out: &mut [u8], at: usize, label: u32, format: Format) -> usize
+    requires { ⌜ at + labelLength format ≤ length (now out) ⌝ }
     ensures { λ r.
-        ⌜ (r ≡ at + length (saidBytes said))
-        × (now (out .exit) ≡ written (now (out .entry)) at (saidBytes said)) ⌝ }
+        ⌜ (r ≡ at + labelLength format)
+        × (now (out .exit) ≡ put (labelLength format) (now (out .entry)) at label) ⌝ }
+{
+    out[at] = (label % 256) as u8;
+    match format {
+        Format::Narrow => at + 1,
+        Format::Wide => {
+            out[at + 1] = (label / 256 % 256) as u8;
+            out[at + 2] = (label / 65536 % 256) as u8;
+            at + 3
+        }
+    }
+}
+
+// A step's bytes written after at others; how many there are then.
+fn say(out: &mut [u8], at: usize, said: Said, format: Format) -> usize
+    requires { ⌜ at + length (saidBytes format said) ≤ length (now out) ⌝ }
+    ensures { λ r.
+        ⌜ (r ≡ at + length (saidBytes format said))
+        × (now (out .exit) ≡ written (now (out .entry)) at (saidBytes format said)) ⌝ }
 {
     match said {
         Said::Nothing => at,
         Said::Opening(label) => {
             out[at] = Step::OPENING;
-            out[at + 1] = label;
-            at + 2
+            put_label(out, at + 1, label, format)
         }
         Said::Closing => {
             out[at] = Step::CLOSING;
@@ -61,19 +81,19 @@ fn say(out: &mut [u8], at: usize, said: Said) -> usize
 }
 
 // One turn: the task over k others is replaced by what it comes to.
-fn turn(work: &mut [u8], out: &mut [u8], from: usize, k: usize, at: usize) -> State
-    requires { ⌜ Turnable (now work) (now out) from k at ⌝ }
+fn turn(work: &mut [u8], out: &mut [u8], from: usize, k: usize, at: usize, format: Format) -> State
+    requires { ⌜ Turnable format (now work) (now out) from k at ⌝ }
     ensures { λ x.
         let work′ = now (work .exit) in
         let out′ = now (out .exit) in
         let work = now (work .entry) in
         let out = now (out .entry) in
-        ⌜ TurnMade from k at x work work′ out out′ ⌝ }
+        ⌜ TurnMade format from k at x work work′ out out′ ⌝ }
 {
     let task = words::read16(work, from + 2 * k);
     let step = spread_step::decide(work, task);
     let said = step.said;
-    let next = say(out, at, said);
+    let next = say(out, at, said, format);
     let tasks = push_all(work, from, k, step);
     State { tasks, at: next }
 }
@@ -101,17 +121,17 @@ pub fn task_rows(work: &mut [u8], n: u16)
 }
 
 // The tasks on the stack, done one after the other; how many bytes they wrote.
-fn run(work: &mut [u8], out: &mut [u8], n: u16, first: usize) -> usize
-    requires { ⌜ Runnable (now work) (now out) n first ⌝ }
+fn run(work: &mut [u8], out: &mut [u8], n: u16, first: usize, format: Format) -> usize
+    requires { ⌜ Runnable format (now work) (now out) n first ⌝ }
     ensures { λ x.
-        let text = stackText (now (work .entry)) n first in
+        let text = stackText format (now (work .entry)) n first in
         ⌜ Ran n text x (now (work .entry)) (now (work .exit)) (now (out .entry)) (now (out .exit)) ⌝ }
 {
     let from = Row::LENGTH * (n as usize);
     let mut k = first;
     let mut at: usize = 0;
     while 0 < k {
-        let state = turn(work, out, from, k - 1, at);
+        let state = turn(work, out, from, k - 1, at, format);
         k = state.tasks;
         at = state.at;
     }
@@ -119,13 +139,13 @@ fn run(work: &mut [u8], out: &mut [u8], n: u16, first: usize) -> usize
 }
 
 // The text of rule r, written to the front of the output; its length.
-pub fn spread_rule(work: &mut [u8], out: &mut [u8], n: u16, r: u16) -> usize
-    requires { ⌜ Spreadable (now work) (now out) n r ⌝ }
+pub fn spread_rule(work: &mut [u8], out: &mut [u8], n: u16, r: u16, format: Format) -> usize
+    requires { ⌜ Spreadable format (now work) (now out) n r ⌝ }
     ensures { λ x.
-        let text = says (meant (now (work .entry)) n r) whole in
+        let text = says format (meant (now (work .entry)) n r) whole in
         ⌜ Ran n text x (now (work .entry)) (now (work .exit)) (now (out .entry)) (now (out .exit)) ⌝ }
 {
     let task = spread_step::whole(work, r);
     let k = push(work, Row::LENGTH * (n as usize), 0, task);
-    run(work, out, n, k)
+    run(work, out, n, k, format)
 }

@@ -4,9 +4,7 @@ use native.Mathlib.Omega.{arith}
 use mathlib.Core.Path.{_≡_}
 use mathlib.Core.List.{List}
 use lib.ListN.{length}
-use lib.Dec.{leb→le}
 use Rattle.rule.specs.declared.Rule.{Rule}
-use Rattle.rule.specs.Rule.{labelled}
 use Rattle.rule.specs.Names.{Names}
 use Rattle.work_rows.specs.Rows.{rowLength}
 use Rattle.spread_step.specs.Task.{taskLimit}
@@ -21,12 +19,3 @@ named-room h k m = omega (arith, h .named k m .0)
 
 pub named-few : {t : List ℕ} {r : ℕ} {x : Rule} → Steppable t r x → (k : ℕ) → Names x k → k < taskLimit
 named-few h k m = h .named k m .1
-
--- the labels of a node and of a part
-pub node-label : {t : List ℕ} {r a c : ℕ} → Steppable t r (Rule.Node a c) → a < 256
-unfolding labelled
-node-label {a = a} h = let l : a ≤ 255 = leb→le a 255 (h .labels) in omega arith
-
-pub part-label : {t : List ℕ} {r a b c : ℕ} → Steppable t r (Rule.Part a b c) → a < 256
-unfolding labelled
-part-label {a = a} h = let l : a ≤ 255 = leb→le a 255 (h .labels) in omega arith

@@ -5,6 +5,7 @@ use native.Mathlib.Omega.{arith}
 use mathlib.Core.Path.{_≡_}
 use mathlib.Core.List.{List, _++_}
 use lib.Dec.{eqb}
+use Rattle.record.specs.declared.Format.{Format}
 use Rattle.rule.specs.declared.Rule.{Rule}
 use Rattle.forest.specs.Expression.{Expression, rhs}
 use Rattle.rule.specs.Names.{Names, pair-one, pair-two, node-one, fill-two, part-one, part-two}
@@ -14,33 +15,32 @@ use Rattle.spread_step.specs.Task.{taskText, turnsIn, taskTurns}
 use Rattle.spread_step.specs.Step.{saidBytes, ruleStep}
 use Rattle.spread_step.proofs.Tasks.{by-test, text-part, text-close, text-none, turns-part, turns-close, turns-none, Stands}
 
-module _ (E : ℕ → Expression) where
-  -- the tasks of a step
-  unfoldable pub stepText : Step → List ℕ
-  stepText x = taskText E (x .high) ++ (taskText E (x .mid) ++ taskText E (x .low))
+-- the tasks of a step
+unfoldable pub stepText : Format → (ℕ → Expression) → Step → List ℕ
+stepText f E x = taskText f E (x .high) ++ (taskText f E (x .mid) ++ taskText f E (x .low))
 
-  unfoldable pub stepTurns : Step → ℕ
-  stepTurns x = taskTurns E (x .high) + taskTurns E (x .mid) + taskTurns E (x .low)
+unfoldable pub stepTurns : (ℕ → Expression) → Step → ℕ
+stepTurns E x = taskTurns E (x .high) + taskTurns E (x .mid) + taskTurns E (x .low)
 
 -- the tasks of a right-hand side: f gives a task for each whole rule named
 module _ (E : ℕ → Expression) (n : ℕ) (f : ℕ → ℕ) (S : (k : ℕ) → k < n → Stands E n (f k) (E k)) (r p : ℕ) where
-  -- the text
-  pub rule-text : (x : Rule) → ((k : ℕ) → Names x k → k < n)
-      → says (rhs r x E) p ≡ saidBytes ((ruleStep f r p x) .said) ++ stepText E (ruleStep f r p x)
+  -- the text, in a format
+  pub rule-text : (φ : Format) (x : Rule) → ((k : ℕ) → Names x k → k < n)
+      → says φ (rhs r x E) p ≡ saidBytes φ ((ruleStep f r p x) .said) ++ stepText φ E (ruleStep f r p x)
   unfolding says rhs ruleStep saidBytes stepText
-  rule-text Rule.Empty h = rw (text-none E)
-  rule-text (Rule.Pair b c) h = rw (text-none E, S b (h b pair-one) .text, S c (h c pair-two) .text)
-  rule-text (Rule.Node a c) h = rw (text-none E, S c (h c node-one) .text, text-close E)
-  rule-text (Rule.Fill b c) h =
-      rw (text-part E b before (omega arith), S c (h c fill-two) .text, text-part E b after (omega arith))
-  rule-text (Rule.Part a b c) h =
+  rule-text φ Rule.Empty h = rw (text-none φ E)
+  rule-text φ (Rule.Pair b c) h = rw (text-none φ E, S b (h b pair-one) .text φ, S c (h c pair-two) .text φ)
+  rule-text φ (Rule.Node a c) h = rw (text-none φ E, S c (h c node-one) .text φ, text-close φ E)
+  rule-text φ (Rule.Fill b c) h =
+      rw (text-part φ E b before (omega arith), S c (h c fill-two) .text φ, text-part φ E b after (omega arith))
+  rule-text φ (Rule.Part a b c) h =
       by-test (eqb p before)
-      (λ u. rw (u, text-none E, S b (h b part-one) .text))
-      (λ u. rw (u, text-none E, S c (h c part-two) .text, text-close E))
-  rule-text (Rule.Join b c) h =
+      (λ u. rw (u, text-none φ E, S b (h b part-one) .text φ))
+      (λ u. rw (u, text-none φ E, S c (h c part-two) .text φ, text-close φ E))
+  rule-text φ (Rule.Join b c) h =
       by-test (eqb p before)
-      (λ u. rw (u, text-none E, text-part E b before (omega arith), text-part E c before (omega arith)))
-      (λ u. rw (u, text-none E, text-part E b after (omega arith), text-part E c after (omega arith)))
+      (λ u. rw (u, text-none φ E, text-part φ E b before (omega arith), text-part φ E c before (omega arith)))
+      (λ u. rw (u, text-none φ E, text-part φ E b after (omega arith), text-part φ E c after (omega arith)))
 
   -- fewer tasks to come
   pub rule-turns : (x : Rule) → ((k : ℕ) → Names x k → k < n) → stepTurns E (ruleStep f r p x) < turnsIn (rhs r x E)

@@ -8,6 +8,7 @@ use mathlib.Core.List.{List, [], _∷_, append-nil}
 use lib.Dec.{eqb}
 use lib.ListN.{length}
 use borrow.Author.Tests.{eqb-true, ne-eqb}
+use Rattle.record.specs.declared.Format.{Format}
 use Rattle.rule.specs.declared.Rule.{Rule}
 use Rattle.rule.specs.Sound.{rule, Sound}
 use Rattle.forest.specs.Expression.{Expression, rhs, expression}
@@ -31,19 +32,20 @@ module _ {A : Type 0} (none closes : A) (part : ℕ → ℕ → A) where
       let number : (parts * r + p) / parts ≡ r = omega arith in
       rw (ne-eqb (parts * r + p) noTask (λ e. omega arith), ne-eqb (parts * r + p) closeTask (λ e. omega arith), phase, number)
 
-module _ (E : ℕ → Expression) where
-  pub text-part : (r p : ℕ) → p ≤ after → taskText E (taskWord r p) ≡ says (E r) p
+module _ (f : Format) (E : ℕ → Expression) where
+  pub text-part : (r p : ℕ) → p ≤ after → taskText f E (taskWord r p) ≡ says f (E r) p
   unfolding taskText
-  text-part r p small = by-part [] (closing ∷ []) (λ r p. says (E r) p) r p small
+  text-part r p small = by-part [] (closing ∷ []) (λ r p. says f (E r) p) r p small
 
-  pub text-close : taskText E closeTask ≡ closing ∷ []
+  pub text-close : taskText f E closeTask ≡ closing ∷ []
   unfolding taskText
   text-close = refl
 
-  pub text-none : taskText E noTask ≡ []
+  pub text-none : taskText f E noTask ≡ []
   unfolding taskText
   text-none = refl
 
+module _ (E : ℕ → Expression) where
   pub turns-part : (r p : ℕ) → p ≤ after → taskTurns E (taskWord r p) ≡ turnsIn (E r)
   unfolding taskTurns
   turns-part r p small = by-part 0 1 (λ r p. turnsIn (E r)) r p small
@@ -64,9 +66,9 @@ module _ (E : ℕ → Expression) where
   unfolding taskHeight
   height-close = refl
 
--- v is a task for the whole of e, whose rules are below n
+-- v is a task for the whole of e, in each format, whose rules are below n
 pub record Stands (E : ℕ → Expression) (n v : ℕ) (e : Expression) : Type 0 where
-  pub text : taskText E v ≡ says e whole
+  pub text : (f : Format) → taskText f E v ≡ says f e whole
   pub turns : taskTurns E v ≤ turnsIn e
   pub high : taskHeight E v ≤ height e
   pub below : (v ≡ noTask → ⊥) → v / parts < n
@@ -75,7 +77,7 @@ pub record Stands (E : ℕ → Expression) (n v : ℕ) (e : Expression) : Type 0
 stands-self : (E : ℕ → Expression) (n r : ℕ) (e : Expression) → r < n → E r ≡ e → Stands E n (taskWord r whole) e
 stands-self E n r e below q =
     record {
-      text = text-part E r whole (omega arith) ∙ ap (λ (x : Expression). says x whole) q;
+      text = λ f. text-part f E r whole (omega arith) ∙ ap (λ (x : Expression). says f x whole) q;
       turns = let t : taskTurns E (taskWord r whole) ≡ turnsIn e = turns-part E r whole (omega arith) ∙ ap turnsIn q in omega arith;
       high = let h : taskHeight E (taskWord r whole) ≡ height e = height-part E r whole (omega arith) ∙ ap height q in omega arith;
       below = λ v. omega arith;
@@ -83,28 +85,28 @@ stands-self E n r e below q =
 
 stands-empty : (E : ℕ → Expression) (n r : ℕ) → Stands E n noTask (Expression.empty r)
 unfolding says turnsIn height taskText taskTurns taskHeight
-stands-empty E n r = record { text = refl; turns = omega arith; high = omega arith; below = λ v. absurd (v refl) }
+stands-empty E n r = record { text = λ f. refl; turns = omega arith; high = omega arith; below = λ v. absurd (v refl) }
 
 -- no text where there is no task
-silent : {E : ℕ → Expression} {n v : ℕ} {e : Expression} → Stands E n v e → v ≡ noTask → says e whole ≡ []
-silent {E} s q = sym (s .text) ∙ ap (taskText E) q ∙ text-none E
+silent : {E : ℕ → Expression} {n v : ℕ} {e : Expression} → Stands E n v e → v ≡ noTask → (f : Format) → says f e whole ≡ []
+silent {E} s q f = sym (s .text f) ∙ ap (taskText f E) q ∙ text-none f E
 
 -- one side of a pair
-stands-right : {E : ℕ → Expression} {n v r : ℕ} {b c : Expression} → says b whole ≡ [] → Stands E n v c → Stands E n v (Expression.pair r b c)
+stands-right : {E : ℕ → Expression} {n v r : ℕ} {b c : Expression} → ((f : Format) → says f b whole ≡ []) → Stands E n v c → Stands E n v (Expression.pair r b c)
 unfolding says turnsIn height
 stands-right q s =
     record {
-      text = s .text ∙ rw q;
+      text = λ f. s .text f ∙ rw (q f);
       turns = let t : _ ≤ _ = s .turns in omega arith;
       high = let h : _ ≤ _ = s .high in omega arith;
       below = s .below;
     }
 
-stands-left : {E : ℕ → Expression} {n v r : ℕ} {b c : Expression} → says c whole ≡ [] → Stands E n v b → Stands E n v (Expression.pair r b c)
+stands-left : {E : ℕ → Expression} {n v r : ℕ} {b c : Expression} → ((f : Format) → says f c whole ≡ []) → Stands E n v b → Stands E n v (Expression.pair r b c)
 unfolding says turnsIn height
 stands-left {b = b} q s =
     record {
-      text = s .text ∙ rw (q, append-nil (says b whole));
+      text = λ f. s .text f ∙ rw (q f, append-nil (says f b whole));
       turns = let t : _ ≤ _ = s .turns in omega arith;
       high = let h : _ ≤ _ = s .high in omega arith;
       below = s .below;

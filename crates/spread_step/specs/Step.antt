@@ -4,22 +4,22 @@ use mathlib.Core.Path.{_≡_}
 use mathlib.Core.Bool.{cond}
 use mathlib.Core.List.{List, [], _∷_}
 use lib.ListN.{length}
-use lib.Dec.{T, eqb}
+use lib.Dec.{eqb}
+use Rattle.record.specs.declared.Format.{Format}
 use Rattle.rule.specs.declared.Rule.{Rule}
-use Rattle.rule.specs.Rule.{labelled}
 use Rattle.rule.specs.Names.{Names}
 use Rattle.record.specs.Record.{wordLength}
 use Rattle.work_rows.specs.Rows.{rowLength, field, ruleIn}
-use Rattle.count_passes.specs.Says.{before, after, opening, closing}
+use Rattle.count_passes.specs.Says.{before, after, opened, closing}
 use Rattle.spread_step.specs.declared.Said.{Said}
 use Rattle.spread_step.specs.declared.Step.{Step}
 use Rattle.spread_step.specs.Task.{parts, closeTask, noTask, taskLimit, taskWord}
 
 -- the bytes that a step writes
-unfoldable pub saidBytes : Said → List ℕ
-saidBytes Said.Nothing = []
-saidBytes (Said.Opening a) = opening ∷ a ∷ []
-saidBytes Said.Closing = closing ∷ []
+unfoldable pub saidBytes : Format → Said → List ℕ
+saidBytes f Said.Nothing = []
+saidBytes f (Said.Opening a) = opened f a
+saidBytes f Said.Closing = closing ∷ []
 
 -- a step that writes x and leaves three tasks, of which the last comes first
 abbrev pub leaving : Said → ℕ → ℕ → ℕ → Step
@@ -55,7 +55,6 @@ tasksAt t k = field wordLength t k atTask
 pub record Steppable (t : List ℕ) (r : ℕ) (x : Rule) : Type 0 where
   pub room : rowLength * (r + 1) ≤ length t
   pub few : r < taskLimit
-  pub labels : T (labelled x)
   pub named : (k : ℕ) → Names x k → (rowLength * (k + 1) ≤ length t) × (k < taskLimit)
 
 -- task v can be decided: the closing task needs no row

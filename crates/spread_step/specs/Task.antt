@@ -3,6 +3,7 @@ use Prim.Native.Nat.{ℕ, suc, _+_, _*_, _/_, _%_}
 use mathlib.Core.Bool.{cond}
 use mathlib.Core.List.{List, [], _∷_}
 use lib.Dec.{eqb}
+use Rattle.record.specs.declared.Format.{Format}
 use Rattle.rule.specs.declared.Rule.{Rule}
 use Rattle.forest.specs.Expression.{Expression}
 use Rattle.forest.specs.Sizes.{height}
@@ -32,9 +33,9 @@ unfoldable pub taskBy : {A : Type 0} → A → A → (ℕ → ℕ → A) → ℕ
 taskBy none closes part v = cond (eqb v noTask) none (cond (eqb v closeTask) closes (part (v / parts) (v % parts)))
 
 -- the text of a task
-unfoldable pub taskText : (ℕ → Expression) → ℕ → List ℕ
+unfoldable pub taskText : Format → (ℕ → Expression) → ℕ → List ℕ
 unfolding taskBy
-taskText E v = taskBy [] (closing ∷ []) (λ r p. says (E r) p) v
+taskText f E v = taskBy [] (closing ∷ []) (λ r p. says f (E r) p) v
 
 -- how many tasks it comes to, itself included: whatever the part, no more than turnsIn
 unfoldable pub turnsIn : Expression → ℕ

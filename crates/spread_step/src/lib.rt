@@ -13,7 +13,7 @@ use rule::Rule;
 // What a step writes.
 pub enum Said {
     Nothing,
-    Opening(u8),
+    Opening(u32),
     Closing,
 }
 
@@ -71,11 +71,10 @@ impl Step {
 
     // A step that opens a node.
     fn opening(label: u32, low: u16, mid: u16) -> Step
-        requires { ⌜ label < 256 ⌝ }
         ensures { λ x. ⌜ x ≡ leaving (Said.Opening label) low mid noTask ⌝ }
     {
         Step {
-            said: Said::Opening(label as u8),
+            said: Said::Opening(label),
             low,
             mid,
             high: Step::NONE,

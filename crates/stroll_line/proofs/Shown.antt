@@ -13,7 +13,7 @@ use borrow.Author.Tests.{eq-eqb, ne-eqb}
 use Rattle.words.specs.Number.{number}
 use Rattle.refusal.specs.declared.Refusal.{Refusal}
 use Rattle.refusal.specs.Refusal.{numberOf, positionOf}
-use Rattle.forest.specs.Walk.{nowhere}
+use Rattle.forest.specs.Walk.{answerLength, nowhere}
 use Rattle.demand.proofs.Words.{words-more}
 use Rattle.decimal.specs.Decimal.{decimal}
 use Rattle.stroll_line.specs.Lines.{lineEnd, shown, line, lines, refusedText, atText, refusedLine}
@@ -36,22 +36,22 @@ abbrev pub allLines : List ℕ → List ℕ → List ℕ
 allLines letters given = lines letters (answersFrom (length letters) given 0)
 
 abbrev pub linesFrom : List ℕ → List ℕ → ℕ → List ℕ
-linesFrom letters given i = lines (drop i letters) (answersFrom (length letters - i) given (2 * i))
+linesFrom letters given i = lines (drop i letters) (answersFrom (length letters - i) given (answerLength * i))
 
 pub lines-all : (letters given : List ℕ) → allLines letters given ≡ linesFrom letters given 0
 lines-all letters given = rw (sub-zero (length letters))
 
-answers-more : (m : ℕ) (s : List ℕ) (at : ℕ) → answersFrom (suc m) s at ≡ answerOf (number 2 s at) ∷ answersFrom m s (at + 2)
+answers-more : (m : ℕ) (s : List ℕ) (at : ℕ) → answersFrom (suc m) s at ≡ answerOf (number answerLength s at) ∷ answersFrom m s (at + answerLength)
 unfolding answersFrom
 answers-more m s at = ap (map answerOf) (words-more m s at)
 
-pub lines-more : (letters given : List ℕ) (i : ℕ) {w : ℕ} → i < length letters → w ≡ number 2 given (2 * i)
+pub lines-more : (letters given : List ℕ) (i : ℕ) {w : ℕ} → i < length letters → w ≡ number answerLength given (answerLength * i)
     → linesFrom letters given i ≡ line (getD letters i 0) (answerOf w) ++ linesFrom letters given (i + 1)
 unfolding lines
 lines-more letters given i h q =
     let e : length letters - i ≡ suc (length letters - suc i) = omega arith in
-    let f : 2 * i + 2 ≡ 2 * suc i = omega arith in
-    rw (q, add-one i, drop-cons letters i 0 h, e, answers-more (length letters - suc i) given (2 * i), f)
+    let f : answerLength * i + answerLength ≡ answerLength * suc i = omega arith in
+    rw (q, add-one i, drop-cons letters i 0 h, e, answers-more (length letters - suc i) given (answerLength * i), f)
 
 pub lines-none : (letters given : List ℕ) (i : ℕ) → i ≡ length letters → linesFrom letters given i ≡ []
 unfolding lines

@@ -7,9 +7,9 @@ use Rattle.refusal.specs.Refusal.{numberOf, positionOf}
 use Rattle.decimal.specs.Decimal.{decimal}
 use Rattle.decimal.specs.Put.{mostDigits}
 
--- the longest line: a letter, a space, three digits, the line end
+-- the longest line: a letter, a space, the eight digits of a label ("Labels go to 16,777,215", document 02, Note 2), the line end
 abbrev pub lineLength : ℕ
-lineLength = 6
+lineLength = 11
 
 -- "every line ended by byte 10"
 abbrev pub lineEnd : ℕ

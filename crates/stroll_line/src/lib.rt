@@ -4,6 +4,7 @@ use letter::Letter;
 use refusal::Refusal;
 ghost use Prim.Native.Nat.{_+_, _*_, _≤_};
 ghost use lib.ListN.{length};
+ghost use Rattle.forest.specs.Walk.{answerLength};
 ghost use Rattle.stroll_line.specs.Lines.{shown, line, lines, refusedLine, refusedLength};
 ghost use Rattle.decimal.specs.Put.{Put};
 ghost use Rattle.stroll_line.specs.Said.{answerOf, answersFrom};
@@ -24,18 +25,18 @@ pub fn put_refusal(out: &mut [u8], why: Refusal) -> usize
 }
 
 // A label in decimal, or "-" for nowhere.
-fn put_answer(out: &mut [u8], at: usize, word: u16) -> usize
+fn put_answer(out: &mut [u8], at: usize, word: u32) -> usize
     requires { ⌜ at + length (shown (answerOf word)) ≤ length (now out) ⌝ }
     ensures { λ r. ⌜ Put (shown (answerOf word)) at (now (out .entry)) (now (out .exit)) r ⌝ }
 {
-    if word as u32 == Letter::NOWHERE {
+    if word == Letter::NOWHERE {
         return decimal::put_byte(out, at, b'-');
     }
     decimal::put_decimal(out, at, word as u64)
 }
 
 // A letter's line.
-fn put_line(out: &mut [u8], at: usize, letter: u8, word: u16) -> usize
+fn put_line(out: &mut [u8], at: usize, letter: u8, word: u32) -> usize
     requires { ⌜ at + length (line letter (answerOf word)) ≤ length (now out) ⌝ }
     ensures { λ r. ⌜ Put (line letter (answerOf word)) at (now (out .entry)) (now (out .exit)) r ⌝ }
 {
@@ -47,7 +48,7 @@ fn put_line(out: &mut [u8], at: usize, letter: u8, word: u16) -> usize
 
 // A line for each letter and its word of answers, at the front of the output.
 pub fn put_lines(out: &mut [u8], letters: &[u8], answers: &[u8]) -> usize
-    requires { ⌜ (2 * length (now letters) ≤ length (now answers))
+    requires { ⌜ (answerLength * length (now letters) ≤ length (now answers))
         × (length (lines (now letters) (answersFrom (length (now letters)) (now answers) 0)) ≤ length (now out)) ⌝ }
     ensures { λ r.
         let out′ = now (out .exit) in
@@ -59,7 +60,7 @@ pub fn put_lines(out: &mut [u8], letters: &[u8], answers: &[u8]) -> usize
     let mut end = 0;
     let mut i = 0;
     while i < letters.len() {
-        let word = words::read16(answers, 2 * i);
+        let word = words::read32(answers, Letter::ANSWER_LENGTH * i);
         end = put_line(out, end, letters[i], word);
         i += 1;
     }

@@ -1,5 +1,5 @@
--- The answers on an accepted plan are labels of its forest, at most 255: so a word of answers says which answer it was written
--- for, and no line is longer than six bytes. Assumes nothing.
+-- The answers on an accepted plan are labels of its forest, of at most eight digits and none of them the word for nowhere: so a word
+-- of answers says which answer it was written for, and no line is longer than eleven bytes. Assumes nothing.
 use Prim.Native.Nat.{ℕ, _*_, _≤_}
 use native.Mathlib.Omega.{arith}
 use mathlib.Core.Path.{_≡_, refl, ap₂}
@@ -57,10 +57,10 @@ words-said [] h = refl
 words-said (x ∷ xs) h = ap₂ (λ (y : Option ℕ) (ys : List (Option ℕ)). y ∷ ys) (word-said x (h .0)) (words-said xs (h .1))
 
 -- a line is short
-shown-length : (x : Option ℕ) → Labelled x → length (shown x) ≤ 3
+shown-length : (x : Option ℕ) → Labelled x → length (shown x) ≤ 8
 unfolding shown
 shown-length none h = omega arith
-shown-length (some a) h = decimal-length 2 a (omega arith)
+shown-length (some a) h = decimal-length 7 a (omega arith)
 
 pub lines-length : (letters : List ℕ) (xs : List (Option ℕ)) → AllLabelled xs → length (lines letters xs) ≤ lineLength * length letters
 unfolding lines

@@ -1,10 +1,13 @@
 -- ★ The whole output of stroll for the sample plan and afnnfnnnnununnn, as document 01 prints it, and the lines of refusals.
--- All hold by computation. Assumes nothing.
+-- All but the longest line hold by computation. Assumes nothing.
 use Prim.Native.Nat.{ℕ}
-use mathlib.Core.Path.{_≡_, refl}
-use mathlib.Core.List.{List, [], _∷_, map}
+use native.Mathlib.Omega.{arith}
+use mathlib.Core.Path.{_≡_, refl, ap}
+use mathlib.Core.List.{List, [], _∷_, _++_, map}
+use mathlib.Core.Option.{some}
 use Rattle.words.specs.Number.{number}
 use Rattle.refusal.specs.declared.Refusal.{Refusal}
+use Rattle.record.specs.Format.{highLength, mostLabel}
 use Rattle.reach.specs.Reaches.{lowestCycle, cycleFrom, reaches, within, anyNamed}
 use Rattle.judge.specs.Judge.{cycleJudged}
 use Rattle.plan.specs.Check.{checked, rulesOf}
@@ -13,8 +16,8 @@ use Rattle.forest.specs.Letter.{letterOf}
 use Rattle.forest.specs.Reference.{answers}
 use Rattle.forest.specs.Walk.{andLetters, lettersOf, otherAt, firstOther}
 use Rattle.forest.specs.Sample.{sample}
-use Rattle.decimal.specs.Decimal.{digits, decimal}
-use Rattle.stroll_line.specs.Lines.{shown, line, lines, refusedLine}
+use Rattle.decimal.specs.Decimal.{digits, decimal, decimal-one, decimal-more}
+use Rattle.stroll_line.specs.Lines.{lineEnd, shown, line, lines, refusedLine}
 use Rattle.stroll_output.specs.Stroll.{walkPrinted, checkPrinted, strollOutput}
 
 -- afnnfnnnnununnn
@@ -38,7 +41,27 @@ pub record Sample : Type 0 where
   pub long : refusedLine Refusal.Lent ≡ 114 ∷ 101 ∷ 102 ∷ 117 ∷ 115 ∷ 101 ∷ 100 ∷ 32 ∷ 56 ∷ 32 ∷ 97 ∷ 116 ∷ 32 ∷ 48 ∷ 10 ∷ []
   -- 0, 9, 10, 255, 4095
   pub numbers : map decimal (0 ∷ 9 ∷ 10 ∷ 255 ∷ 4095 ∷ []) ≡ (48 ∷ []) ∷ (57 ∷ []) ∷ (49 ∷ 48 ∷ []) ∷ (50 ∷ 53 ∷ 53 ∷ []) ∷ (52 ∷ 48 ∷ 57 ∷ 53 ∷ []) ∷ []
+  -- the longest line, a 16777215
+  pub longest : line 97 (some 16777215) ≡ 97 ∷ 32 ∷ 49 ∷ 54 ∷ 55 ∷ 55 ∷ 55 ∷ 50 ∷ 49 ∷ 53 ∷ 10 ∷ []
+
+-- the digits of the largest label, one by one: as many steps as it has digits
+eight-digits : decimal 16777215 ≡ 49 ∷ 54 ∷ 55 ∷ 55 ∷ 55 ∷ 50 ∷ 49 ∷ 53 ∷ []
+eight-digits =
+    rw (
+      decimal-more 16777215 (omega arith),
+      decimal-more 1677721 (omega arith),
+      decimal-more 167772 (omega arith),
+      decimal-more 16777 (omega arith),
+      decimal-more 1677 (omega arith),
+      decimal-more 167 (omega arith),
+      decimal-more 16 (omega arith),
+      decimal-one 1 (omega arith),
+    )
+
+longest-line : line 97 (some 16777215) ≡ 97 ∷ 32 ∷ 49 ∷ 54 ∷ 55 ∷ 55 ∷ 55 ∷ 50 ∷ 49 ∷ 53 ∷ 10 ∷ []
+unfolding line shown
+longest-line = ap (λ (l : List ℕ). 97 ∷ 32 ∷ (l ++ (lineEnd ∷ []))) eight-digits
 
 pub printed : Sample
-unfolding strollOutput checkPrinted walkPrinted refusedLine lines line shown decimal digits checked cycleJudged lowestCycle cycleFrom reaches within anyNamed rulesOf number forest answers letterOf andLetters lettersOf otherAt firstOther
-printed = record { whole = refl; none = refl; absent = refl; other = refl; long = refl; numbers = refl }
+unfolding strollOutput checkPrinted walkPrinted refusedLine lines line shown decimal digits checked highLength mostLabel cycleJudged lowestCycle cycleFrom reaches within anyNamed rulesOf number forest answers letterOf andLetters lettersOf otherAt firstOther
+printed = record { whole = refl; none = refl; absent = refl; other = refl; long = refl; numbers = refl; longest = longest-line }

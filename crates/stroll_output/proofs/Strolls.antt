@@ -15,7 +15,7 @@ use Rattle.plan.proofs.Sound.{checked-plan}
 use Rattle.forest.specs.declared.Walked.{Walked}
 use Rattle.forest.specs.Forest.{forest}
 use Rattle.forest.specs.Reference.{answers}
-use Rattle.forest.specs.Walk.{lettersOf, firstOther}
+use Rattle.forest.specs.Walk.{answerLength, lettersOf, firstOther}
 use Rattle.forest.proofs.Cases.{by-option}
 use Rattle.demand.specs.Calls.{Left, walkOf, lends, leaves}
 use Rattle.demand.specs.Demand.{Above, answerWords}
@@ -53,9 +53,9 @@ pub record Lends (letters work cursor given : List ℕ) : Type 0 where
   pub work-length : 65536 ≡ length work
   pub cursor-length : 32800 ≡ length cursor
   pub above : Above cursor
-  pub answerable : 2 * length letters ≤ length given
+  pub answerable : answerLength * length letters ≤ length given
 
-pub zeros-lent : {letters given : List ℕ} → 2 * length letters ≤ length given → Lends letters (replicate 65536 0) (replicate 32800 0) given
+pub zeros-lent : {letters given : List ℕ} → answerLength * length letters ≤ length given → Lends letters (replicate 65536 0) (replicate 32800 0) given
 zeros-lent h =
     record {
       work-length = sym (length-replicate {0} {A = ℕ} 65536 0);

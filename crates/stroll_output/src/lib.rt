@@ -1,5 +1,6 @@
 // The lines that stroll prints (document 01, "One sample plan").
 use forest::Walked;
+use letter::Letter;
 use place_cells::Cell;
 use plan::Checked;
 use plan::Trailer;
@@ -7,6 +8,7 @@ use refusal::Refusal;
 ghost use Prim.Native.Nat.{_*_, _≤_};
 ghost use lib.ListN.{length};
 ghost use Rattle.plan.specs.Check.{checked};
+ghost use Rattle.forest.specs.Walk.{answerLength};
 ghost use Rattle.stroll_line.specs.Lines.{lineLength};
 ghost use Rattle.stroll_output.specs.Stroll.{mostLetters, checkPrinted, strollOutput};
 ghost use Rattle.decimal.specs.Put.{Put};
@@ -17,8 +19,8 @@ pub const MOST_PLAN: usize = 16384;
 
 pub const MOST_LETTERS: usize = 4096;
 
-// Bytes of a line: a letter, a space, three digits, a line end.
-const LINE: usize = 6;
+// Bytes of a line: a letter, a space, eight digits, a line end.
+const LINE: usize = 11;
 
 // Bytes of output.
 pub const MOST_OUTPUT: usize = LINE * MOST_LETTERS;
@@ -30,11 +32,11 @@ const MOST_WORK: usize = work_rows::WORK_LENGTH * MOST_RULES;
 
 const MOST_CURSOR: usize = Cell::LENGTH * Cell::A_RULE * (MOST_RULES + 1);
 
-const MOST_ANSWERS: usize = 2 * MOST_LETTERS;
+const MOST_ANSWERS: usize = Letter::ANSWER_LENGTH * MOST_LETTERS;
 
 // The walk from above the forest, in a work and a cursor large enough for any plan.
 fn walk_above(plan: &[u8], letters: &[u8], answers: &mut [u8]) -> Walked
-    requires { ⌜ Strollable (now plan) (now letters) × (2 * length (now letters) ≤ length (now answers)) ⌝ }
+    requires { ⌜ Strollable (now plan) (now letters) × (answerLength * length (now letters) ≤ length (now answers)) ⌝ }
     ensures { λ x. ⌜ Strolled (now (plan .entry)) (now (letters .entry)) x (now (answers .exit)) ⌝ }
 {
     let mut work = [0u8; MOST_WORK];

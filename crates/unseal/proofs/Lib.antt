@@ -1,2 +1,2 @@
-pub mod Unsealed
+pub mod Unsealing
 pub mod RoundTrip

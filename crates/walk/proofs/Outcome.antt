@@ -15,7 +15,7 @@ use Rattle.record.specs.Record.{wordLength}
 use Rattle.plan.specs.Check.{checked, rulesOf}
 use Rattle.forest.specs.declared.Walked.{Walked}
 use Rattle.forest.specs.Outcome.{workWords, enoughWork, cleared, workAfter}
-use Rattle.forest.specs.Walk.{cursorWords, enoughLent, firstOther, Begun, placeJudged, lettersJudged, begunFrom, begun, walked, cursorAfter, answersAfter, walkedWork}
+use Rattle.forest.specs.Walk.{answerLength, cursorWords, enoughLent, firstOther, Begun, placeJudged, lettersJudged, begunFrom, begun, walked, cursorAfter, answersAfter, walkedWork}
 use Rattle.demand.specs.Calls.{walkOf, lends, leaves}
 use Rattle.work_rows.specs.Rows.{workLength, Within}
 use Rattle.work_rows.proofs.Work.{enough-room, work-cleared}
@@ -39,7 +39,7 @@ module _ (s work cursor letters given : List ℕ) where
         let worked = and-eq-true-iff (enoughWork n work) _ .0 e .0 in
         let rest = and-eq-true-iff (enoughWork n work) _ .0 e .1 in
         let far : 16 * (n + 1) ≤ length cursor / 2 = leb-true _ _ (and-eq-true-iff (leb (cursorWords n) (wordCount cursor)) _ .0 rest .0) in
-        let all : length letters ≤ length given / 2 = leb-true _ _ (and-eq-true-iff (leb (cursorWords n) (wordCount cursor)) _ .0 rest .1) in
+        let all : length letters ≤ length given / answerLength = leb-true _ _ (and-eq-true-iff (leb (cursorWords n) (wordCount cursor)) _ .0 rest .1) in
         record { accepted = q; worked = enough-room n work worked; room = omega arith; answerable = omega arith }
 
     begins : enoughLent work cursor letters given n ≡ true

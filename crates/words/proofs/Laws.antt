@@ -2,13 +2,13 @@
 -- and offsets follows from one law, `number-agrees`; what a number's bytes give back is division with remainder by 256, once for each byte.
 -- Assumes nothing.
 use Prim.Native.Nat.{ℕ, zero, suc, _+_, _*_, _/_, _%_, _^_, _≤_, _<_}
-use mathlib.Core.Path.{_≡_, refl, sym, ap, _∙_}
+use mathlib.Core.Path.{_≡_, refl, sym, ap, ap₂, _∙_}
 use mathlib.Core.List.{List, [], _∷_, _++_, append-assoc}
 use native.Mathlib.Nat.{add-zero, add-suc, suc-add, add-assoc, pow-suc}
-use native.Mathlib.Numerals.{add-two}
+use native.Mathlib.Numerals.{add-two, add-four, add-six}
 use native.Mathlib.Omega.{arith}
-use lib.ListN.{length, getD, take, drop, set}
-use lib.Seq.{sets-eq, length-sets, length-take-le, getD-append-add, getD-set-other, getD-take, drop-cons, take-set-le, drop-set-lt}
+use lib.ListN.{length, getD, take, drop, set, length-append, length-drop}
+use lib.Seq.{sets-eq, length-sets, length-take-le, getD-append-add, getD-set-other, getD-take, drop-cons, take-set-le, drop-set-lt, take-append-seam, drop-append-add, drop-drop}
 use Rattle.words.specs.Number.{base, number, bytes, put}
 
 -- a number depends only on its own bytes
@@ -127,3 +127,26 @@ put-double s at v =
     let second : v % 65536 / base % base ≡ v / base % base = sym (ap (λ (x : ℕ). x % base) halves ∙ digit (v % 65536 / base) (v / 65536) low) in
     let rest : v / 65536 ≡ v / base / base = omega arith in
     rw (add-two at, first, second, rest)
+
+-- four words put one after the other, and a number right after them
+pub four-put : (s : List ℕ) (at a b c d : ℕ) → at + 8 ≤ length s
+    → put 2 (put 2 (put 2 (put 2 s at a) (at + 2) b) (at + 4) c) (at + 6) d
+    ≡ take at s ++ ((bytes 2 a ++ (bytes 2 b ++ (bytes 2 c ++ bytes 2 d))) ++ drop (at + 8) s)
+unfolding put bytes
+four-put s at a b c d fits =
+    let xs = bytes 2 a ++ (bytes 2 b ++ (bytes 2 c ++ bytes 2 d)) in
+    rw (add-two at, add-four at, add-six at) (sets-eq xs s at fits ∙ append-assoc (take at s) xs (drop (at + 8) s))
+
+pub put-after : (w : ℕ) (s : List ℕ) (at m v : ℕ) (xs : List ℕ) → length xs ≡ m → at + m + w ≤ length s
+    → put w (take at s ++ (xs ++ drop (at + m) s)) (at + m) v ≡ take at s ++ ((xs ++ bytes w v) ++ drop (at + m + w) s)
+put-after w s at m v xs e fits =
+    let n : length (take at s) ≡ at = length-take-le at s (omega arith) in
+    let front : take at s ++ (xs ++ drop (at + m) s) ≡ (take at s ++ xs) ++ drop (at + m) s = sym (append-assoc (take at s) xs (drop (at + m) s)) in
+    let long : length (take at s ++ xs) ≡ at + m = length-append (take at s) xs ∙ omega arith in
+    let rest = length-drop (at + m) s in
+    rw front
+    (put-split w ((take at s ++ xs) ++ drop (at + m) s) (at + m) v (rw (length-append (take at s ++ xs) (drop (at + m) s)) (omega arith))
+    ∙ ap₂ (λ (x y : List ℕ). x ++ (bytes w v ++ y))
+    (ap (λ (k : ℕ). take k ((take at s ++ xs) ++ drop (at + m) s)) (sym long) ∙ take-append-seam (take at s ++ xs) (drop (at + m) s))
+    (ap (λ (k : ℕ). drop (k + w) ((take at s ++ xs) ++ drop (at + m) s)) (sym long) ∙ drop-append-add (take at s ++ xs) (drop (at + m) s) w ∙ drop-drop w (at + m) s)
+    ∙ rw (append-assoc, append-assoc))

@@ -14,7 +14,7 @@ use Rattle.record.specs.Records.{recordsFrom}
 use Rattle.rule.specs.declared.Rule.{Rule}
 use Rattle.rule.specs.Rule.{rulesIn}
 use Rattle.plan.specs.declared.Checked.{Checked}
-use Rattle.plan.specs.Check.{checked, rulesOf, mostRules, trailerLength}
+use Rattle.plan.specs.Check.{checked, rulesOf, formatOf, mostRules, trailerLength}
 use Rattle.plan.proofs.Sound.{Plan, checked-plan, plan-long}
 use Rattle.forest.specs.Outcome.{enoughWork, workJudged, measuredWork}
 use Rattle.reach.specs.Order.{numbersFrom, lowerBelow}
@@ -33,19 +33,19 @@ module _ {s : List ℕ} {n : ℕ} {work : List ℕ} (A : Arrangeable s n work) w
   plan : Plan mostRules s n (A .start)
   plan = checked-plan s n (A .start) (A .accepted)
 
-  pub first-rules : rulesAt s (length s - trailerLength - recordLength * n) n ≡ rulesOf s
+  pub first-rules : rulesAt (formatOf s) s (length s - trailerLength - recordLength (formatOf s) * n) n ≡ rulesOf s
   first-rules = rules-first s n (A .start) plan
 
-  pub first-lower : {x : Bool} → x ≡ lowerBelow (rulesAt s (length s - trailerLength - recordLength * n) n) n → x ≡ lowerBelow (rulesOf s) n
+  pub first-lower : {x : Bool} → x ≡ lowerBelow (rulesAt (formatOf s) s (length s - trailerLength - recordLength (formatOf s) * n) n) n → x ≡ lowerBelow (rulesOf s) n
   first-lower e = rw first-rules at e
 
-  pub loadable : (recordLength * n + trailerLength ≤ length s) × (rowLength * n ≤ length work)
+  pub loadable : (recordLength (formatOf s) * n + trailerLength ≤ length s) × (rowLength * n ≤ length work)
   loadable = let room = A .room in (plan-long mostRules s n (A .start) plan, omega arith)
 
   pub orderable : orderEnd n ≤ length work
   orderable = let room = A .room in omega arith
 
-  pub searchable : Ready s (length s - trailerLength - recordLength * n) n (take (length work - rowLength * n) (drop (rowLength * n) work))
+  pub searchable : Ready (formatOf s) s (length s - trailerLength - recordLength (formatOf s) * n) n (take (length work - rowLength * n) (drop (rowLength * n) work))
   searchable =
       let room = A .room in
       let long = plan-long mostRules s n (A .start) plan in
@@ -53,7 +53,7 @@ module _ {s : List ℕ} {n : ℕ} {work : List ℕ} (A : Arrangeable s n work) w
       record { lies = omega arith; few = omega (arith, plan .greatest); ranged = rw first-rules (plan .ranged); fits = omega arith }
 
   -- the search can't fail, since no rule of an accepted plan reaches itself
-  pub search-orders : {x : Bool} {v : List ℕ} → Answered (rulesAt s (length s - trailerLength - recordLength * n) n) n x (take (length work - rowLength * n) (drop (rowLength * n) work)) v
+  pub search-orders : {x : Bool} {v : List ℕ} → Answered (rulesAt (formatOf s) s (length s - trailerLength - recordLength (formatOf s) * n) n) n x (take (length work - rowLength * n) (drop (rowLength * n) work)) v
       → Ordered (rulesOf s) n work (take (rowLength * n) work ++ (v ++ drop (length work - rowLength * n) (drop (rowLength * n) work)))
   unfolding orderIn
   search-orders {x} {v} h =
@@ -70,7 +70,7 @@ module _ {s : List ℕ} {n : ℕ} {work : List ℕ} (A : Arrangeable s n work) w
   }
 
   -- the rules in the rows, and then their order behind the rows
-  module _ {t : List ℕ} (l : Loaded (rulesIn (recordsFrom s (length s - trailerLength - recordLength * n) n)) n work t) where
+  module _ {t : List ℕ} (l : Loaded (rulesIn (formatOf s) (recordsFrom (formatOf s) s (length s - trailerLength - recordLength (formatOf s) * n) n)) n work t) where
     pub still-arrangeable : Arrangeable s n t
     still-arrangeable = let e = l .beyond .same-length in record { start = A .start; accepted = A .accepted; room = rw e (A .room) }
 

@@ -2,7 +2,6 @@
 // those that it names; for measure and spread with their refusals (document 01, "As check; 8").
 use plan::Checked;
 use plan::Trailer;
-use record::Record;
 use refusal::Refusal;
 use work_rows::Row;
 ghost use mathlib.Core.Path.{_≡_};
@@ -15,9 +14,10 @@ fn search_order(plan: &[u8], work: &mut [u8], n: u16)
     requires { ⌜ Arrangeable (now plan) n (now work) ⌝ }
     ensures { λ x. ⌜ Ordered (rulesOf (now (plan .entry))) n (now (work .entry)) (now (work .exit)) ⌝ }
 {
-    let first = plan.len() - Trailer::LENGTH - Record::LENGTH * (n as usize);
+    let format = Trailer::format(plan);
+    let first = Trailer::first(plan, format, n);
     let rows = Row::LENGTH * (n as usize);
-    reach_order::order(plan, first, n, &mut work[rows..]);
+    reach_order::order(plan, format, first, n, &mut work[rows..]);
 }
 
 // An order of an accepted plan's rules; nothing is searched where each names only lower ones.

@@ -12,7 +12,7 @@ use Rattle.plan.specs.declared.Checked.{Checked}
 use Rattle.record.specs.Record.{wordLength, recordLength}
 use Rattle.record.specs.Records.{recordsFrom}
 use Rattle.rule.specs.Rule.{rulesIn}
-use Rattle.plan.specs.Check.{checked, rulesOf, trailerLength, mostRules}
+use Rattle.plan.specs.Check.{checked, rulesOf, formatOf, trailerLength, mostRules}
 use Rattle.plan.proofs.Sound.{Plan, checked-plan, plan-long, plan-first, plan-records}
 use Rattle.forest.specs.Outcome.{ruleWork, workWords, enoughWork, cleared, workAfter}
 use Rattle.work_rows.specs.Rows.{workLength, rowLength, Within, Beyond}
@@ -53,9 +53,9 @@ beyond-work n w = within-wider 0 (workLength * n) (omega arith) (omega arith) w
 
 -- the plan and the work are long enough to load from and into, and what is loaded are the plan's rules
 pub loadable : (s u : List ℕ) (n start : ℕ) → checked s ≡ Checked.Accepted n start → workLength * n ≤ length u
-    → (recordLength * n + trailerLength ≤ length s) × (rowLength * n ≤ length u)
+    → (recordLength (formatOf s) * n + trailerLength ≤ length s) × (rowLength * n ≤ length u)
 loadable s u n start q enough = (plan-long mostRules s n start (checked-plan s n start q), omega arith)
 
-pub rules-first : (s : List ℕ) (n start : ℕ) → Plan mostRules s n start → rulesIn (recordsFrom s (length s - trailerLength - recordLength * n) n) ≡ rulesOf s
+pub rules-first : (s : List ℕ) (n start : ℕ) → Plan mostRules s n start → rulesIn (formatOf s) (recordsFrom (formatOf s) s (length s - trailerLength - recordLength (formatOf s) * n) n) ≡ rulesOf s
 unfolding rulesOf
 rules-first s n start p = rw (← (plan-first mostRules s n start p), ← (plan-records mostRules s n start p))

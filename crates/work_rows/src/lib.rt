@@ -4,10 +4,10 @@ ghost use Prim.Native.Nat.{_+_, _-_, _*_, _≤_, _<_};
 ghost use lib.ListN.{length, getD};
 ghost use lib.Dec.{eqb, ltb};
 ghost use mathlib.Core.Bool.{_&&_, _||_};
-ghost use Rattle.record.specs.Record.{recordLength, wordLength};
+ghost use Rattle.record.specs.Format.{wordLength, recordLength};
 ghost use Rattle.rule.specs.Rule.{kindEmpty, ruleOf, rulesIn, every};
 ghost use Rattle.record.specs.Records.{recordsFrom};
-ghost use Rattle.plan.specs.Check.{trailerLength};
+ghost use Rattle.plan.specs.Check.{trailerLength, formatOf};
 ghost use Rattle.forest.specs.Outcome.{workWords, enoughWork, cleared};
 ghost use Rattle.work_rows.specs.Rows.{workLength, rowLength, ownEnd, field, putField, rowOf, ruleFrom, rowIn, putRow};
 ghost use Rattle.work_rows.specs.Rows.{ruleIn, Stored, Loaded};
@@ -15,6 +15,7 @@ ghost use Rattle.reach.specs.Order.{numbersFrom, lowerBelow};
 ghost use Rattle.work_rows.specs.Rows.{Within};
 ghost use Rattle.work_rows.specs.Order.{orderAt, orderEnd, orderIn};
 use plan::Trailer;
+use record::Format;
 use record::Record;
 use rule::Decoded;
 use rule::Rule;
@@ -199,17 +200,18 @@ fn rule_of(d: Decoded) -> Rule
 }
 
 // The plan's n rules, whose records begin at first, into the rows of work; and whether each names only lower ones.
-fn load(plan: &[u8], first: usize, n: u16, work: &mut [u8]) -> bool
-    requires { ⌜ (first + recordLength * n ≤ length (now plan)) × (rowLength * n ≤ length (now work)) ⌝ }
+fn load(plan: &[u8], format: Format, first: usize, n: u16, work: &mut [u8]) -> bool
+    requires { ⌜ (first + recordLength format * n ≤ length (now plan)) × (rowLength * n ≤ length (now work)) ⌝ }
     ensures { λ x.
-        let rules = rulesIn (recordsFrom (now (plan .entry)) first n) in
+        let rules = rulesIn format (recordsFrom format (now (plan .entry)) first n) in
         ⌜ Loaded rules n (now (work .entry)) (now (work .exit)) × (x ≡ lowerBelow rules n) ⌝ }
 {
+    let length = format.length();
     let mut lower = true;
     let mut i: u16 = 0;
     while i < n {
-        let record = Record::read(plan, first + Record::LENGTH * (i as usize));
-        let below = put_rule(work, i, rule_of(Rule::decode(record)));
+        let record = Record::read(plan, format, first + length * (i as usize));
+        let below = put_rule(work, i, rule_of(Rule::decode(record, format)));
         lower = lower & below;
         i += 1;
     }
@@ -258,14 +260,16 @@ pub fn order_by_number(work: &mut [u8], n: u16)
 
 // An accepted plan's n rules, which stand right before its trailer, into the rows of work; and whether each names only lower ones.
 pub fn load_rules(plan: &[u8], work: &mut [u8], n: u16) -> bool
-    requires { ⌜ (recordLength * n + trailerLength ≤ length (now plan)) × (rowLength * n ≤ length (now work)) ⌝ }
+    requires { ⌜ (recordLength (formatOf (now plan)) * n + trailerLength ≤ length (now plan))
+        × (rowLength * n ≤ length (now work)) ⌝ }
     ensures { λ x.
         let s = now (plan .entry) in
-        let rules = rulesIn (recordsFrom s (length s - trailerLength - recordLength * n) n) in
+        let f = formatOf s in
+        let rules = rulesIn f (recordsFrom f s (length s - trailerLength - recordLength f * n) n) in
         ⌜ Loaded rules n (now (work .entry)) (now (work .exit)) × (x ≡ lowerBelow rules n) ⌝ }
 {
-    let first = plan.len() - Trailer::LENGTH - Record::LENGTH * (n as usize);
-    load(plan, first, n, work)
+    let format = Trailer::format(plan);
+    load(plan, format, Trailer::first(plan, format, n), n, work)
 }
 
 // Zeros into the words of work that n rules need.

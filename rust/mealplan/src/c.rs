@@ -7,6 +7,7 @@ unsafe extern "C" {
     pub fn plan_seal(
         words: *const u8,
         words_len: usize,
+        record_length: u16,
         start: u16,
         out: *mut u8,
         out_len: usize,
@@ -19,6 +20,7 @@ unsafe extern "C" {
         plan_len: usize,
         out: *mut u8,
         out_len: usize,
+        record_length: *mut u16,
         n: *mut u16,
         start: *mut u16,
         position: *mut u64,

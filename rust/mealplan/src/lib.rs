@@ -1,8 +1,9 @@
 //! The meal plan walker for Rust: safe functions over the proved C interface (include/mealplan.h).
 //!
 //! Each function answers `Ok` with the values that documents 01 and 02 give, or `Err` with the refusal. Slices of 16-bit words are bytes, two
-//! to a word, low first; an odd last byte isn't counted. What a call writes is lent by `&mut`, so it lies apart from all else, and a
-//! Rust slice's pointer is never null: the borrow checker meets all that the header asks of a caller.
+//! to a word, low first; an odd last byte isn't counted. Answers are 32-bit words, four bytes to each ([`labels`] reads them). What a call
+//! writes is lent by `&mut`, so it lies apart from all else, and a Rust slice's pointer is never null: the borrow checker meets all that the
+//! header asks of a caller.
 
 pub mod c;
 
@@ -21,6 +22,14 @@ pub struct Checked {
     pub start: u16,
 }
 
+/// What unseal gives: the record length of an accepted plan, [`NARROW`] or [`WIDE`], its number of rules and its start rule.
+#[derive(Clone, Copy, PartialEq, Eq, Debug, Default)]
+pub struct Unsealed {
+    pub record_length: u16,
+    pub n: u16,
+    pub start: u16,
+}
+
 /// The size of a plan's forest.
 #[derive(Clone, Copy, PartialEq, Eq, Debug, Default)]
 pub struct Measured {
@@ -29,8 +38,19 @@ pub struct Measured {
     pub levels: u64,
 }
 
-/// The word among the answers for a letter that leads nowhere.
-pub const NOWHERE: u16 = 65_535;
+/// The record length of a narrow plan, in bytes: rules of four words, labels 0 to 255.
+pub const NARROW: u16 = 8;
+
+/// The record length of a wide plan, in bytes: rules of five words, labels 0 to 16,777,215.
+pub const WIDE: u16 = 10;
+
+/// The word among the answers for a letter that leads nowhere, in plans of both formats.
+pub const NOWHERE: u32 = 4_294_967_295;
+
+/// The answers of a walk in their order: a label, or none for nowhere. A rest of one to three bytes is no answer.
+pub fn labels(answers: &[u8]) -> impl Iterator<Item = Option<u32>> {
+    answers.as_chunks().0.iter().map(|answer| Some(u32::from_le_bytes(*answer)).filter(|label| *label != NOWHERE))
+}
 
 /// The values, unless the C function returned a refusal's number.
 fn answer<T>(number: u32, position: u64, values: T) -> Result<T, Refused> {
@@ -46,19 +66,29 @@ pub fn check(plan: &[u8]) -> Result<Checked, Refused> {
     answer(number, position, checked)
 }
 
-/// Writes rule words, four to a rule, as a plan without cover at the front of `out`; gives its length.
-pub fn seal(words: &[u8], start: u16, out: &mut [u8]) -> Result<u64, Refused> {
+/// Writes rule words as a plan without cover at the front of `out`; gives its length. The record length is [`NARROW`], four words to a rule,
+/// or [`WIDE`], five words; any other is refused with 1.
+pub fn seal(words: &[u8], record_length: u16, start: u16, out: &mut [u8]) -> Result<u64, Refused> {
     let (mut written, mut position) = (0, 0);
     // SAFETY: as in `check`; `out` is borrowed for writing, so it lies apart from `words`.
     let number = unsafe {
-        c::plan_seal(words.as_ptr(), words.len(), start, out.as_mut_ptr(), out.len(), &mut written, &mut position)
+        c::plan_seal(
+            words.as_ptr(),
+            words.len(),
+            record_length,
+            start,
+            out.as_mut_ptr(),
+            out.len(),
+            &mut written,
+            &mut position,
+        )
     };
     answer(number, position, written)
 }
 
-/// Writes a plan's rule words at the front of `out`.
-pub fn unseal(plan: &[u8], out: &mut [u8]) -> Result<Checked, Refused> {
-    let mut checked = Checked::default();
+/// Writes a plan's rule words at the front of `out`, as many to a rule as the plan's record length says.
+pub fn unseal(plan: &[u8], out: &mut [u8]) -> Result<Unsealed, Refused> {
+    let mut unsealed = Unsealed::default();
     let mut position = 0;
     // SAFETY: as in `seal`.
     let number = unsafe {
@@ -67,12 +97,13 @@ pub fn unseal(plan: &[u8], out: &mut [u8]) -> Result<Checked, Refused> {
             plan.len(),
             out.as_mut_ptr(),
             out.len(),
-            &mut checked.n,
-            &mut checked.start,
+            &mut unsealed.record_length,
+            &mut unsealed.n,
+            &mut unsealed.start,
             &mut position,
         )
     };
-    answer(number, position, checked)
+    answer(number, position, unsealed)
 }
 
 /// Counts a plan's trees, entries and levels. `work` needs 64 bytes a rule.
@@ -95,7 +126,7 @@ pub fn measure(plan: &[u8], work: &mut [u8]) -> Result<Measured, Refused> {
     answer(number, position, measured)
 }
 
-/// Writes a plan's forest as text at the front of `out`; gives the text's length.
+/// Writes a plan's forest as text at the front of `out`, three bytes a node or in a wide plan five; gives the text's length.
 pub fn spread(plan: &[u8], work: &mut [u8], out: &mut [u8]) -> Result<u64, Refused> {
     let (mut written, mut position) = (0, 0);
     // SAFETY: as in `seal`; `work` and `out` are borrowed for writing, so they lie apart.
@@ -114,7 +145,7 @@ pub fn spread(plan: &[u8], work: &mut [u8], out: &mut [u8]) -> Result<u64, Refus
     answer(number, position, written)
 }
 
-/// Walks from the place stored in `cursor` by `letters`; each gives a word of `answers`: a label, or [`NOWHERE`].
+/// Walks from the place stored in `cursor` by `letters`; each gives four bytes of `answers`: a label, or [`NOWHERE`].
 pub fn walk(
     plan: &[u8],
     work: &mut [u8],

@@ -8,6 +8,8 @@
 //! Every operation takes the same lent slices as the C interface and leaves the same bytes in them.
 #![forbid(unsafe_code)]
 
+pub mod answers;
+pub mod format;
 pub mod place;
 pub mod plan;
 mod reach;
@@ -16,11 +18,21 @@ pub mod rules;
 pub mod unfolded;
 pub mod words;
 
+pub use answers::NOWHERE;
+pub use format::Format;
 pub use refusal::{Refused, Why};
 
 /// The number of rules of an accepted plan, and its start rule.
 #[derive(Clone, Copy, PartialEq, Eq, Debug)]
 pub struct Checked {
+    pub n: u16,
+    pub start: u16,
+}
+
+/// The record length of an accepted plan, its number of rules and its start rule.
+#[derive(Clone, Copy, PartialEq, Eq, Debug)]
+pub struct Unsealed {
+    pub record_length: u16,
     pub n: u16,
     pub start: u16,
 }
@@ -35,9 +47,6 @@ pub struct Measured {
 
 /// The eight letters of a walk.
 pub const LETTERS: [u8; 8] = *b"azflnpus";
-
-/// The word among the answers for a letter that leads nowhere.
-pub const NOWHERE: u16 = 65_535;
 
 /// The place of the first byte that is no letter: refusal 9.
 pub fn first_stranger(letters: &[u8]) -> Option<usize> {

@@ -1,15 +1,13 @@
 //! The format of a plan: rules, check, seal and unseal.
 use crate::reach;
 use crate::words;
-use crate::{Checked, Refused, Why};
+use crate::{Checked, Format, Refused, Unsealed, Why};
 
 pub const MAX_RULES: usize = 1024;
-/// Bytes of a rule.
-pub const RECORD: usize = 8;
+/// Words of a rule in either format; a narrow plan's have no fifth, which is then taken for 0.
+pub const WORDS: usize = 5;
 /// Bytes of the trailer: n, start, distance, mark.
 pub const TRAILER: usize = 10;
-pub const MARK: [u8; 2] = [0x6D, 0x70];
-pub const MAX_LABEL: u16 = 255;
 /// Words of work that measure, spread and walk need for each rule.
 pub const WORK_WORDS: usize = 32;
 /// Bytes of work that n rules need.
@@ -26,9 +24,9 @@ pub const fn cursor_bytes(n: usize) -> usize {
 pub enum Rule {
     Empty,
     Pair(u16, u16),
-    Node(u16, u16),
+    Node(u32, u16),
     Fill(u16, u16),
-    Part(u16, u16, u16),
+    Part(u32, u16, u16),
     Join(u16, u16),
 }
 
@@ -50,26 +48,29 @@ impl Sort {
 impl Rule {
     pub const KINDS: u16 = 6;
 
-    /// The rule that four words of an accepted plan mean.
-    pub fn of([kind, a, b, c]: [u16; 4]) -> Rule {
+    /// The rule that the words of an accepted plan mean.
+    pub fn of(words: [u16; WORDS]) -> Rule {
+        let [kind, a, b, c, _] = words;
         match kind {
             0 => Rule::Empty,
             1 => Rule::Pair(a, b),
-            2 => Rule::Node(a, b),
+            2 => Rule::Node(label(words), b),
             3 => Rule::Fill(a, b),
-            4 => Rule::Part(a, b, c),
+            4 => Rule::Part(label(words), b, c),
             _ => Rule::Join(a, b),
         }
     }
 
-    pub fn words(self) -> [u16; 4] {
+    pub fn words(self) -> [u16; WORDS] {
+        let low = |label: u32| label as u16;
+        let high = |label: u32| (label >> 16) as u16;
         match self {
-            Rule::Empty => [0, 0, 0, 0],
-            Rule::Pair(b, c) => [1, b, c, 0],
-            Rule::Node(label, c) => [2, label, c, 0],
-            Rule::Fill(b, c) => [3, b, c, 0],
-            Rule::Part(label, l, r) => [4, label, l, r],
-            Rule::Join(b, c) => [5, b, c, 0],
+            Rule::Empty => [0, 0, 0, 0, 0],
+            Rule::Pair(b, c) => [1, b, c, 0, 0],
+            Rule::Node(label, c) => [2, low(label), c, 0, high(label)],
+            Rule::Fill(b, c) => [3, b, c, 0, 0],
+            Rule::Part(label, l, r) => [4, low(label), l, r, high(label)],
+            Rule::Join(b, c) => [5, b, c, 0, 0],
         }
     }
 
@@ -84,51 +85,89 @@ impl Rule {
     }
 }
 
-/// The rules that four words name, with the sort that each must have (the only one of a node twice), or none; an error if the words are
-/// no rule: a kind above 5, a label above 255, an unused word that isn't 0.
-fn names(words: [u16; 4]) -> Result<Option<[(u16, Sort); 2]>, Why> {
+/// What the words of a kind with a label have for one: word 1, and the fifth as its high part.
+fn label([_, low, _, _, high]: [u16; WORDS]) -> u32 {
+    u32::from(low) + 65_536 * u32::from(high)
+}
+
+/// The rules that words name, with the sort that each must have (the only one of a node twice), or none; an error if the words are no
+/// rule: a kind above 5, a label above the format's last, an unused word that isn't 0.
+fn names(words: [u16; WORDS], format: Format) -> Result<Option<[(u16, Sort); 2]>, Why> {
+    let labelled = label(words) <= format.most_label();
     match words {
-        [0, 0, 0, 0] => Ok(None),
-        [1, b, c, 0] => Ok(Some([(b, Sort::CLOSED), (c, Sort::CLOSED)])),
-        [2, 0..=MAX_LABEL, c, 0] => Ok(Some([(c, Sort::CLOSED), (c, Sort::CLOSED)])),
-        [3, b, c, 0] => Ok(Some([(b, Sort::HOLED), (c, Sort::TREE)])),
-        [4, 0..=MAX_LABEL, l, r] => Ok(Some([(l, Sort::CLOSED), (r, Sort::CLOSED)])),
-        [5, b, c, 0] => Ok(Some([(b, Sort::HOLED), (c, Sort::HOLED)])),
+        [0, 0, 0, 0, 0] => Ok(None),
+        [1, b, c, 0, 0] => Ok(Some([(b, Sort::CLOSED), (c, Sort::CLOSED)])),
+        [2, _, c, 0, _] if labelled => Ok(Some([(c, Sort::CLOSED), (c, Sort::CLOSED)])),
+        [3, b, c, 0, 0] => Ok(Some([(b, Sort::HOLED), (c, Sort::TREE)])),
+        [4, _, l, r, _] if labelled => Ok(Some([(l, Sort::CLOSED), (r, Sort::CLOSED)])),
+        [5, b, c, 0, 0] => Ok(Some([(b, Sort::HOLED), (c, Sort::HOLED)])),
         _ => Err(Why::Record),
     }
 }
 
 /// The records of a plan, rule 0 first.
 #[derive(Clone, Copy)]
-pub struct Rules<'a>(&'a [[u8; RECORD]]);
+pub enum Rules<'a> {
+    Narrow(&'a [[u8; Format::Narrow.record()]]),
+    Wide(&'a [[u8; Format::Wide.record()]]),
+}
 
 impl<'a> Rules<'a> {
-    /// The records in these bytes; a rest of fewer than 8 bytes isn't one.
-    pub fn of(bytes: &'a [u8]) -> Rules<'a> {
-        Rules(bytes.as_chunks().0)
+    /// The records in these bytes; a rest of fewer bytes than a rule has isn't one.
+    pub fn of(bytes: &'a [u8], format: Format) -> Rules<'a> {
+        match format {
+            Format::Narrow => Rules::Narrow(bytes.as_chunks().0),
+            Format::Wide => Rules::Wide(bytes.as_chunks().0),
+        }
+    }
+
+    pub fn format(self) -> Format {
+        match self {
+            Rules::Narrow(_) => Format::Narrow,
+            Rules::Wide(_) => Format::Wide,
+        }
     }
 
     pub fn count(self) -> usize {
-        self.0.len()
+        match self {
+            Rules::Narrow(records) => records.len(),
+            Rules::Wide(records) => records.len(),
+        }
     }
 
     pub fn bytes(self) -> &'a [u8] {
-        self.0.as_flattened()
+        match self {
+            Rules::Narrow(records) => records.as_flattened(),
+            Rules::Wide(records) => records.as_flattened(),
+        }
+    }
+
+    fn words(self, rule: usize) -> [u16; WORDS] {
+        match self {
+            Rules::Narrow(records) => {
+                let [kind, a, b, c] = words::unpack(records[rule]);
+                [kind, a, b, c, 0]
+            }
+            Rules::Wide(records) => std::array::from_fn(|word| words::get(&records[rule], word)),
+        }
     }
 
     fn kind(self, rule: u16) -> u16 {
-        words::get(&self.0[usize::from(rule)], 0)
+        match self {
+            Rules::Narrow(records) => words::get(&records[usize::from(rule)], 0),
+            Rules::Wide(records) => words::get(&records[usize::from(rule)], 0),
+        }
     }
 
     /// A rule of an accepted plan.
     pub fn get(self, rule: u16) -> Rule {
-        Rule::of(words::unpack(self.0[usize::from(rule)]))
+        Rule::of(self.words(rule.into()))
     }
 
     /// Refusals 4 to 6 of one rule; gives whether all that it names is lower. A named rule may be one that isn't judged yet: of that only
     /// the kind is looked at, and a kind above 5 is of no sort.
     fn judge_rule(self, number: usize) -> Result<bool, Why> {
-        let Some([(b, sort_of_b), (c, sort_of_c)]) = names(words::unpack(self.0[number]))? else { return Ok(true) };
+        let Some([(b, sort_of_b), (c, sort_of_c)]) = names(self.words(number), self.format())? else { return Ok(true) };
         let highest = usize::from(b.max(c));
         if highest >= self.count() {
             return Err(Why::NotBelow);
@@ -166,6 +205,10 @@ impl Plan<'_> {
         Checked { n: self.rules.count() as u16, start: self.start }
     }
 
+    pub fn format(&self) -> Format {
+        self.rules.format()
+    }
+
     /// All rules, each after those that it names.
     pub fn order(&self) -> impl Iterator<Item = u16> {
         (0..self.rules.count()).map(|place| self.order.as_ref().map_or(place as u16, |order| order[place]))
@@ -176,18 +219,16 @@ impl Plan<'_> {
 pub fn read(bytes: &[u8]) -> Result<Plan<'_>, Refused> {
     let (body, trailer) = bytes.split_last_chunk::<TRAILER>().ok_or(Why::Mark.here())?;
     let [n0, n1, s0, s1, d0, d1, d2, d3, mark @ ..] = *trailer;
-    if mark != MARK {
-        return Err(Why::Mark.here());
-    }
+    let format = Format::of_mark(mark).ok_or(Why::Mark.here())?;
     let n = usize::from(u16::from_le_bytes([n0, n1]));
     if n == 0 || n > MAX_RULES {
         return Err(Why::Count.here());
     }
     let distance = u32::from_le_bytes([d0, d1, d2, d3]) as usize;
-    if distance != RECORD * n || distance > body.len() {
+    if distance != format.record() * n || distance > body.len() {
         return Err(Why::Distance.here());
     }
-    let rules = Rules::of(&body[body.len() - distance..]);
+    let rules = Rules::of(&body[body.len() - distance..], format);
     let start = u16::from_le_bytes([s0, s1]);
     let order = rules.judge(start)?;
     Ok(Plan { rules, start, order })
@@ -197,31 +238,34 @@ pub fn check(plan: &[u8]) -> Result<Checked, Refused> {
     Ok(read(plan)?.checked())
 }
 
-/// Writes rule words as a plan without cover; gives its length.
-pub fn seal(words: &[u8], start: u16, out: &mut [u8]) -> Result<u64, Refused> {
-    let (rules, n) = (Rules::of(words), words::count(words) / 4);
-    if words::count(words) != 4 * n || n == 0 || n > MAX_RULES {
+/// Writes rule words, of rules of so many bytes, as a plan without cover; gives its length.
+pub fn seal(words: &[u8], record_length: u16, start: u16, out: &mut [u8]) -> Result<u64, Refused> {
+    let format = Format::of_record_length(record_length).ok_or(Why::Mark.here())?;
+    let (rules, n) = (Rules::of(words, format), words::count(words) / format.words());
+    if words::count(words) != format.words() * n || n == 0 || n > MAX_RULES {
         return Err(Why::Count.here());
     }
     rules.judge(start)?;
-    let out = out.get_mut(..RECORD * n + TRAILER).ok_or(Why::Output.here())?;
-    let (records, end) = out.split_at_mut(RECORD * n);
+    let out = out.get_mut(..format.record() * n + TRAILER).ok_or(Why::Output.here())?;
+    let (records, end) = out.split_at_mut(format.record() * n);
     records.copy_from_slice(rules.bytes());
-    end.copy_from_slice(&trailer(n, start));
+    end.copy_from_slice(&trailer(format, n, start));
     Ok(out.len() as u64)
 }
 
-pub fn trailer(n: usize, start: u16) -> [u8; TRAILER] {
+pub fn trailer(format: Format, n: usize, start: u16) -> [u8; TRAILER] {
     let [n0, n1] = (n as u16).to_le_bytes();
     let [s0, s1] = start.to_le_bytes();
-    let [d0, d1, d2, d3] = ((RECORD * n) as u32).to_le_bytes();
-    [n0, n1, s0, s1, d0, d1, d2, d3, MARK[0], MARK[1]]
+    let [d0, d1, d2, d3] = ((format.record() * n) as u32).to_le_bytes();
+    let [m0, m1] = format.mark();
+    [n0, n1, s0, s1, d0, d1, d2, d3, m0, m1]
 }
 
-/// Writes a plan's rule words at the front of `out`.
-pub fn unseal(plan: &[u8], out: &mut [u8]) -> Result<Checked, Refused> {
+/// Writes a plan's rule words at the front of `out`; gives their length too.
+pub fn unseal(plan: &[u8], out: &mut [u8]) -> Result<Unsealed, Refused> {
     let plan = read(plan)?;
     let words = plan.rules.bytes();
     out.get_mut(..words.len()).ok_or(Why::Output.here())?.copy_from_slice(words);
-    Ok(plan.checked())
+    let Checked { n, start } = plan.checked();
+    Ok(Unsealed { record_length: plan.format().record_length(), n, start })
 }

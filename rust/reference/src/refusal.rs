@@ -10,13 +10,13 @@ pub struct Refused {
 /// What a call is turned down for; the value is the documents' number.
 #[derive(Clone, Copy, PartialEq, Eq, Debug)]
 pub enum Why {
-    /// Fewer than 10 bytes, or a wrong mark.
+    /// Fewer than 10 bytes, or a mark that is neither format's; for seal, a record length that is neither's.
     Mark = 1,
-    /// The number of rules is 0 or above 1,024.
+    /// The number of rules is 0 or above 1,024; seal's words aren't so many to a rule.
     Count = 2,
-    /// The distance isn't 8 × n or goes back before the first byte.
+    /// The distance isn't the record length × n or goes back before the first byte.
     Distance = 3,
-    /// A kind above 5, a label above 255, an unused word that isn't 0.
+    /// A kind above 5, a label that the format doesn't have, an unused word that isn't 0.
     Record = 4,
     /// A rule names one that isn't below n.
     NotBelow = 5,

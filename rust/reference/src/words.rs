@@ -12,7 +12,7 @@ pub fn put(bytes: &mut [u8], index: usize, word: u16) {
     bytes[2 * index..2 * index + 2].copy_from_slice(&word.to_le_bytes());
 }
 
-/// Four words as eight bytes: the form of a rule and of a cell.
+/// Four words as eight bytes: the form of a cell.
 pub fn pack(words: [u16; 4]) -> [u8; 8] {
     let mut bytes = [0; 8];
     for (index, word) in words.into_iter().enumerate() {

@@ -1,26 +1,35 @@
-//! Rules in any order (document 02, Note 1): refusals 4 to 7 and 12 against a closure of what is named, and the sample plan with its rules
-//! numbered in every way.
+//! Rules in any order (document 02, Note 1), in both formats: refusals 4 to 7 and 12 against a closure of what is named, and the sample plan
+//! with its rules numbered in every way.
 use reference::place::Cell;
-use reference::plan::{self, Rule, Sort, cursor_bytes, work_bytes};
+use reference::plan::{self, Rule, Sort, WORDS, cursor_bytes, work_bytes};
 use reference::unfolded::Unfolded;
-use reference::{Checked, Measured, Refused, Why, place, rules, words};
+use reference::{Checked, Format, Measured, NOWHERE, Refused, Why, answers, place, rules};
 
 /// A plan without cover, whatever its rules.
-fn plan_of(records: &[[u16; 4]], start: u16) -> Vec<u8> {
-    let mut plan: Vec<u8> = records.iter().flat_map(|record| words::pack(*record)).collect();
-    plan.extend(plan::trailer(records.len(), start));
+fn plan_of(format: Format, records: &[[u16; WORDS]], start: u16) -> Vec<u8> {
+    let words = records.iter().flat_map(|record| &record[..format.words()]);
+    let mut plan: Vec<u8> = words.flat_map(|word| word.to_le_bytes()).collect();
+    plan.extend(plan::trailer(format, records.len(), start));
     plan
 }
 
 /// What check says of rules and a start, after seal has said the same.
-fn check(records: &[[u16; 4]], start: u16) -> Result<Checked, Refused> {
-    let plan = plan_of(records, start);
+fn check_in(format: Format, records: &[[u16; WORDS]], start: u16) -> Result<Checked, Refused> {
+    let plan = plan_of(format, records, start);
     let checked = plan::check(&plan);
     let mut sealed = vec![0; plan.len()];
-    let written = plan::seal(&plan[..8 * records.len()], start, &mut sealed);
+    let words = &plan[..format.record() * records.len()];
+    let written = plan::seal(words, format.record_length(), start, &mut sealed);
     assert_eq!(written.map(|_| ()), checked.map(|_| ()), "seal judges as check does");
     assert!(written.is_err() || sealed == plan, "what is sealed is the plan");
     checked
+}
+
+/// What check says in both formats, for labels that both have.
+fn check(records: &[[u16; WORDS]], start: u16) -> Result<Checked, Refused> {
+    let [narrow, wide] = Format::BOTH.map(|format| check_in(format, records, start));
+    assert_eq!(narrow, wide, "the formats are judged alike");
+    narrow
 }
 
 /// The lowest rule that reaches itself, by Warshall's closure.
@@ -41,7 +50,7 @@ fn lowest_by_closure(rules: &[Rule]) -> Option<usize> {
 
 /// Check and the closure agree on rules of the right sort.
 fn agree(rules: &[Rule], start: u16) -> bool {
-    let records: Vec<[u16; 4]> = rules.iter().map(|rule| rule.words()).collect();
+    let records: Vec<_> = rules.iter().map(|rule| rule.words()).collect();
     let lowest = lowest_by_closure(rules);
     let expected = match lowest {
         Some(lowest) => Err(Why::Cycle.at(lowest)),
@@ -119,6 +128,9 @@ fn plans_at_random() {
 
 #[test]
 fn order_of_the_refusals() {
+    // Four words a rule, and in a wide plan a fifth that is 0.
+    let with_fifth = |records: &[[u16; 4]]| records.iter().map(|[k, a, b, c]| [*k, *a, *b, *c, 0]).collect::<Vec<_>>();
+    let check = |records: &[[u16; 4]], start| check(&with_fifth(records), start);
     let refused = |records: &[[u16; 4]], start| check(records, start).expect_err("it is to be refused");
     assert_eq!(refused(&[[1, 0, 0, 0]], 0), Why::Cycle.at(0));
     assert_eq!(refused(&[[1, 0, 1, 0]], 0), Why::NotBelow.at(0));
@@ -154,8 +166,10 @@ fn long_ones() {
     let mut backwards = node(|rule| (rule + 1).min(N - 1));
     backwards[1023] = Rule::Empty.words();
     let mut work = vec![3; work_bytes(1024)];
-    let measured = rules::measure(&plan_of(&backwards, 0), &mut work);
-    assert_eq!(measured, Ok(Measured { trees: 1, entries: 1023, levels: 1023 }));
+    for format in Format::BOTH {
+        let measured = rules::measure(&plan_of(format, &backwards, 0), &mut work);
+        assert_eq!(measured, Ok(Measured { trees: 1, entries: 1023, levels: 1023 }));
+    }
 }
 
 /// The sample plan of document 01.
@@ -185,11 +199,11 @@ fn renamed(rule: Rule, of: impl Fn(u16) -> u16) -> Rule {
 /// The sample plan by a numbering has the text, the counts, the answers and, with the rules renumbered, the cells of the sample plan.
 fn as_the_sample(number: &[u16]) {
     let of = |rule: u16| number[usize::from(rule)];
-    let mut records = [[0; 4]; 8];
+    let mut records = [[0; WORDS]; 8];
     for (rule, to) in SAMPLE.iter().zip(number) {
         records[usize::from(*to)] = renamed(*rule, of).words();
     }
-    let plan = plan_of(&records, of(7));
+    let plan = plan_of(Format::Narrow, &records, of(7));
     let mut work = vec![3; work_bytes(8)];
     assert_eq!(check(&records, of(7)), Ok(Checked { n: 8, start: of(7) }));
     let unfolded = Unfolded::of(&plan, 11).expect("eleven nodes");
@@ -210,14 +224,14 @@ fn as_the_sample(number: &[u16]) {
                 &[97, 98, 99, 97, 98, 97],
                 &[[1, 0, 7, 0], [3, 7, 6, 0], [2, 6, 0, 0], [4, 5, 4, 0], [2, 1, 0, 0]],
             ),
-            ("nnununn", &[98, 65_535, 99, 98, 99, 97, 98], &[[1, 0, 7, 0], [4, 7, 2, 0], [2, 2, 0, 0]]),
+            ("nnununn", &[98, NOWHERE, 99, 98, 99, 97, 98], &[[1, 0, 7, 0], [4, 7, 2, 0], [2, 2, 0, 0]]),
         ] {
-            let mut answers = vec![0; 2 * letters.len()];
+            let mut out = vec![0; answers::LENGTH * letters.len()];
             let walked = match by_rules {
-                true => rules::walk(&plan, &mut work, &mut cursor, letters.as_bytes(), &mut answers),
-                false => unfolded.walk(&mut work, &mut cursor, letters.as_bytes(), &mut answers),
+                true => rules::walk(&plan, &mut work, &mut cursor, letters.as_bytes(), &mut out),
+                false => unfolded.walk(&mut work, &mut cursor, letters.as_bytes(), &mut out),
             };
-            let answers: Vec<u16> = (0..letters.len()).map(|index| words::get(&answers, index)).collect();
+            let answers: Vec<u32> = (0..letters.len()).map(|index| answers::get(&out, index)).collect();
             let cells: Vec<Cell> = cells.iter().map(|cell| Cell(*cell).renumbered(number)).collect();
             assert_eq!((walked, &answers[..]), (Ok(()), labels));
             assert_eq!(place::used(&cursor), Ok(cells), "{letters} by {number:?}");

@@ -1,5 +1,6 @@
 //! A call with the slices that it is lent, and what an implementation makes of it.
-use reference::{Checked, Measured, Refused, rules, unfolded::Unfolded};
+use crate::draft::Draft;
+use reference::{Checked, Format, Measured, Refused, Unsealed, answers, rules, unfolded::Unfolded};
 use reference::{plan, plan::cursor_bytes, plan::work_bytes};
 
 #[derive(Clone, Copy, PartialEq, Eq, PartialOrd, Ord, Debug)]
@@ -28,7 +29,8 @@ pub struct Call {
     pub operation: Operation,
     /// The plan; for seal the rule words.
     pub plan: Vec<u8>,
-    /// Seal's start.
+    /// Seal's record length and start.
+    pub record_length: u16,
     pub start: u16,
     pub work: Vec<u8>,
     pub cursor: Vec<u8>,
@@ -43,6 +45,7 @@ impl Call {
         let mut call = Call {
             operation,
             plan,
+            record_length: Format::Narrow.record_length(),
             start: 0,
             work: Vec::new(),
             cursor: Vec::new(),
@@ -59,10 +62,16 @@ impl Call {
         call
     }
 
+    /// The seal of a draft's rules, without output.
+    pub fn seal(draft: &Draft) -> Call {
+        let call = Call::new(Operation::Seal, draft.words(), draft.n());
+        Call { record_length: draft.format.record_length(), start: draft.start, ..call }
+    }
+
     /// The same call with these letters, and answers for them.
     pub fn with_letters(mut self, letters: &[u8]) -> Call {
         self.letters = letters.to_vec();
-        self.answers = vec![0xA5; 2 * letters.len()];
+        self.answers = vec![0xA5; answers::LENGTH * letters.len()];
         self
     }
 }
@@ -70,6 +79,7 @@ impl Call {
 /// The slices of a call as they are lent.
 pub struct Slices<'a> {
     pub plan: &'a [u8],
+    pub record_length: u16,
     pub start: u16,
     pub work: &'a mut [u8],
     pub cursor: &'a mut [u8],
@@ -82,6 +92,7 @@ pub struct Slices<'a> {
 #[derive(Clone, Copy, PartialEq, Eq, Debug)]
 pub enum Values {
     Checked(Checked),
+    Unsealed(Unsealed),
     Length(u64),
     Measured(Measured),
     Walked,
@@ -106,8 +117,8 @@ impl Implementation for ByRules {
     fn run(&mut self, operation: Operation, lent: Slices) -> Option<Outcome> {
         Some(match operation {
             Operation::Check => plan::check(lent.plan).map(Values::Checked),
-            Operation::Seal => plan::seal(lent.plan, lent.start, lent.out).map(Values::Length),
-            Operation::Unseal => plan::unseal(lent.plan, lent.out).map(Values::Checked),
+            Operation::Seal => plan::seal(lent.plan, lent.record_length, lent.start, lent.out).map(Values::Length),
+            Operation::Unseal => plan::unseal(lent.plan, lent.out).map(Values::Unsealed),
             Operation::Measure => rules::measure(lent.plan, lent.work).map(Values::Measured),
             Operation::Spread => rules::spread(lent.plan, lent.work, lent.out).map(Values::Length),
             Operation::Walk => {

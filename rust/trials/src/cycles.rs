@@ -2,6 +2,7 @@
 //! so only added rules reach themselves, and the plan says which. Then all rules are numbered anew.
 use crate::draft::{Draft, NAMES, names_of};
 use crate::random::Random;
+use crate::random_plans;
 use reference::plan::{Rule, Sort};
 
 /// A plan with the rules of it that reach themselves.
@@ -132,9 +133,10 @@ pub struct Builder<'a> {
 impl Builder<'_> {
     /// Adds a rule of a kind. One word names what it is given, the others name rules that the plan had.
     fn add(&mut self, kind: u16, name: Option<(usize, u16)>) -> u16 {
-        let mut record = [kind, 0, 0, 0];
+        let mut record = [kind, 0, 0, 0, 0];
         if matches!(kind, 2 | 4) {
-            record[1] = self.random.below(256) as u16;
+            let label = random_plans::label(self.draft.format, self.random);
+            (record[1], record[4]) = (label as u16, (label >> 16) as u16);
         }
         for (word, sort) in names_of(kind) {
             record[word] = match name {

@@ -2,8 +2,8 @@
 use crate::cycles;
 use crate::draft::{Draft, NAMES, names_of};
 use crate::random::Random;
-use reference::plan::{MARK, MAX_RULES, Rule, Sort, TRAILER};
-use reference::{Refused, Why};
+use reference::plan::{MAX_RULES, Rule, Sort, TRAILER, WORDS};
+use reference::{Format, Refused, Why};
 
 /// A damaged plan: its bytes, its rules if they can be sealed all the same, and what it must be refused with.
 pub struct Damaged {
@@ -24,9 +24,11 @@ fn damage(way: String, apply: impl Fn(Draft, &mut Random) -> Damaged + 'static) 
     Damage { way, apply: Box::new(apply) }
 }
 
-pub fn all() -> Vec<Damage> {
+/// The ways to damage a plan of a format.
+pub fn all(format: Format) -> Vec<Damage> {
     let mut all = in_trailer();
     all.extend(in_record());
+    all.extend(in_label(format));
     all.extend(in_names());
     all.extend(in_start());
     all.extend(in_cycles());
@@ -42,11 +44,13 @@ fn distance_in(plan: &[u8], trailer: usize) -> u32 {
 /// 1 to 3: the plan's bytes, changed as given with the trailer's first byte.
 fn in_trailer() -> Vec<Damage> {
     type Change = fn(&mut Vec<u8>, usize, &mut Random);
-    let ways: [(&str, Why, Change); 10] = [
+    let ways: [(&str, Why, Change); 12] = [
         ("fewer than 10 bytes", Why::Mark, |plan, _, random| drop(plan.drain(..plan.len() - random.below(TRAILER)))),
         ("first mark byte", Why::Mark, |plan, at, random| plan[at + 8] ^= random.between(1, 255) as u8),
-        ("second mark byte", Why::Mark, |plan, at, random| plan[at + 9] ^= random.between(1, 255) as u8),
-        ("marks swapped", Why::Mark, |plan, at, _| plan[at + 8..].copy_from_slice(&[MARK[1], MARK[0]])),
+        // The second bytes of both marks differ in one bit.
+        ("second mark byte", Why::Mark, |plan, at, random| plan[at + 9] ^= random.between(2, 255) as u8),
+        ("marks swapped", Why::Mark, |plan, at, _| plan.swap(at + 8, at + 9)),
+        ("the other format's mark", Why::Distance, |plan, at, _| plan[at + 9] ^= 1),
         ("n is 0", Why::Count, |plan, at, _| plan[at..at + 2].fill(0)),
         ("n above 1,024", Why::Count, |plan, at, random| {
             let any = random.between(MAX_RULES + 1, 65_535);
@@ -54,12 +58,17 @@ fn in_trailer() -> Vec<Damage> {
             plan[at..at + 2].copy_from_slice(&n.to_le_bytes());
         }),
         ("distance too short", Why::Distance, |plan, at, random| {
-            let shorter = distance_in(plan, at) - random.pick(&[1, 7, 8]);
+            let shorter = distance_in(plan, at) - random.pick(&[1, 7, 8, 9, 10]);
             plan[at + 4..at + 8].copy_from_slice(&shorter.to_le_bytes());
         }),
         ("distance too long", Why::Distance, |plan, at, random| {
-            let longer = distance_in(plan, at) + random.pick(&[1, 2, 7, 8, 9]);
+            let longer = distance_in(plan, at) + random.pick(&[1, 2, 7, 8, 9, 10, 11]);
             plan[at + 4..at + 8].copy_from_slice(&longer.to_le_bytes());
+        }),
+        ("the other format's distance", Why::Distance, |plan, at, _| {
+            let rules = u32::from(u16::from_le_bytes([plan[at], plan[at + 1]]));
+            let other = if distance_in(plan, at) == 8 * rules { 10 * rules } else { 8 * rules };
+            plan[at + 4..at + 8].copy_from_slice(&other.to_le_bytes());
         }),
         ("distance's upper half", Why::Distance, |plan, at, random| {
             plan[at + 6 + random.below(2)] ^= random.between(1, 255) as u8
@@ -104,25 +113,47 @@ fn high_of_kind(kind: u16, draft: &Draft, random: &mut Random) -> usize {
 
 const ABOVE_KINDS: [u16; 5] = [6, 7, 255, 256, 65_535];
 
-/// 4: kinds above 5, labels above 255, unused words.
+/// 4: kinds above 5, and unused words.
 fn in_record() -> Vec<Damage> {
     let mut all = Vec::new();
     for kind in 0..Rule::KINDS {
         let above = |_: &mut Draft, _: usize, random: &mut Random| random.pick(&ABOVE_KINDS);
         all.push(in_word(format!("kind {kind} made a kind above 5"), kind, 0, Why::Record, above));
     }
-    for kind in [2, 4] {
-        let above = |_: &mut Draft, _: usize, random: &mut Random| random.between(256, 65_535) as u16;
-        let just = |_: &mut Draft, _: usize, _: &mut Random| 256;
-        all.push(in_word(format!("label of kind {kind} above 255"), kind, 1, Why::Record, above));
-        all.push(in_word(format!("label of kind {kind} just above 255"), kind, 1, Why::Record, just));
-    }
     for (kind, word) in [(0, 1), (0, 2), (0, 3), (1, 3), (2, 3), (3, 3), (5, 3)] {
-        let nonzero = |_: &mut Draft, _: usize, random: &mut Random| random.pick(&[1, 255, 256, 65_535]);
         all.push(in_word(format!("unused word {word} of kind {kind}"), kind, word, Why::Record, nonzero));
     }
     all
 }
+
+fn nonzero(_: &mut Draft, _: usize, random: &mut Random) -> u16 {
+    random.pick(&[1, 255, 256, 65_535])
+}
+
+/// 4: in a narrow plan labels above 255, in a wide one fifth words above 255, and not 0 in kinds without a label.
+fn in_label(format: Format) -> Vec<Damage> {
+    let (name, word) = match format {
+        Format::Narrow => ("label", LABEL),
+        Format::Wide => ("fifth word", HIGH),
+    };
+    let mut all = Vec::new();
+    for kind in [2, 4] {
+        let above = |_: &mut Draft, _: usize, random: &mut Random| random.between(256, 65_535) as u16;
+        let just = |_: &mut Draft, _: usize, _: &mut Random| 256;
+        all.push(in_word(format!("{name} of kind {kind} above 255"), kind, word, Why::Record, above));
+        all.push(in_word(format!("{name} of kind {kind} just above 255"), kind, word, Why::Record, just));
+    }
+    if format == Format::Wide {
+        for kind in [0, 1, 3, 5] {
+            all.push(in_word(format!("fifth word of kind {kind} not 0"), kind, HIGH, Why::Record, nonzero));
+        }
+    }
+    all
+}
+
+/// The words of a label: its low part, and the high part that only wide plans have.
+const LABEL: usize = 1;
+const HIGH: usize = 4;
 
 /// 5, 6 and 12: a rule that isn't there, one of each kind of the wrong sort and of a kind above 5, lower or higher, and one that reaches the
 /// rule that names it.
@@ -173,7 +204,7 @@ fn a_rule_of_kind(kind: u16, below: usize, draft: &Draft, random: &mut Random) -
 fn above_kinds(name: &str, kind: u16, word: usize) -> [Damage; 2] {
     [
         in_word(format!("{name} names a higher rule of a kind above 5"), kind, word, Why::Sort, |draft, _, random| {
-            draft.records.push([random.pick(&ABOVE_KINDS), 0, 0, 0]);
+            draft.records.push([random.pick(&ABOVE_KINDS), 0, 0, 0, 0]);
             draft.n() as u16 - 1
         }),
         damage(format!("{name} names a lower rule of a kind above 5"), move |mut draft, random| {
@@ -208,12 +239,16 @@ type Fault = fn(&mut Draft, usize, &mut Random) -> Option<()>;
 
 const FAULTS: [(&str, Why, Fault); 3] = [
     ("a rule that isn't whole", Why::Record, |draft, rule, random| {
+        let above = random.between(256, 65_535) as u16;
+        let label = if draft.format == Format::Wide { HIGH } else { LABEL };
+        let last = if draft.format == Format::Wide { HIGH } else { 3 };
         let record = &mut draft.records[rule];
         match record[0] {
-            0 => record[random.between(1, 3)] = random.between(1, 65_535) as u16,
-            2 if random.once_in(2) => record[1] = random.between(256, 65_535) as u16,
-            4 => record[1] = random.between(256, 65_535) as u16,
-            _ => record[3] = random.between(1, 65_535) as u16,
+            0 => record[random.between(1, last)] = random.between(1, 65_535) as u16,
+            2 if random.once_in(2) => record[label] = above,
+            2 => record[3] = random.between(1, 65_535) as u16,
+            4 => record[label] = above,
+            _ => record[random.between(3, last)] = random.between(1, 65_535) as u16,
         }
         Some(())
     }),
@@ -306,7 +341,7 @@ fn in_any_order() -> Vec<Damage> {
                 let rule = random.below(draft.n());
                 draft.records[rule][0] = random.pick(&ABOVE_KINDS);
                 let names_it =
-                    |record: &[u16; 4]| names_of(record[0]).any(|(word, _)| usize::from(record[word]) == rule);
+                    |record: &[u16; WORDS]| names_of(record[0]).any(|(word, _)| usize::from(record[word]) == rule);
                 let lower = draft.records[..rule].iter().position(names_it);
                 if lower.is_some() == (why == Why::Sort) {
                     return Damaged { plan: draft.plan(), draft: Some(draft), refused: why.at(lower.unwrap_or(rule)) };

@@ -1,6 +1,6 @@
 //! A plan being made: rules that may still be damaged, and the start.
-use reference::plan::{self, RECORD, Rule, Sort, trailer};
-use reference::words;
+use reference::Format;
+use reference::plan::{self, Rule, Sort, TRAILER, WORDS, trailer};
 
 /// The words that name rules: kind, word, and the sort that the rule named must have.
 pub const NAMES: [(u16, usize, Sort); 9] = [
@@ -22,7 +22,9 @@ pub fn names_of(kind: u16) -> impl Iterator<Item = (usize, Sort)> {
 
 #[derive(Clone, Default)]
 pub struct Draft {
-    pub records: Vec<[u16; 4]>,
+    pub format: Format,
+    /// Of the words of a rule a narrow plan has the first four.
+    pub records: Vec<[u16; WORDS]>,
     pub start: u16,
     /// Bytes before the first rule.
     pub prefix: Vec<u8>,
@@ -67,20 +69,49 @@ impl Draft {
             *renumbered = *record;
             names_of(record[0]).for_each(|(word, _)| renumbered[word] = of(record[word]));
         }
-        Draft { records, start: of(self.start), prefix: self.prefix.clone() }
+        Draft { format: self.format, records, start: of(self.start), prefix: self.prefix.clone() }
+    }
+
+    /// The same rules in a plan of a format; a narrow one has no labels above 255.
+    pub fn in_format(self, format: Format) -> Draft {
+        Draft { format, ..self }
+    }
+
+    /// A valid plan with other labels.
+    pub fn relabelled(&self, mut label: impl FnMut(u32) -> u32) -> Draft {
+        let mut relabelled = self.clone();
+        for record in &mut relabelled.records {
+            *record = match Rule::of(*record) {
+                Rule::Node(old, c) => Rule::Node(label(old), c).words(),
+                Rule::Part(old, l, r) => Rule::Part(label(old), l, r).words(),
+                _ => *record,
+            };
+        }
+        relabelled
     }
 
     /// The rule words, as seal takes them.
     pub fn words(&self) -> Vec<u8> {
-        self.records.iter().flat_map(|record| words::pack(*record)).collect()
+        let words = self.records.iter().flat_map(|record| &record[..self.format.words()]);
+        words.flat_map(|word| word.to_le_bytes()).collect()
+    }
+
+    /// Bytes of the rule words.
+    pub fn words_length(&self) -> usize {
+        self.format.record() * self.n()
+    }
+
+    /// Bytes of the plan without its prefix.
+    pub fn sealed_length(&self) -> usize {
+        self.words_length() + TRAILER
     }
 
     /// The whole plan.
     pub fn plan(&self) -> Vec<u8> {
         let mut plan = self.prefix.clone();
-        plan.reserve(RECORD * self.n() + 10);
+        plan.reserve(self.sealed_length());
         plan.extend(self.words());
-        plan.extend(trailer(self.n(), self.start));
+        plan.extend(trailer(self.format, self.n(), self.start));
         plan
     }
 

@@ -15,13 +15,13 @@ pub fn sample() -> Draft {
         Rule::Fill(5, 1),
         Rule::Pair(6, 3),
     ];
-    Draft { records: rules.map(Rule::words).to_vec(), start: 7, prefix: Vec::new() }
+    Draft { records: rules.map(Rule::words).to_vec(), start: 7, ..Draft::default() }
 }
 
 /// An empty rule, and a leaf over it.
 fn ground(draft: &mut Draft) -> (u16, u16) {
     let empty = draft.add(Rule::Empty);
-    (empty, draft.add(Rule::Node(u16::from(b'a'), empty)))
+    (empty, draft.add(Rule::Node(u32::from(b'a'), empty)))
 }
 
 /// What a family does to a row or to a holed rule, over and over.
@@ -70,7 +70,7 @@ pub fn rows(growth: Growth, n: usize) -> Draft {
     let (empty, leaf) = ground(&mut draft);
     let steps = n.saturating_sub(3);
     let below = row(&mut draft, growth, steps / 2, leaf, empty);
-    let tree = draft.add(Rule::Node(u16::from(b'b'), below));
+    let tree = draft.add(Rule::Node(u32::from(b'b'), below));
     row(&mut draft, growth, steps - steps / 2, tree, empty);
     draft
 }
@@ -79,7 +79,7 @@ pub fn rows(growth: Growth, n: usize) -> Draft {
 pub fn spine(growth: Growth, n: usize) -> Draft {
     let mut draft = Draft::default();
     let (_, leaf) = ground(&mut draft);
-    let part = draft.add(Rule::Part(u16::from(b'c'), leaf, leaf));
+    let part = draft.add(Rule::Part(u32::from(b'c'), leaf, leaf));
     let mut spine = part;
     let growth = if growth == Growth::OneSided { Growth::Doubled } else { growth };
     for step in 0..n.saturating_sub(4) {
@@ -95,7 +95,7 @@ pub fn chained(n: usize) -> Draft {
     let mut draft = Draft::default();
     let (empty, leaf) = ground(&mut draft);
     let parts = [(leaf, empty), (empty, leaf), (empty, empty), (leaf, leaf)];
-    let parts = parts.map(|(l, r)| draft.add(Rule::Part(u16::from(b'd'), l, r)));
+    let parts = parts.map(|(l, r)| draft.add(Rule::Part(u32::from(b'd'), l, r)));
     let mut tree = leaf;
     for step in 0..n.saturating_sub(draft.n()) {
         tree = draft.add(Rule::Fill(parts[step % 4], tree));
@@ -111,7 +111,7 @@ pub fn nested(n: usize) -> Draft {
     while draft.n() + 3 <= n {
         let before = draft.add(Rule::Pair(leaf, forest));
         let row = draft.add(Rule::Pair(before, leaf));
-        forest = draft.add(Rule::Node(u16::from(b'e'), row));
+        forest = draft.add(Rule::Node(u32::from(b'e'), row));
     }
     draft
 }
@@ -122,13 +122,13 @@ pub fn paper(depth: usize) -> Draft {
     let empty = draft.add(Rule::Empty);
     let leaf = [b'a', b'b'].map(|label| draft.add(Rule::Node(label.into(), empty)));
     let mut wide = draft.add(Rule::Pair(leaf[0], leaf[1]));
-    let mut deep = draft.add(Rule::Part(u16::from(b'b'), empty, empty));
+    let mut deep = draft.add(Rule::Part(u32::from(b'b'), empty, empty));
     for _ in 0..depth {
         wide = draft.add(Rule::Pair(wide, wide));
         deep = draft.add(Rule::Join(deep, deep));
     }
     let mut tree = |l: u16, r: u16, content: u16| {
-        let part = draft.add(Rule::Part(u16::from(b'c'), l, r));
+        let part = draft.add(Rule::Part(u32::from(b'c'), l, r));
         let below = draft.add(Rule::Join(deep, part));
         let spine = draft.add(Rule::Join(part, below));
         draft.add(Rule::Fill(spine, content))
@@ -144,7 +144,7 @@ pub fn towers(n: usize) -> Draft {
     let (_, mut forest) = ground(&mut draft);
     while draft.n() < n {
         forest = draft.add(match draft.n() % 9 {
-            0 => Rule::Node(u16::from(b'g'), forest),
+            0 => Rule::Node(u32::from(b'g'), forest),
             _ => Rule::Pair(forest, forest),
         });
     }

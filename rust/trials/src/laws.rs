@@ -1,13 +1,15 @@
-//! What document 01 says of the lent slices, asked of every call whatever the implementations agree on.
+//! What documents 01 and 02 say of the lent slices, asked of every call whatever the implementations agree on.
 use crate::call::{Call, Operation, Outcome, Values};
-use reference::plan::{RECORD, TRAILER, cursor_bytes, work_bytes};
-use reference::{Why, words};
+use reference::plan::{TRAILER, cursor_bytes, work_bytes};
+use reference::{Format, Why, answers, words};
 
 /// Asks the laws of a call and of the slices after it.
 pub fn ask(before: &Call, outcome: &Outcome, after: &Call) {
     assert!(before.plan == after.plan && before.letters == after.letters, "no call writes its plan or letters");
     if before.operation == Operation::Seal {
-        return ask_front(&before.out, outcome, &after.out, outcome_length(outcome, 0));
+        let neither = Format::of_record_length(before.record_length).is_none();
+        assert_eq!(*outcome == Err(Why::Mark.here()), neither, "seal's 1 is a record length that is neither");
+        return ask_front(&before.out, outcome, &after.out);
     }
     // 12 comes before 7.
     let past = |why: Why| match outcome {
@@ -22,7 +24,7 @@ pub fn ask(before: &Call, outcome: &Outcome, after: &Call) {
     }
     match before.operation {
         Operation::Walk => ask_walk(before, outcome, after, n),
-        _ => ask_front(&before.out, outcome, &after.out, outcome_length(outcome, RECORD * n)),
+        _ => ask_front(&before.out, outcome, &after.out),
     }
 }
 
@@ -32,18 +34,13 @@ fn rules_of(plan: &[u8]) -> usize {
     usize::from(u16::from_le_bytes([plan[at], plan[at + 1]]))
 }
 
-/// How many bytes of output an accepted call writes.
-fn outcome_length(outcome: &Outcome, unsealed: usize) -> usize {
-    match outcome {
-        Ok(Values::Length(length)) => *length as usize,
-        Ok(Values::Checked(_)) => unsealed,
-        _ => 0,
-    }
-}
-
 /// Output changes at its front alone; refused, nowhere. Check and measure have none.
-fn ask_front(before: &[u8], outcome: &Outcome, after: &[u8], written: usize) {
-    let written = if outcome.is_ok() { written.min(after.len()) } else { 0 };
+fn ask_front(before: &[u8], outcome: &Outcome, after: &[u8]) {
+    let written = match outcome {
+        Ok(Values::Length(length)) => *length as usize,
+        Ok(Values::Unsealed(unsealed)) => usize::from(unsealed.record_length) * usize::from(unsealed.n),
+        _ => 0,
+    };
     assert!(before[written..] == after[written..], "later output stays");
 }
 
@@ -53,7 +50,7 @@ fn ask_walk(before: &Call, outcome: &Outcome, after: &Call, n: usize) {
         assert!(before.answers == after.answers, "refused, answers are untouched");
         return;
     }
-    let (needed, answered) = (cursor_bytes(n), 2 * before.letters.len());
+    let (needed, answered) = (cursor_bytes(n), answers::LENGTH * before.letters.len());
     let (k, k_before) = (cells(&after.cursor), cells(&before.cursor));
     assert!(k <= 3 * n, "k is at most 3 × n");
     assert!(after.cursor[8 * (k + 1)..needed].iter().all(|byte| *byte == 0), "cells past k are zero");

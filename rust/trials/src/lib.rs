@@ -29,6 +29,7 @@ pub fn try_all(trial: &mut Trial, effort: usize) {
     rounds::walks::large(trial, 12 * effort, 12);
     rounds::sizes::agree(trial, 20 * effort);
     rounds::orders::agree(trial, 10 * effort);
+    rounds::formats::agree(trial, 10 * effort);
 }
 
 /// Runs something on a stack that has room for deep forests.

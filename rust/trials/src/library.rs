@@ -1,13 +1,18 @@
 //! The proved library as an implementation: by the safe functions, and by the C functions themselves.
 use crate::call::{Implementation, Operation, Outcome, Slices, Values};
 use mealplan::c;
-use reference::{Checked, Measured, Refused};
+use reference::{Checked, Measured, Refused, Unsealed};
 
 /// The library by the safe functions of crate `mealplan`.
 pub struct Library;
 
 fn checked(checked: mealplan::Checked) -> Values {
     Values::Checked(Checked { n: checked.n, start: checked.start })
+}
+
+fn unsealed(unsealed: mealplan::Unsealed) -> Values {
+    let mealplan::Unsealed { record_length, n, start } = unsealed;
+    Values::Unsealed(Unsealed { record_length, n, start })
 }
 
 fn measured(counts: mealplan::Measured) -> Values {
@@ -22,8 +27,8 @@ impl Implementation for Library {
     fn run(&mut self, operation: Operation, lent: Slices) -> Option<Outcome> {
         let answer = match operation {
             Operation::Check => mealplan::check(lent.plan).map(checked),
-            Operation::Seal => mealplan::seal(lent.plan, lent.start, lent.out).map(Values::Length),
-            Operation::Unseal => mealplan::unseal(lent.plan, lent.out).map(checked),
+            Operation::Seal => mealplan::seal(lent.plan, lent.record_length, lent.start, lent.out).map(Values::Length),
+            Operation::Unseal => mealplan::unseal(lent.plan, lent.out).map(unsealed),
             Operation::Measure => mealplan::measure(lent.plan, lent.work).map(measured),
             Operation::Spread => mealplan::spread(lent.plan, lent.work, lent.out).map(Values::Length),
             Operation::Walk => {
@@ -48,11 +53,11 @@ impl Implementation for Interface {
     }
 
     fn run(&mut self, operation: Operation, lent: Slices) -> Option<Outcome> {
-        let Slices { plan, start, work, cursor, letters, answers, out } = lent;
-        let mut small = [SMALL; 2];
+        let Slices { plan, record_length, start, work, cursor, letters, answers, out } = lent;
+        let mut small = [SMALL; 3];
         let mut large = [LARGE; 3];
         let mut position = LARGE;
-        let [n, first] = &mut small;
+        let [length, n, first] = &mut small;
         let [trees, entries, levels] = &mut large;
         let (plan, plan_len) = (plan.as_ptr(), plan.len());
         let (to, to_len) = (out.as_mut_ptr(), out.len());
@@ -61,8 +66,8 @@ impl Implementation for Interface {
         let number = unsafe {
             match operation {
                 Operation::Check => c::plan_check(plan, plan_len, n, first, &mut position),
-                Operation::Seal => c::plan_seal(plan, plan_len, start, to, to_len, trees, &mut position),
-                Operation::Unseal => c::plan_unseal(plan, plan_len, to, to_len, n, first, &mut position),
+                Operation::Seal => c::plan_seal(plan, plan_len, record_length, start, to, to_len, trees, &mut position),
+                Operation::Unseal => c::plan_unseal(plan, plan_len, to, to_len, length, n, first, &mut position),
                 Operation::Measure => {
                     c::plan_measure(plan, plan_len, room, room_len, trees, entries, levels, &mut position)
                 }
@@ -83,14 +88,15 @@ impl Implementation for Interface {
             }
         };
         if number != 0 {
-            assert!(small == [SMALL; 2] && large == [LARGE; 3], "a number was written though {number} refused");
+            assert!(small == [SMALL; 3] && large == [LARGE; 3], "a number was written though {number} refused");
             return Some(Err(Refused { number, position }));
         }
         assert_eq!(position, 0, "the position of an accepted call");
-        let [n, start] = small;
+        let [record_length, n, start] = small;
         let [trees, entries, levels] = large;
         Some(Ok(match operation {
-            Operation::Check | Operation::Unseal => Values::Checked(Checked { n, start }),
+            Operation::Check => Values::Checked(Checked { n, start }),
+            Operation::Unseal => Values::Unsealed(Unsealed { record_length, n, start }),
             Operation::Seal | Operation::Spread => Values::Length(trees),
             Operation::Measure => Values::Measured(Measured { trees, entries, levels }),
             Operation::Walk => Values::Walked,

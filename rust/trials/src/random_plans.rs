@@ -1,8 +1,8 @@
 //! Plans at random.
 use crate::draft::Draft;
 use crate::random::Random;
-use reference::plan::{Rule, Sort};
-use reference::rules;
+use reference::plan::{Rule, Sort, work_bytes};
+use reference::{Format, rules};
 
 /// How a random plan's rules choose what they name.
 struct Taste {
@@ -29,8 +29,25 @@ fn named(draft: &Draft, sort: Sort, reach: usize, random: &mut Random) -> Option
     if fitting.is_empty() { None } else { Some(random.pick(&fitting) as u16) }
 }
 
-fn label(random: &mut Random) -> u16 {
-    if random.once_in(20) { random.pick(&[0, 255]) } else { random.between(97, 122) as u16 }
+/// Labels at an edge: the last of a byte, of word 1 and of all, those beside them, and the first with a full high part.
+const EDGES: [u32; 10] = [0, 255, 256, 65_534, 65_535, 65_536, 65_537, 16_711_680, 16_777_214, 16_777_215];
+
+/// A label that a format has, now and then one at an edge.
+pub fn label(format: Format, random: &mut Random) -> u32 {
+    match format {
+        Format::Narrow if random.once_in(20) => random.pick(&[0, 255]),
+        Format::Narrow => random.between(97, 122) as u32,
+        Format::Wide if random.once_in(4) => random.pick(&EDGES),
+        Format::Wide => {
+            let bits = random.pick(&[8, 16, 24]);
+            random.below(1 << bits) as u32
+        }
+    }
+}
+
+/// The same plan as a wide one, with labels that it may have.
+pub fn widened(draft: &Draft, random: &mut Random) -> Draft {
+    draft.relabelled(|_| label(Format::Wide, random)).in_format(Format::Wide)
 }
 
 /// A rule of this kind over what the draft has, if it can be.
@@ -48,8 +65,8 @@ fn rule_of(kind: u16, draft: &Draft, taste: &Taste, random: &mut Random) -> Opti
 
 fn labelled(rule: Rule, random: &mut Random) -> Rule {
     match rule {
-        Rule::Node(_, c) => Rule::Node(label(random), c),
-        Rule::Part(_, l, r) => Rule::Part(label(random), l, r),
+        Rule::Node(_, c) => Rule::Node(label(Format::Narrow, random), c),
+        Rule::Part(_, l, r) => Rule::Part(label(Format::Narrow, random), l, r),
         other => other,
     }
 }
@@ -60,7 +77,7 @@ fn add_of_kind(kind: u16, draft: &mut Draft, taste: &Taste, random: &mut Random)
     true
 }
 
-/// A valid plan of n rules; the start is its last closed rule.
+/// A valid narrow plan of n rules; the start is its last closed rule.
 pub fn any(random: &mut Random, n: usize) -> Draft {
     let taste = Taste::any(random);
     let total: usize = taste.weights.iter().sum::<usize>() + 1;
@@ -83,8 +100,8 @@ pub fn any(random: &mut Random, n: usize) -> Draft {
     draft
 }
 
-/// A valid plan that has every kind both low and high, with rules between and a last one above.
-pub fn all_kinds(random: &mut Random) -> Draft {
+/// A valid plan of a format that has every kind both low and high, with rules between and a last one above.
+pub fn all_kinds(format: Format, random: &mut Random) -> Draft {
     let taste = Taste::any(random);
     let mut draft = Draft::default();
     let every = [0, 2, 1, 4, 5, 3];
@@ -100,12 +117,12 @@ pub fn all_kinds(random: &mut Random) -> Draft {
         add_of_kind(every[(first + index) % every.len()], &mut draft, &taste, random);
     }
     add_of_kind(1, &mut draft, &taste, random);
-    draft
+    if format == Format::Wide { widened(&draft, random) } else { draft }
 }
 
 /// Starts a plan where its forest is largest but has no more than `most` nodes, or at random among such starts.
 pub fn start_within(draft: &mut Draft, most: u64, random: &mut Random) {
-    let mut work = vec![0; 64 * draft.n()];
+    let mut work = vec![0; work_bytes(draft.n())];
     let mut fitting = Vec::new();
     for rule in 0..draft.n() as u16 {
         if !Sort::CLOSED.has(draft.kind(rule.into())) {

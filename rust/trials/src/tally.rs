@@ -1,6 +1,6 @@
 //! What has been tried, and whether it was enough.
 use crate::call::{Call, Operation, Outcome};
-use reference::{NOWHERE, Why, words};
+use reference::{NOWHERE, Why, answers};
 use std::collections::BTreeMap;
 use std::fmt;
 
@@ -9,6 +9,8 @@ pub const LEAST_EACH_WAY: u64 = 100;
 pub const LEAST_LETTERS: u64 = 1_000_000;
 /// How many plans must have been compared with themselves in another order.
 pub const LEAST_RENUMBERED: u64 = 1_000;
+/// How many narrow plans must have been compared with themselves as wide ones.
+pub const LEAST_WIDENED: u64 = 1_000;
 /// The last refusal.
 const LAST: u32 = Why::Cycle as u32;
 
@@ -21,6 +23,9 @@ pub struct Tally {
     /// Plans that were compared with the same plan renumbered, and letters walked on both.
     pub renumbered: u64,
     pub letters_on_both: u64,
+    /// Narrow plans that were compared with the same rules in a wide plan, and letters walked on both.
+    pub widened: u64,
+    pub letters_in_both: u64,
     /// How often a refusal came up: by its number, the way to it, and the operation.
     ways: BTreeMap<(u32, String, Operation), u64>,
 }
@@ -29,11 +34,10 @@ impl Tally {
     pub fn count(&mut self, call: &Call, outcome: &Outcome, answers: &[u8]) {
         *self.calls.entry(call.operation).or_default() += 1;
         if call.operation == Operation::Walk && outcome.is_ok() {
-            let answers = answers.chunks_exact(2).map(|answer| words::get(answer, 0));
-            let moved = |letter: u8, answer: u16| b"flnpu".contains(&letter) && answer != NOWHERE;
+            let moved =
+                |index: usize| b"flnpu".contains(&call.letters[index]) && answers::get(answers, index) != NOWHERE;
             self.letters += call.letters.len() as u64;
-            self.moves +=
-                call.letters.iter().zip(answers).filter(|(letter, answer)| moved(**letter, *answer)).count() as u64;
+            self.moves += (0..call.letters.len()).filter(|index| moved(*index)).count() as u64;
         }
     }
 
@@ -56,6 +60,9 @@ impl Tally {
         if self.renumbered < LEAST_RENUMBERED {
             missing.push(format!("{} plans renumbered", self.renumbered));
         }
+        if self.widened < LEAST_WIDENED {
+            missing.push(format!("{} plans widened", self.widened));
+        }
         if 3 * self.moves < self.letters {
             missing.push(format!("{} moves of {} letters", self.moves, self.letters));
         }
@@ -73,6 +80,11 @@ impl fmt::Display for Tally {
             f,
             "renumbered: {} plans beside the same with its rules in any order, {} letters on both",
             self.renumbered, self.letters_on_both
+        )?;
+        writeln!(
+            f,
+            "widened: {} narrow plans beside the same with other labels as a wide one, {} letters on both",
+            self.widened, self.letters_in_both
         )?;
         for number in 1..=LAST {
             let of_number = self.ways.iter().filter(|(key, _)| key.0 == number);

@@ -95,6 +95,7 @@ impl Rooms {
         self.out.fill(&call.out, odd);
         let lent = Slices {
             plan: self.plan.lend(),
+            record_length: call.record_length,
             start: call.start,
             work: self.work.lend(),
             cursor: self.cursor.lend(),
@@ -123,7 +124,8 @@ impl Rooms {
     /// The slices as the last call left them.
     fn taken_back(&self, call: &Call) -> Call {
         let [plan, work, cursor, letters, answers, out] = self.named().map(|(_, room)| room.content().to_vec());
-        Call { operation: call.operation, start: call.start, plan, work, cursor, letters, answers, out }
+        let Call { operation, record_length, start, .. } = *call;
+        Call { operation, record_length, start, plan, work, cursor, letters, answers, out }
     }
 
     fn compare(&self, name: &str, after: &Call) {
@@ -154,8 +156,8 @@ impl Drop for Told<'_> {
         if !std::thread::panicking() {
             return;
         }
-        let Call { operation, plan, start, work, cursor, letters, answers, out } = self.call;
-        eprintln!("TRIALS_SEED={}: {operation:?}, seal's start {start}", self.seed);
+        let Call { operation, plan, record_length, start, work, cursor, letters, answers, out } = self.call;
+        eprintln!("TRIALS_SEED={}: {operation:?}, seal's record length {record_length} and start {start}", self.seed);
         eprintln!("  plan ({} bytes) {}", plan.len(), hex(plan, 600));
         eprintln!("  cursor ({} bytes) {}", cursor.len(), hex(cursor, 200));
         eprintln!("  letters ({}) {}", letters.len(), String::from_utf8_lossy(&letters[..letters.len().min(200)]));

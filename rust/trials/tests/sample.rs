@@ -1,5 +1,7 @@
 //! The cases of document 01, as document 02 leaves them, by the safe functions.
-use mealplan::{Checked, Measured, NOWHERE, Refused};
+use mealplan::{Checked, Measured, NARROW, NOWHERE, Refused, Unsealed, WIDE};
+use reference::Format;
+use reference::plan::{Rule, WORDS};
 use trials::draft::Draft;
 use trials::families;
 
@@ -15,10 +17,11 @@ impl Reader {
         Reader { plan: draft.plan(), work: vec![9; 64 * draft.n()], cursor: vec![0; 32 * (draft.n() + 1)] }
     }
 
-    fn walk(&mut self, letters: &str) -> Result<Vec<u16>, Refused> {
-        let mut answers = vec![0; 2 * letters.len()];
+    /// The labels that letters lead to, none for nowhere.
+    fn walk(&mut self, letters: &str) -> Result<Vec<Option<u32>>, Refused> {
+        let mut answers = vec![0; 4 * letters.len()];
         mealplan::walk(&self.plan, &mut self.work, &mut self.cursor, letters.as_bytes(), &mut answers)?;
-        Ok(answers.chunks(2).map(|word| u16::from_le_bytes([word[0], word[1]])).collect())
+        Ok(mealplan::labels(&answers).collect())
     }
 
     /// The used cells, cell 0 left out; every later word must be zero.
@@ -30,6 +33,11 @@ impl Reader {
     }
 }
 
+/// Answers as the safe functions give them.
+fn labels(answers: &[u32]) -> Vec<Option<u32>> {
+    answers.iter().map(|answer| (*answer != 4_294_967_295).then_some(*answer)).collect()
+}
+
 fn refused(number: u32, position: u64) -> Refused {
     Refused { number, position }
 }
@@ -37,8 +45,7 @@ fn refused(number: u32, position: u64) -> Refused {
 #[test]
 fn answers_of_the_sample_plan() {
     let answers = Reader::new(&families::sample()).walk("afnnfnnnnununnn");
-    let labels = [99, 97, 98, 99, 97, 98, 97, 98, NOWHERE, 99, 98, 99, 97, 98, NOWHERE];
-    assert_eq!(answers, Ok(labels.to_vec()));
+    assert_eq!(answers, Ok(labels(&[99, 97, 98, 99, 97, 98, 97, 98, NOWHERE, 99, 98, 99, 97, 98, NOWHERE])));
 }
 
 #[test]
@@ -63,26 +70,80 @@ fn sizes_of_the_sample_plan() {
     assert_eq!(&text, b"(c(a)(b)(c(a)(b)(a)(b))(b))(a)(b)");
     assert_eq!(mealplan::spread(&plan, &mut work, &mut text[..32]), Err(refused(11, 0)));
     let mut words = [0; 64];
-    assert_eq!(mealplan::unseal(&plan, &mut words), Ok(Checked { n: 8, start: 7 }));
+    assert_eq!(mealplan::unseal(&plan, &mut words), Ok(Unsealed { record_length: NARROW, n: 8, start: 7 }));
     let mut sealed = [0; 74];
-    assert_eq!(mealplan::seal(&words, 7, &mut sealed), Ok(74));
+    assert_eq!(mealplan::seal(&words, NARROW, 7, &mut sealed), Ok(74));
     assert_eq!(sealed, plan[..]);
+}
+
+/// The sample plan as a wide one: 65,535 for 97, a label of three different bytes for 98, and the last label for 99.
+fn wide_sample() -> Draft {
+    let label = |old| [65_535, 0x01_02_03, 16_777_215][old as usize - 97];
+    families::sample().relabelled(label).in_format(Format::Wide)
+}
+
+#[test]
+fn the_sample_plan_as_a_wide_one() {
+    let draft = wide_sample();
+    let (plan, mut work) = (draft.plan(), vec![9; 64 * draft.n()]);
+    let file = concat!(env!("CARGO_MANIFEST_DIR"), "/../../samples/wide.bin");
+    assert_eq!(plan, std::fs::read(file).expect("samples/wide.bin"));
+    assert_eq!(mealplan::check(&plan), Ok(Checked { n: 8, start: 7 }));
+    assert_eq!(mealplan::measure(&plan, &mut work), Ok(Measured { trees: 3, entries: 11, levels: 3 }));
+    let [a, b, c] = [65_535, 66_051, 16_777_215];
+    let answers = Reader::new(&draft).walk("afnnfnnnnununnn");
+    assert_eq!(answers, Ok(labels(&[c, a, b, c, a, b, a, b, NOWHERE, c, b, c, a, b, NOWHERE])));
+    let mut text = [0; 55];
+    assert_eq!(mealplan::spread(&plan, &mut work, &mut text[..54]), Err(refused(11, 0)));
+    assert_eq!(mealplan::spread(&plan, &mut work, &mut text), Ok(55));
+    assert_eq!(text[..15], *b"(\xFF\xFF\xFF(\xFF\xFF\x00)(\x03\x02\x01)(");
+    let mut words = [0; 80];
+    assert_eq!(mealplan::unseal(&plan, &mut words[..79]), Err(refused(11, 0)));
+    assert_eq!(mealplan::unseal(&plan, &mut words), Ok(Unsealed { record_length: WIDE, n: 8, start: 7 }));
+    let mut sealed = [0; 90];
+    assert_eq!(mealplan::seal(&words, WIDE, 7, &mut sealed[..89]), Err(refused(11, 0)));
+    assert_eq!(mealplan::seal(&words, WIDE, 7, &mut sealed), Ok(90));
+    assert_eq!(sealed, plan[..]);
+    for record_length in [0, 7, 9, 11, 65_535] {
+        assert_eq!(mealplan::seal(&words, record_length, 7, &mut sealed), Err(refused(1, 0)));
+    }
+}
+
+#[test]
+fn labels_of_wide_plans() {
+    for label in [0, 255, 256, 65_535, 65_536, 16_777_215] {
+        let records = vec![[0; WORDS], Rule::Node(label, 0).words()];
+        let draft = Draft { format: Format::Wide, records, start: 1, ..Draft::default() };
+        assert_eq!(Reader::new(&draft).walk("asf"), Ok(labels(&[label, label, NOWHERE])));
+    }
+    let fifth = |kind, fifth| {
+        let records = vec![[0; WORDS], [kind, 0, 0, 0, fifth]];
+        mealplan::check(&Draft { format: Format::Wide, records, ..Draft::default() }.plan())
+    };
+    for (kind, most) in [(0, 0), (1, 0), (2, 255), (4, 255)] {
+        assert_eq!(fifth(kind, most), Ok(Checked { n: 2, start: 0 }));
+        assert_eq!(fifth(kind, most + 1), Err(refused(4, 1)));
+    }
 }
 
 #[test]
 fn an_empty_forest() {
-    let empty = Draft { records: vec![[0; 4]], ..Draft::default() };
-    assert_eq!(Reader::new(&empty).walk("az"), Ok(vec![NOWHERE, NOWHERE]));
-    assert_eq!(mealplan::measure(&empty.plan(), &mut [0; 64]), Ok(Measured::default()));
+    for format in Format::BOTH {
+        let empty = Draft { format, records: vec![[0; WORDS]], ..Draft::default() };
+        assert_eq!(Reader::new(&empty).walk("az"), Ok(vec![None, None]));
+        assert_eq!(mealplan::measure(&empty.plan(), &mut [0; 64]), Ok(Measured::default()));
+    }
 }
 
 #[test]
 fn refusals() {
     assert_eq!(mealplan::check(&[]), Err(refused(1, 0)));
     assert_eq!(mealplan::check(&[0, 0, 0, 0, 0, 0, 0, 0, 0x6D, 0x70]), Err(refused(2, 0)));
-    let itself = Draft { records: vec![[1, 0, 0, 0]], ..Draft::default() };
+    assert_eq!(mealplan::check(&[0, 0, 0, 0, 0, 0, 0, 0, 0x6D, 0x71]), Err(refused(2, 0)));
+    assert_eq!(mealplan::check(&[0, 0, 0, 0, 0, 0, 0, 0, 0x6D, 0x72]), Err(refused(1, 0)));
+    let itself = Draft { records: vec![[1, 0, 0, 0, 0]], ..Draft::default() };
     assert_eq!(mealplan::check(&itself.plan()), Err(refused(12, 0)));
-    let label = |label| Draft { records: vec![[0; 4], [2, label, 0, 0]], ..Draft::default() }.plan();
+    let label = |label| Draft { records: vec![[0; WORDS], [2, label, 0, 0, 0]], ..Draft::default() }.plan();
     assert_eq!(mealplan::check(&label(255)), Ok(Checked { n: 2, start: 0 }));
     assert_eq!(mealplan::check(&label(256)), Err(refused(4, 1)));
     assert_eq!(Reader::new(&families::sample()).walk("af?"), Err(refused(9, 2)));

@@ -24,7 +24,7 @@ enum-told-2 c = search needs
 
 judge-cycles-requires : tie.Need-judge-cycles-requires
 unfolding Tells
-judge-cycles-requires c κs = (c .before .before .before .before .pre .0, c .before .before .before .before .pre .1, subst (Tells (let a = c .before .before .before .before .args in recordsFrom (now (a .s)) (a .first) (a .n))) (c .enum-told2 .given .1) (c .before .before .test-rules .ensures))
+judge-cycles-requires c κs = (c .before .before .before .before .pre .0, c .before .before .before .before .pre .1, subst (Tells _ (let a = c .before .before .before .before .args in recordsFrom (a .format) (now (a .s)) (a .first) (a .n))) (c .enum-told2 .given .1) (c .before .before .test-rules .ensures))
 
 enum-known-refusal : tie.Need-enum-known-refusal
 enum-known-refusal c = search needs
@@ -32,16 +32,16 @@ enum-known-refusal c = search needs
 returns : tie.Need-returns
 unfolding Tells judged cycleJudged
 returns c =
-    let told = subst (Tells (let a = c .before .before .before .before .before .args in recordsFrom (now (a .s)) (a .first) (a .n))) (c .before .enum-told .given .1) (c .before .before .before .test-rules .ensures) in
+    let told = subst (Tells _ (let a = c .before .before .before .before .before .args in recordsFrom (a .format) (now (a .s)) (a .first) (a .n))) (c .before .enum-told .given .1) (c .before .before .before .test-rules .ensures) in
     c .judge-start .ensures ∙ sym (told .0 _ ∙ rw (lower-none _ (told .1)))
 
 returns-2 : tie.Need-returns-2
 unfolding Tells judged
-returns-2 c = c .judge-cycles .ensures ∙ sym (subst (Tells (let a = c .before .before .before .before .before .args in recordsFrom (now (a .s)) (a .first) (a .n))) (c .before .enum-told2 .given .1) (c .before .before .before .test-rules .ensures) _)
+returns-2 c = c .judge-cycles .ensures ∙ sym (subst (Tells _ (let a = c .before .before .before .before .before .args in recordsFrom (a .format) (now (a .s)) (a .first) (a .n))) (c .before .enum-told2 .given .1) (c .before .before .before .test-rules .ensures) _)
 
 returns-3 : tie.Need-returns-3
 unfolding Tells judged
-returns-3 c = sym (subst (Tells (let a = c .before .before .before .before .before .args in recordsFrom (now (a .s)) (a .first) (a .n))) (c .before .refusal .given .1) (c .before .before .before .test-rules .ensures) _)
+returns-3 c = sym (subst (Tells _ (let a = c .before .before .before .before .before .args in recordsFrom (a .format) (now (a .s)) (a .first) (a .n))) (c .before .refusal .given .1) (c .before .before .before .test-rules .ensures) _)
 
 pub judge-spec : {M : Type 1} → statement M
 judge-spec =

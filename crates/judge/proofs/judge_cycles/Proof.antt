@@ -22,7 +22,7 @@ judge-start-requires c κs = search needs
 
 returns : tie.Need-returns
 unfolding cycleJudged
-returns c = c .judge-start .ensures ∙ sym (rw (orders-none (c .before .before .before .order .ensures .sorted (c .before .if1 .taken)) (passed-ranged _ (c .before .before .before .before .before .before .pre .2))))
+returns c = c .judge-start .ensures ∙ sym (rw (orders-none (c .before .before .before .order .ensures .sorted (c .before .if1 .taken)) (passed-ranged _ _ (c .before .before .before .before .before .before .pre .2))))
 
 slice-aggregate-lowest : tie.Need-slice-aggregate-lowest
 slice-aggregate-lowest c = search needs
@@ -30,8 +30,8 @@ slice-aggregate-lowest c = search needs
 lowest-requires : tie.Need-lowest-requires
 lowest-requires c κs = (ready-kept (order-requires (c .before .before .before .before) κs) (c .before .before .before .order .ensures .within), c .before .before .before .order .ensures .cyclic (c .before .if1 .left))
 
-cast-t12 : tie.Need-cast-t12
-cast-t12 c = search needs
+cast-t13 : tie.Need-cast-t13
+cast-t13 c = search needs
 
 returns-2 : tie.Need-returns-2
 unfolding cycleJudged
@@ -47,5 +47,5 @@ judge-cycles-spec =
     returns
     slice-aggregate-lowest
     lowest-requires
-    cast-t12
+    cast-t13
     returns-2)

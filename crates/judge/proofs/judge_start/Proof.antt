@@ -10,7 +10,7 @@ use Rattle.judge.proofs.judge_start.Tie as tie
 returns : tie.Need-returns
 returns c =
     let a = c .before .before .args in
-    sym (start-not-below (now (a .s)) (a .first) (a .n) (a .start) (c .if1 .taken))
+    sym (start-not-below (a .format) (now (a .s)) (a .first) (a .n) (a .start) (c .if1 .taken))
 
 closed-at-requires : tie.Need-closed-at-requires
 closed-at-requires c κs = search needs
@@ -19,14 +19,14 @@ returns-2 : tie.Need-returns-2
 returns-2 c =
     let a = c .before .before .before .before .args in
     sym
-    (start-closed (now (a .s)) (a .first) (a .n) (a .start) _ (c .before .before .if1 .left)
+    (start-closed (a .format) (now (a .s)) (a .first) (a .n) (a .start) _ (c .before .before .if1 .left)
     (sym (c .before .closed-at .ensures) ∙ not-true (c .before .closed-at .result) (c .if2 .taken)))
 
 returns-3 : tie.Need-returns-3
 returns-3 c =
     let a = c .before .before .before .before .args in
     sym
-    (start-closed (now (a .s)) (a .first) (a .n) (a .start) _ (c .before .before .if1 .left)
+    (start-closed (a .format) (now (a .s)) (a .first) (a .n) (a .start) _ (c .before .before .if1 .left)
     (sym (c .before .closed-at .ensures) ∙ not-false (c .before .closed-at .result) (c .if2 .left)))
 
 pub judge-start-spec : {M : Type 1} → statement M

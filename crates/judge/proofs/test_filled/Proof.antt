@@ -23,10 +23,10 @@ unfolding every sorts
 returns c =
     c .verdict .ensures
     ∙ rw (c .before .before .holed-at .ensures, c .before .tree-at .ensures)
-    (sym (tested-as _ _ _ _ _ (let a = c .before .before .before .before .before .args in records-length (now (a .s)) (a .first) (a .n)) (c .before .before .before .before .before .pre .2) (decode-fill _ (c .before .before .before .if1 .taken))))
+    (sym (tested-as _ _ _ _ _ _ (let a = c .before .before .before .before .before .args in records-length (a .format) (now (a .s)) (a .first) (a .n)) (c .before .before .before .before .before .pre .2) (decode-fill _ _ (c .before .before .before .if1 .taken))))
 
-cast-verdict : tie.Need-cast-verdict
-cast-verdict c = search needs
+label-fits-requires : tie.Need-label-fits-requires
+label-fits-requires c κs = search needs
 
 closed-at-requires : tie.Need-closed-at-requires
 closed-at-requires c κs = search needs
@@ -41,8 +41,8 @@ returns-2 : tie.Need-returns-2
 unfolding every sorts
 returns-2 c =
     c .verdict2 .ensures
-    ∙ rw (c .before .before .closed-at .ensures, c .before .closed-at2 .ensures)
-    (sym (tested-as _ _ _ _ _ (let a = c .before .before .before .before .before .before .args in records-length (now (a .s)) (a .first) (a .n)) (c .before .before .before .before .before .before .pre .2) (decode-part _ (c .before .before .before .if2 .taken))))
+    ∙ rw (c .before .before .closed-at .ensures, c .before .closed-at2 .ensures, c .before .before .before .label-fits .ensures)
+    (sym (tested-as _ _ _ _ _ _ (let a = c .before .before .before .before .before .before .before .args in records-length (a .format) (now (a .s)) (a .first) (a .n)) (c .before .before .before .before .before .before .before .pre .2) (decode-part _ _ (c .before .before .before .before .if2 .taken))))
 
 holed-at-requires-2 : tie.Need-holed-at-requires-2
 holed-at-requires-2 c κs = search needs
@@ -58,12 +58,12 @@ unfolding every sorts
 returns-3 c =
     c .verdict3 .ensures
     ∙ rw (c .before .before .holed-at2 .ensures, c .before .holed-at3 .ensures)
-    (sym (tested-as _ _ _ _ _ (let a = c .before .before .before .before .before .before .before .args in records-length (now (a .s)) (a .first) (a .n)) (c .before .before .before .before .before .before .before .pre .2) (decode-join _ (c .before .before .before .if3 .taken))))
+    (sym (tested-as _ _ _ _ _ _ (let a = c .before .before .before .before .before .before .before .args in records-length (a .format) (now (a .s)) (a .first) (a .n)) (c .before .before .before .before .before .before .before .pre .2) (decode-join _ _ (c .before .before .before .if3 .taken))))
 
 returns-4 : tie.Need-returns-4
 returns-4 c =
     let h = c .before .before .before .before .pre in
-    sym (tested-none _ _ (h .2) (decode-none _ (h .3) (h .4) (h .5) (c .before .before .if1 .left) (c .before .if2 .left) (c .if3 .left)))
+    sym (tested-none _ _ _ (h .2) (decode-none _ _ (h .3) (h .4) (h .5) (c .before .before .if1 .left) (c .before .if2 .left) (c .if3 .left)))
 
 pub test-filled-spec : {M : Type 1} → statement M
 test-filled-spec =
@@ -73,7 +73,7 @@ test-filled-spec =
     tree-at-requires
     verdict-requires
     returns
-    cast-verdict
+    label-fits-requires
     closed-at-requires
     closed-at-requires-2
     verdict-requires-2

@@ -11,13 +11,13 @@ use Rattle.judge.proofs.test_rules.Statement.{statement}
 use Rattle.judge.proofs.test_rules.Tie as tie
 
 abbrev Inv-loop : tie.InvT-loop
-Inv-loop s first n lower₀ i₀ lower i = (i ≤ n) × Tests (recordsFrom s first n) n lower i
+Inv-loop s format first n lower₀ i₀ lower i = (i ≤ n) × Tests format (recordsFrom format s first n) n lower i
 
 abbrev μ-loop : tie.MeasureT-loop
-μ-loop s first n lower₀ i₀ lower i = n - i
+μ-loop s format first n lower₀ i₀ lower i = n - i
 
 loop-holds : tie.Need-loop-holds Inv-loop μ-loop
-loop-holds c = (omega arith, tests-none _ _ _)
+loop-holds c = (omega arith, tests-none _ _ _ _)
 
 test-rule-requires : tie.Need-test-rule-requires Inv-loop μ-loop
 test-rule-requires c κs = search needs
@@ -32,7 +32,7 @@ loop-less : tie.Need-loop-less Inv-loop μ-loop
 loop-less c = omega arith
 
 loop-again : tie.Need-loop-again Inv-loop μ-loop
-loop-again c = (omega arith, tests-lower (c .before .before .before .before .loop .inv .1) (c .before .before .before .loop-test .taken) (sym (c .enum-told .given .1) ∙ c .before .before .test-rule .ensures))
+loop-again c = (omega arith, tests-lower _ (c .before .before .before .before .loop .inv .1) (c .before .before .before .loop-test .taken) (sym (c .enum-told .given .1) ∙ c .before .before .test-rule .ensures))
 
 enum-told-2 : tie.Need-enum-told-2 Inv-loop μ-loop
 enum-told-2 c = search needs
@@ -44,19 +44,19 @@ loop-less-2 : tie.Need-loop-less-2 Inv-loop μ-loop
 loop-less-2 c = omega arith
 
 loop-again-2 : tie.Need-loop-again-2 Inv-loop μ-loop
-loop-again-2 c = (omega arith, tests-mixed (c .before .before .before .before .loop .inv .1) (c .before .before .before .loop-test .taken) (sym (c .enum-told2 .given .1) ∙ c .before .before .test-rule .ensures))
+loop-again-2 c = (omega arith, tests-mixed _ (c .before .before .before .before .loop .inv .1) (c .before .before .before .loop-test .taken) (sym (c .enum-told2 .given .1) ∙ c .before .before .test-rule .ensures))
 
 enum-known-refusal : tie.Need-enum-known-refusal Inv-loop μ-loop
 enum-known-refusal c = search needs
 
 returns : tie.Need-returns Inv-loop μ-loop
-returns c = one-refused (let a = c .before .before .before .before .before .before .before .args in records-length (now (a .s)) (a .first) (a .n)) (c .before .before .before .before .before .loop .inv .1) (c .before .before .before .before .loop-test .taken) (sym (c .before .refusal .given .1) ∙ c .before .before .before .test-rule .ensures)
+returns c = one-refused _ (let a = c .before .before .before .before .before .before .before .args in records-length (a .format) (now (a .s)) (a .first) (a .n)) (c .before .before .before .before .before .loop .inv .1) (c .before .before .before .before .loop-test .taken) (sym (c .before .refusal .given .1) ∙ c .before .before .before .test-rule .ensures)
 
 returns-2 : tie.Need-returns-2 Inv-loop μ-loop
-returns-2 c = all-lower (let a = c .before .before .before .before .args in records-length (now (a .s)) (a .first) (a .n)) (c .before .before .loop .inv .1) (c .before .loop-test .left) (c .before .before .loop .inv .0) (c .if1 .taken)
+returns-2 c = all-lower _ (let a = c .before .before .before .before .args in records-length (a .format) (now (a .s)) (a .first) (a .n)) (c .before .before .loop .inv .1) (c .before .loop-test .left) (c .before .before .loop .inv .0) (c .if1 .taken)
 
 returns-3 : tie.Need-returns-3 Inv-loop μ-loop
-returns-3 c = all-mixed (let a = c .before .before .before .before .args in records-length (now (a .s)) (a .first) (a .n)) (c .before .before .loop .inv .1) (c .before .loop-test .left) (c .before .before .loop .inv .0)
+returns-3 c = all-mixed _ (let a = c .before .before .before .before .args in records-length (a .format) (now (a .s)) (a .first) (a .n)) (c .before .before .loop .inv .1) (c .before .loop-test .left) (c .before .before .loop .inv .0)
 
 pub test-rules-spec : {M : Type 1} → statement M
 test-rules-spec =

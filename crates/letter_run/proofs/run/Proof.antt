@@ -4,7 +4,6 @@ use native.Mathlib.Omega.{arith}
 use mathlib.Core.Path.{sym, ap, _∙_}
 use lib.ListN.{length}
 use Rattle.letter.specs.Letter.{readAs}
-use Rattle.letter_moves.proofs.Stands.{answer-small}
 use Rattle.letter_run.proofs.Letters.{Partway, partway-none, partway-more, ran-all, ran-other}
 use borrow.Author.Needs.{needs}
 use Rattle.letter_run.proofs.run.Statement.{statement}
@@ -44,17 +43,14 @@ returns c = ran-other (c .before .before .before .before .before .loop .inv .1) 
 step-requires : tie.Need-step-requires Inv-loop μ-loop
 step-requires c κs = c .before .before .before .before .before .before .before .loop .inv .1 .stands
 
-mul-write16 : tie.Need-mul-write16 Inv-loop μ-loop
-mul-write16 c = let room = c .before .before .before .before .before .before .before .before .before .before .before .before .before .before .before .before .pre .1 in omega arith
+mul-write32 : tie.Need-mul-write32 Inv-loop μ-loop
+mul-write32 c = let room = c .before .before .before .before .before .before .before .before .before .before .before .before .before .before .before .before .pre .1 in omega arith
 
-cast-write16 : tie.Need-cast-write16 Inv-loop μ-loop
-cast-write16 c = let small = answer-small (c .before .before .before .before .before .before .before .before .before .before .before .before .loop .inv .1 .stands .rows) (c .before .before .before .before .step .ensures) in omega arith
-
-write16-requires : tie.Need-write16-requires Inv-loop μ-loop
-write16-requires c κs = let room = c .before .before .before .before .before .before .before .before .before .before .before .before .before .before .before .before .before .pre .1 in let long = c .before .before .before .before .before .before .before .before .before .before .before .before .loop .inv .1 .room in omega arith
+write32-requires : tie.Need-write32-requires Inv-loop μ-loop
+write32-requires c κs = let room = c .before .before .before .before .before .before .before .before .before .before .before .before .before .before .before .before .pre .1 in let long = c .before .before .before .before .before .before .before .before .before .before .before .loop .inv .1 .room in omega arith
 
 add-i : tie.Need-add-i Inv-loop μ-loop
-add-i c = let long = c .before .before .before .before .before .before .before .before .before .before .before .before .before .before .before .before .before .before .before .before .before .good .1 .1 .0 .0 in let less = c .before .before .before .before .before .before .before .before .before .before .before .before .before .before .before .loop-test .taken in omega arith
+add-i c = let long = c .before .before .before .before .before .before .before .before .before .before .before .before .before .before .before .before .before .before .before .before .good .1 .1 .0 .0 in let less = c .before .before .before .before .before .before .before .before .before .before .before .before .before .before .loop-test .taken in omega arith
 
 loop-less : tie.Need-loop-less Inv-loop μ-loop
 loop-less c = omega arith
@@ -62,10 +58,10 @@ loop-less c = omega arith
 loop-again : tie.Need-loop-again Inv-loop μ-loop
 unfolding readAs
 loop-again c = (
-  omega (arith, c .before .before .before .before .before .before .before .before .before .before .before .before .before .before .before .loop-test .taken),
-  partway-more (c .before .before .before .before .before .before .before .before .before .before .before .before .before .before .before .before .loop .inv .1) _ (c .before .before .before .before .before .before .before .before .before .before .before .before .before .before .before .loop-test .taken)
-      (sym (c .before .before .before .before .before .before .before .before .before .before .before .before .before .letter-of .ensures) ∙ ap readAs (c .before .before .before .before .before .before .before .before .before .before .before .letter .given .1))
-      (c .before .before .before .before .before .before .before .before .before .before .before .before .before .before .before .before .before .before .before .before .before .pre .1) (c .before .before .before .before .before .before .before .before .step .ensures) (c .before .before .before .write16 .ensures),
+  omega (arith, c .before .before .before .before .before .before .before .before .before .before .before .before .before .before .loop-test .taken),
+  partway-more (c .before .before .before .before .before .before .before .before .before .before .before .before .before .before .before .loop .inv .1) _ (c .before .before .before .before .before .before .before .before .before .before .before .before .before .before .loop-test .taken)
+      (sym (c .before .before .before .before .before .before .before .before .before .before .before .before .letter-of .ensures) ∙ ap readAs (c .before .before .before .before .before .before .before .before .before .before .letter .given .1))
+      (c .before .before .before .before .before .before .before .before .before .before .before .before .before .before .before .before .before .before .before .before .pre .1) (c .before .before .before .before .before .before .before .step .ensures) (c .before .before .before .write32 .ensures),
 )
 
 same-length-3 : tie.Need-same-length-3 Inv-loop μ-loop
@@ -92,9 +88,8 @@ run-spec =
     same-length-2
     returns
     step-requires
-    mul-write16
-    cast-write16
-    write16-requires
+    mul-write32
+    write32-requires
     add-i
     loop-less
     loop-again

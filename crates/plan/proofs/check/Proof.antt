@@ -2,23 +2,25 @@
 -- of it (`at-trailer`). Assumes nothing.
 use Prim.Native.Nat.{_-_, _*_, _≤_}
 use mathlib.Core.Path.{_≡_, sym, ap, _∙_}
+use mathlib.Core.Bool.{and-eq-true-iff}
 use native.Mathlib.Omega.{arith}
 use lib.ListN.{length}
+use lib.Dec.{leb}
 use denote.Ref.{now}
-use borrow.Author.Tests.{not-true, not-false}
-use borrow.Author.Needs.{needs}
-use Rattle.record.specs.Record.{recordLength}
+use borrow.Author.Tests.{not-true, not-false, leb-true}
+use Rattle.record.specs.Format.{recordLength}
 use Rattle.plan.specs.Check.{trailerLength, mostRules, accepted, checked, inLimits}
 use Rattle.plan.proofs.Checking.{trailerJudged, check-short, check-unmarked, check-trailer, reached}
-use mathlib.Core.Bool.{and-eq-true-iff}
-use lib.Dec.{leb}
-use borrow.Author.Tests.{leb-true}
+use borrow.Author.Needs.{needs}
 use Rattle.plan.proofs.check.Statement.{statement}
 use Rattle.plan.proofs.check.Tie as tie
 
 returns : tie.Need-returns
 unfolding checked
 returns c = sym (check-short mostRules (now (c .before .before .args .plan)) (c .if1 .taken))
+
+format-requires : tie.Need-format-requires
+format-requires c κs = search needs
 
 marked-requires : tie.Need-marked-requires
 marked-requires c κs = search needs
@@ -27,8 +29,8 @@ returns-2 : tie.Need-returns-2
 unfolding checked
 returns-2 c =
     sym
-    (check-unmarked mostRules (now (c .before .before .before .before .args .plan)) (c .before .before .if1 .left)
-    (sym (c .before .marked .ensures) ∙ not-true (c .before .marked .result) (c .if2 .taken)))
+    (check-unmarked mostRules (now (c .before .before .before .before .before .args .plan)) (c .before .before .before .if1 .left)
+    (sym (rw (c .before .before .format .ensures) at (c .before .marked .ensures)) ∙ not-true (c .before .marked .result) (c .if2 .taken)))
 
 read-requires : tie.Need-read-requires
 read-requires c κs = search needs
@@ -38,14 +40,14 @@ in-limits-requires c κs = search needs
 
 -- what is left of the answer once the trailer is read
 at-trailer : (c : tie.After-in-limits)
-    → let a = c .before .before .before .before .before .before .args in
+    → let a = c .before .before .before .before .before .before .before .args in
     let t = c .before .read .result in
-    checked (now (a .plan)) ≡ trailerJudged mostRules (now (a .plan)) (t .n) (t .start) (t .distance)
+    checked (now (a .plan)) ≡ trailerJudged mostRules (c .before .before .before .before .format .result) (now (a .plan)) (t .n) (t .start) (t .distance)
 unfolding checked
 at-trailer c =
     let e = c .before .read .ensures in
-    let a = c .before .before .before .before .before .before .args in
-    check-trailer mostRules (now (a .plan)) _ _ _ (c .before .before .before .before .if1 .left)
+    let a = c .before .before .before .before .before .before .before .args in
+    check-trailer mostRules _ (now (a .plan)) _ _ _ (c .before .before .before .before .before .if1 .left) (c .before .before .before .before .format .ensures)
     (sym (c .before .before .before .marked .ensures) ∙ not-false (c .before .before .before .marked .result) (c .before .before .if2 .left))
     (e .0) (e .1) (e .2)
 
@@ -67,11 +69,8 @@ returns-4 c = sym (at-trailer (c .before .before .before .before) ∙ rw (sym (c
 -- the distance, once it has passed its test
 near : (c : tie.Else4)
     → let t = c .before .before .before .before .before .read .result in
-    (t .distance ≡ recordLength * t .n) × (t .distance ≤ length (now (c .before .before .before .before .before .before .before .before .before .before .args .plan)) - trailerLength)
-near c = reached _ _ _ (sym (c .before .reaches .ensures) ∙ not-false (c .before .reaches .result) (c .if4 .left))
-
-sub-judge : tie.Need-sub-judge
-sub-judge c = omega (arith, near c)
+    (t .distance ≡ recordLength (c .before .before .before .before .before .before .before .before .format .result) * t .n) × (t .distance ≤ length (now (c .before .before .before .before .before .before .before .before .before .before .before .args .plan)) - trailerLength)
+near c = reached _ _ _ _ (sym (c .before .reaches .ensures) ∙ not-false (c .before .reaches .result) (c .if4 .left))
 
 -- the number of rules, once it has passed its test
 few : (c : tie.Else4) → c .before .before .before .before .before .read .result .n ≤ mostRules
@@ -81,6 +80,9 @@ few c =
     leb-true n mostRules
     (and-eq-true-iff (leb 1 n) (leb n mostRules) .0
     (sym (c .before .before .before .before .in-limits .ensures) ∙ not-false (c .before .before .before .before .in-limits .result) (c .before .before .before .if3 .left)) .1)
+
+sub-judge : tie.Need-sub-judge
+sub-judge c = omega (arith, near c)
 
 judge-requires : tie.Need-judge-requires
 judge-requires c κs = (omega (arith, near c), few c)
@@ -99,6 +101,7 @@ check-spec =
     tie.close
     (tie.spec
     returns
+    format-requires
     marked-requires
     returns-2
     read-requires

@@ -5,17 +5,17 @@ use Rattle.words.specs.Within.{Within}
 use Rattle.words.proofs.Within.{within-none, within-both}
 use Rattle.reach_order.specs.Room.{rulesAt, Ready}
 use Rattle.reach_order.specs.Queue.{Following}
-use Rattle.reach_order.proofs.Placing.{ready-kept}
+use Rattle.reach_order.proofs.Placing.{record-inside, ready-kept}
 use Rattle.reach_order.proofs.Queues.{read-lists, follow-room, taken-below, follow-finds, follow-more, follow-ends}
 use Rattle.reach_order.proofs.follow.Statement.{statement}
 use Rattle.reach_order.proofs.follow.Tie as tie
 
 abbrev Inv-loop : tie.InvT-loop
-Inv-loop s first n i room₀ begun m₀ taken₀ room m taken =
-    Ready s first n room × Following (rulesAt s first n) n i room m taken × Within 0 (4 * n) room₀ room
+Inv-loop s format first n i room₀ begun m₀ taken₀ room m taken =
+    Ready format s first n room × Following (rulesAt format s first n) n i room m taken × Within 0 (4 * n) room₀ room
 
 abbrev μ-loop : tie.MeasureT-loop
-μ-loop s first n i room₀ begun m₀ taken₀ room m taken = n - taken
+μ-loop s format first n i room₀ begun m₀ taken₀ room m taken = n - taken
 
 loop-holds : tie.Need-loop-holds Inv-loop μ-loop
 loop-holds c = let p = c .before .before .pre in (p .0, p .1, within-none 0 _ _)
@@ -39,7 +39,7 @@ returns : tie.Need-returns Inv-loop μ-loop
 returns c = let v = c .before .before .before .before .loop .inv in (follow-finds (v .0) (v .1) (c .before .before .before .loop-test .taken) (c .before .read16 .ensures) (c .if1 .taken), v .2)
 
 names-at-requires : tie.Need-names-at-requires Inv-loop μ-loop
-names-at-requires c κs = let v = c .before .before .before .before .before .loop .inv in omega (arith, v .0 .lies, taken-below (v .0) (v .1) (c .before .before .before .before .loop-test .taken) (c .before .before .read16 .ensures))
+names-at-requires c κs = let v = c .before .before .before .before .before .loop .inv in record-inside (v .0) (taken-below (v .0) (v .1) (c .before .before .before .before .loop-test .taken) (c .before .before .read16 .ensures))
 
 enqueue-all-requires : tie.Need-enqueue-all-requires Inv-loop μ-loop
 enqueue-all-requires c κs = let v = c .before .before .before .before .before .before .loop .inv in read-lists (v .0) (taken-below (v .0) (v .1) (c .before .before .before .before .before .loop-test .taken) (c .before .before .before .read16 .ensures)) (c .names-at .ensures) (v .1 .counted)

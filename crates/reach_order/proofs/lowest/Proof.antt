@@ -8,10 +8,10 @@ use Rattle.reach_order.proofs.lowest.Statement.{statement}
 use Rattle.reach_order.proofs.lowest.Tie as tie
 
 abbrev Inv-loop : tie.InvT-loop
-Inv-loop s first n room₀ r₀ room r = Seeking s first n room₀ room r
+Inv-loop s format first n room₀ r₀ room r = Seeking format s first n room₀ room r
 
 abbrev μ-loop : tie.MeasureT-loop
-μ-loop s first n room₀ r₀ room r = n - r
+μ-loop s format first n room₀ r₀ room r = n - r
 
 loop-holds : tie.Need-loop-holds Inv-loop μ-loop
 loop-holds c = let p = c .before .before .pre in seeking-none (p .0) (p .1)

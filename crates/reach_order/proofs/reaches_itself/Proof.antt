@@ -1,6 +1,6 @@
 -- The search begins with the rules that rule i names (`follow-begins`). Assumes nothing.
 use Rattle.words.proofs.Within.{within-both}
-use Rattle.reach_order.proofs.Placing.{ready-kept}
+use Rattle.reach_order.proofs.Placing.{record-inside, ready-kept}
 use Rattle.reach_order.proofs.Queues.{read-lists, follow-begins, marks-within, marks-ready, marks-blank, marks-none}
 use borrow.Author.Needs.{needs}
 use Rattle.reach_order.proofs.reaches_itself.Statement.{statement}
@@ -13,7 +13,7 @@ clear-requires : tie.Need-clear-requires
 clear-requires c κs = search needs
 
 names-at-requires : tie.Need-names-at-requires
-names-at-requires c κs = search needs
+names-at-requires c κs = let p = c .before .before .before .before .before .before .before .pre in record-inside (p .0) (p .1)
 
 enqueue-all-requires : tie.Need-enqueue-all-requires
 enqueue-all-requires c κs = let p = c .before .before .before .before .before .before .before .before .pre in let e = c .before .before .before .before .clear .ensures in read-lists (marks-ready (p .0) e) (p .1) (c .names-at .ensures) (marks-none (p .0) e)

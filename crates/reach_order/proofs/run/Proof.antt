@@ -11,10 +11,10 @@ use Rattle.reach_order.proofs.run.Statement.{statement}
 use Rattle.reach_order.proofs.run.Tie as tie
 
 abbrev Inv-loop : tie.InvT-loop
-Inv-loop s first n room₀ begun top₀ done₀ room top done = Ready s first n room × Searching (rulesAt s first n) n room top done × Grown n room₀ room
+Inv-loop s format first n room₀ begun top₀ done₀ room top done = Ready format s first n room × Searching (rulesAt format s first n) n room top done × Grown n room₀ room
 
 abbrev μ-loop : tie.MeasureT-loop
-μ-loop s first n room₀ begun top₀ done₀ room top done = 2 * n - (top + 2 * done)
+μ-loop s format first n room₀ begun top₀ done₀ room top done = 2 * n - (top + 2 * done)
 
 loop-holds : tie.Need-loop-holds Inv-loop μ-loop
 loop-holds c = let p = c .before .before .pre in (p .0, p .1, grown-none _ _)

@@ -4,6 +4,7 @@ use mathlib.Core.Path.{_≡_}
 use native.Mathlib.Omega.{arith}
 use denote.Ref.{now}
 use Rattle.reach_order.specs.declared.Next.{Next}
+use Rattle.reach_order.proofs.Placing.{record-inside}
 use Rattle.reach_order.proofs.Turns.{Top, search-room, top-read, top-below, turn-marks, open-room, turn-opens, turn-stops, turn-closes}
 use borrow.Author.Needs.{needs}
 use Rattle.reach_order.proofs.turn.Statement.{statement}
@@ -25,10 +26,10 @@ read16-requires : tie.Need-read16-requires
 read16-requires c κs = omega (arith, search-room (c .before .before .before .pre .0) (c .before .before .before .pre .1), c .before .before .before .pre .0 .fits)
 
 names-at-requires : tie.Need-names-at-requires
-names-at-requires c κs = let p = c .before .before .before .before .before .pre in omega (arith, top-below (p .0) (p .1) (p .2) (top-read _ _ _ _ (c .before .read16 .ensures) (omega arith)), p .0 .lies)
+names-at-requires c κs = let p = c .before .before .before .before .before .pre in record-inside (p .0) (top-below (p .0) (p .1) (p .2) (top-read _ _ _ _ (c .before .read16 .ensures) (omega arith)))
 
 -- the turn as it begins
-top : (c : tie.After-names-at) → let a = c .before .before .before .before .before .before .args in Top (now (a .s)) (a .first) (a .n) (now (a .room)) (a .top) (a .done) (c .before .before .read16 .result) (c .names-at .result)
+top : (c : tie.After-names-at) → let a = c .before .before .before .before .before .before .args in Top (a .format) (now (a .s)) (a .first) (a .n) (now (a .room)) (a .top) (a .done) (c .before .before .read16 .result) (c .names-at .result)
 top c =
     let p = c .before .before .before .before .before .before .pre in
     record { ready = p .0; search = p .1; some = p .2; read = top-read _ _ _ _ (c .before .before .read16 .ensures) (omega arith); found = c .names-at .ensures }

@@ -7,10 +7,10 @@ use Rattle.reach_order.proofs.visit_all.Statement.{statement}
 use Rattle.reach_order.proofs.visit_all.Tie as tie
 
 abbrev Inv-loop : tie.InvT-loop
-Inv-loop s first n room₀ done₀ i₀ room done i = Visiting s first n room₀ room done i
+Inv-loop s format first n room₀ done₀ i₀ room done i = Visiting format s first n room₀ room done i
 
 abbrev μ-loop : tie.MeasureT-loop
-μ-loop s first n room₀ done₀ i₀ room done i = n - i
+μ-loop s format first n room₀ done₀ i₀ room done i = n - i
 
 loop-holds : tie.Need-loop-holds Inv-loop μ-loop
 loop-holds c = let p = c .before .before .pre in visiting-none (p .0) (p .1)

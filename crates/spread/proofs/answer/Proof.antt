@@ -18,7 +18,7 @@ same-length c = search needs
 
 returns : tie.Need-returns
 returns c =
-    refused (c .before .before .before .before .before .before .before .before .pre) (c .before .before .before .before .total .ensures) _ (sym (c .before .fits2 .ensures) ∙ not-true _ (c .if1 .taken))
+    refused (c .before .before .before .before .before .before .before .before .pre) (c .before .before .before .before .total .ensures) _ _ (sym (c .before .fits2 .ensures) ∙ not-true _ (c .if1 .taken))
 
 task-rows-requires : tie.Need-task-rows-requires
 task-rows-requires c κs =
@@ -26,7 +26,7 @@ task-rows-requires c κs =
 
 spread-rule-requires : tie.Need-spread-rule-requires
 spread-rule-requires c κs =
-    spreadable (c .before .before .before .before .before .before .before .before .before .before .before .before .before .before .pre) (c .before .before .before .before .before .before .before .before .before .before .total .ensures) _ (omega arith) (sym (c .before .before .before .before .before .before .before .fits2 .ensures) ∙ not-false _ (c .before .before .before .before .before .before .if1 .left))
+    spreadable (c .before .before .before .before .before .before .before .before .before .before .before .before .before .before .pre) (c .before .before .before .before .before .before .before .before .before .before .total .ensures) _ _ (omega arith) (sym (c .before .before .before .before .before .before .before .fits2 .ensures) ∙ not-false _ (c .before .before .before .before .before .before .if1 .left))
     (c .before .before .before .before .task-rows .ensures)
 
 same-length-2 : tie.Need-same-length-2
@@ -37,7 +37,7 @@ same-length-3 c = search needs
 
 returns-2 : tie.Need-returns-2
 returns-2 c =
-    spread-out (c .before .before .before .before .before .before .before .before .before .before .before .before .before .before .before .before .before .before .before .pre) (c .before .before .before .before .before .before .before .before .before .before .before .before .before .before .before .total .ensures) _ (omega arith) (sym (c .before .before .before .before .before .before .before .before .before .before .before .before .fits2 .ensures) ∙ not-false _ (c .before .before .before .before .before .before .before .before .before .before .before .if1 .left))
+    spread-out (c .before .before .before .before .before .before .before .before .before .before .before .before .before .before .before .before .before .before .before .pre) (c .before .before .before .before .before .before .before .before .before .before .before .before .before .before .before .total .ensures) _ _ (omega arith) (sym (c .before .before .before .before .before .before .before .before .before .before .before .before .fits2 .ensures) ∙ not-false _ (c .before .before .before .before .before .before .before .before .before .before .before .if1 .left))
     (c .before .before .before .before .before .before .before .before .before .task-rows .ensures) (c .before .before .before .before .spread-rule .ensures)
 
 pub answer-spec : {M : Type 1} → statement M

@@ -7,16 +7,16 @@ use Rattle.spread_stack.proofs.run.Statement.{statement}
 use Rattle.spread_stack.proofs.run.Tie as tie
 
 abbrev Inv-loop : tie.InvT-loop
-Inv-loop work₀ out₀ n first from k₀ at₀ work out k at = Running n first work₀ out₀ work out k at
+Inv-loop work₀ out₀ n first format from k₀ at₀ work out k at = Running format n first work₀ out₀ work out k at
 
 abbrev μ-loop : tie.MeasureT-loop
-μ-loop work₀ out₀ n first from k₀ at₀ work out k at = tasksTurns (meant work₀ n) (tasksIn work (stackAt n) k)
+μ-loop work₀ out₀ n first format from k₀ at₀ work out k at = tasksTurns (meant work₀ n) (tasksIn work (stackAt n) k)
 
 mul-from : tie.Need-mul-from Inv-loop μ-loop
 mul-from c = omega arith
 
 loop-holds : tie.Need-loop-holds Inv-loop μ-loop
-loop-holds c = running-start _ _ _ _ (c .before .before .pre)
+loop-holds c = running-start _ _ _ _ _ (c .before .before .pre)
 
 sub-turn : tie.Need-sub-turn Inv-loop μ-loop
 sub-turn c = omega arith

@@ -1,9 +1,13 @@
--- Bytes are stored one after the other. Assumes nothing.
+-- Bytes are stored one after the other, and a label's behind the byte that opens its node. Assumes nothing.
 use borrow.Author.Needs.{needs}
 use Prim.Native.Nat.{_+_, _≤_}
+use mathlib.Core.Path.{ap, _∙_}
 use lib.ListN.{length, length-set}
+use Rattle.words.proofs.Laws.{length-put}
+use Rattle.record.specs.Format.{labelLength}
+use Rattle.count_passes.specs.Says.{opening}
 use Rattle.spread_step.specs.Step.{saidBytes}
-use Rattle.spread_stack.proofs.Stacks.{says-nothing, says-one, says-two}
+use Rattle.spread_stack.proofs.Stacks.{says-nothing, says-one, opening-fits, opening-said}
 use native.Mathlib.Omega.{arith}
 use Rattle.spread_stack.proofs.say.Statement.{statement}
 use Rattle.spread_stack.proofs.say.Tie as tie
@@ -14,45 +18,43 @@ enum-told c = search needs
 enum-known-said : tie.Need-enum-known-said
 enum-known-said c = search needs
 
-two : (c : tie.After-known-told) → c .before .before .before .args .at + 2 ≤ length (c .before .before .before .args .out .now)
-unfolding saidBytes
-two c = rw (c .before .said .given .1) at (c .before .before .before .pre)
-
-one : (c : tie.After-enum-told2) → c .before .before .args .at + 1 ≤ length (c .before .before .args .out .now)
-unfolding saidBytes
-one c = rw (c .enum-told2 .given .1) at (c .before .before .pre)
+opens : (c : tie.After-known-told) → let a = c .before .before .before .before .args in a .at + 1 + labelLength (a .format) ≤ length (a .out .now)
+opens c = opening-fits _ _ _ (c .before .said .given .1) (c .before .before .before .before .pre)
 
 slice-write-out : tie.Need-slice-write-out
-slice-write-out c = omega (arith, two c)
+slice-write-out c = omega (arith, opens c)
 
-add-out : tie.Need-add-out
-add-out c = search needs
+add-put-label : tie.Need-add-put-label
+add-put-label c = search needs
 
-slice-write-out-2 : tie.Need-slice-write-out-2
-slice-write-out-2 c = simp length-set (omega (arith, two c))
-
-add-result : tie.Need-add-result
-add-result c = search needs
+put-label-requires : tie.Need-put-label-requires
+put-label-requires c κs = simp length-set (opens (c .before))
 
 enum-told-2 : tie.Need-enum-told-2
 enum-told-2 c = search needs
 
-slice-write-out-3 : tie.Need-slice-write-out-3
-slice-write-out-3 c = omega (arith, one c)
+one : (c : tie.After-enum-told2) → c .before .before .before .args .at + 1 ≤ length (c .before .before .before .args .out .now)
+unfolding saidBytes
+one c = rw (c .enum-told2 .given .1) at (c .before .before .before .pre)
 
-add-result-2 : tie.Need-add-result-2
-add-result-2 c = search needs
+slice-write-out-2 : tie.Need-slice-write-out-2
+slice-write-out-2 c = omega (arith, one c)
+
+add-result : tie.Need-add-result
+add-result c = search needs
 
 returns : tie.Need-returns
 unfolding saidBytes
-returns c = rw (c .enum-told .given .1) (omega arith, says-nothing _ (c .before .before .args .at))
+returns c = rw (c .enum-told .given .1) (omega arith, says-nothing _ (c .before .before .before .args .at))
 
 same-length : tie.Need-same-length
-same-length c = search needs
+same-length c =
+    let a = c .before .before .before .before .before .before .before .before .args in
+    ap length (c .before .before .put-label .ensures .1) ∙ length-put _ _ _ _ ∙ length-set (a .out .now) (a .at) opening
 
 returns-2 : tie.Need-returns-2
-unfolding saidBytes
-returns-2 c = rw (c .before .said .given .1) (omega arith, says-two _ _ _ _ (two c))
+returns-2 c =
+    opening-said _ _ _ (c .before .before .before .before .before .said .given .1) (c .before .before .before .before .before .before .before .before .pre) (c .before .before .put-label .ensures)
 
 same-length-2 : tie.Need-same-length-2
 same-length-2 c = search needs
@@ -68,12 +70,11 @@ say-spec =
     enum-told
     enum-known-said
     slice-write-out
-    add-out
+    add-put-label
+    put-label-requires
+    enum-told-2
     slice-write-out-2
     add-result
-    enum-told-2
-    slice-write-out-3
-    add-result-2
     returns
     same-length
     returns-2

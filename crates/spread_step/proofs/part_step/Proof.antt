@@ -1,9 +1,9 @@
--- Both ways are the definition's; the rules named have rows, so their tasks can be read, and the label is a byte. Assumes nothing.
+-- Both ways are the definition's; the rules named have rows, so their tasks can be read. Assumes nothing.
 use borrow.Author.Needs.{needs}
 use borrow.Author.Tests.{eq-eqb, ne-eqb}
 use Rattle.rule.specs.Names.{part-one, part-two}
 use Rattle.spread_step.specs.Step.{ruleStep}
-use Rattle.spread_step.proofs.Named.{named-room, part-label}
+use Rattle.spread_step.proofs.Named.{named-room}
 use Rattle.spread_step.proofs.part_step.Statement.{statement}
 use Rattle.spread_step.proofs.part_step.Tie as tie
 
@@ -11,7 +11,7 @@ whole-requires : tie.Need-whole-requires
 whole-requires c κs = named-room (c .before .before .pre) _ (search (part-one, part-two))
 
 opening-requires : tie.Need-opening-requires
-opening-requires c κs = part-label (c .before .before .before .pre)
+opening-requires c κs = search needs
 
 returns : tie.Need-returns
 unfolding ruleStep

@@ -1,8 +1,8 @@
--- Each arm is the definition's; the rules named have rows, so their tasks can be read, and labels are bytes. Assumes nothing.
+-- Each arm is the definition's; the rules named have rows, so their tasks can be read. Assumes nothing.
 use borrow.Author.Needs.{needs}
 use Rattle.rule.specs.Names.{pair-one, pair-two, node-one, fill-one, fill-two, join-one, join-two}
 use Rattle.spread_step.specs.Step.{ruleStep}
-use Rattle.spread_step.proofs.Named.{at-rule, named-room, named-few, node-label}
+use Rattle.spread_step.proofs.Named.{at-rule, named-room, named-few}
 use native.Mathlib.Omega.{arith}
 use Rattle.spread_step.proofs.rule_step.Statement.{statement}
 use Rattle.spread_step.proofs.rule_step.Tie as tie
@@ -32,8 +32,7 @@ whole-requires-3 : tie.Need-whole-requires-3
 whole-requires-3 c κs = named-room (at-rule (c .before .rule2 .given .1) (c .before .before .before .before .pre)) _ node-one
 
 opening-requires : tie.Need-opening-requires
-opening-requires c κs =
-    node-label (at-rule (c .before .before .rule2 .given .1) (c .before .before .before .before .before .pre))
+opening-requires c κs = search needs
 
 enum-known-rule-3 : tie.Need-enum-known-rule-3
 enum-known-rule-3 c = search needs

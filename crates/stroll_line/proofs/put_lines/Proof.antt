@@ -23,11 +23,11 @@ abbrev μ-loop : tie.MeasureT-loop
 loop-holds : tie.Need-loop-holds Inv-loop μ-loop
 loop-holds c = (omega arith, refl, put-as (lines-all _ _) (put-start _ _ _ (omega arith)))
 
-mul-read16 : tie.Need-mul-read16 Inv-loop μ-loop
-mul-read16 c = omega arith
+mul-read32 : tie.Need-mul-read32 Inv-loop μ-loop
+mul-read32 c = omega arith
 
-read16-requires : tie.Need-read16-requires Inv-loop μ-loop
-read16-requires c κs = omega arith
+read32-requires : tie.Need-read32-requires Inv-loop μ-loop
+read32-requires c κs = omega arith
 
 shared-slice-read-put-line : tie.Need-shared-slice-read-put-line Inv-loop μ-loop
 shared-slice-read-put-line c = omega arith
@@ -36,7 +36,7 @@ put-line-requires : tie.Need-put-line-requires Inv-loop μ-loop
 put-line-requires c κs =
     let l = c .before .before .before .before .loop in
     let a = c .before .before .before .before .before .before .before .before .args in
-    omega (arith, simp length-append at (ap length (lines-more (now (a .letters)) (now (a .answers)) (l .i) (omega arith) (c .before .before .read16 .ensures))))
+    omega (arith, simp length-append at (ap length (lines-more (now (a .letters)) (now (a .answers)) (l .i) (omega arith) (c .before .before .read32 .ensures))))
 
 add-i : tie.Need-add-i Inv-loop μ-loop
 add-i c = omega arith
@@ -48,7 +48,7 @@ loop-again : tie.Need-loop-again Inv-loop μ-loop
 loop-again c =
     let l = c .before .before .before .before .before .before .before .loop in
     let a = c .before .before .before .before .before .before .before .before .before .before .before .args in
-    let word = c .before .before .before .before .before .read16 in
+    let word = c .before .before .before .before .before .read32 in
     (omega arith, omega arith, put-rest (c .before .before .put-line .ensures) (put-as (lines-more (now (a .letters)) (now (a .answers)) (l .i) (omega arith) (word .ensures)) (l .inv .2)))
 
 same-length : tie.Need-same-length Inv-loop μ-loop
@@ -67,8 +67,8 @@ put-lines-spec =
     Inv-loop
     μ-loop
     loop-holds
-    mul-read16
-    read16-requires
+    mul-read32
+    read32-requires
     shared-slice-read-put-line
     put-line-requires
     add-i

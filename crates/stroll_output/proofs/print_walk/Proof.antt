@@ -14,7 +14,7 @@ walk-above-requires : tie.Need-walk-above-requires
 walk-above-requires c κs =
     let start = c .before .before .before .before in
     let few = start .pre .0 .few in
-    (start .pre .0, omega (arith, length-replicate {0} {A = ℕ} 8192 0))
+    (start .pre .0, omega (arith, length-replicate {0} {A = ℕ} 16384 0))
 
 enum-told : tie.Need-enum-told
 enum-told c = search needs
@@ -28,7 +28,7 @@ put-lines-requires c κs =
     let few = start .pre .0 .few in
     let walk = c .before .before .before .before .before .walk-above in
     let short = walk .ensures .short (c .before .before .enum-told .given .1) in
-    (omega (arith, walk .kept, length-replicate {0} {A = ℕ} 8192 0), omega arith)
+    (omega (arith, walk .kept, length-replicate {0} {A = ℕ} 16384 0), omega arith)
 
 enum-known-why : tie.Need-enum-known-why
 enum-known-why c = search needs

@@ -9,6 +9,7 @@ use native.Mathlib.Omega.{arith}
 use Rattle.record.specs.Records.{recordsFrom}
 use Rattle.reach.specs.Order.{lowerBelow}
 use Rattle.work_rows.specs.Rows.{Loaded}
+use Rattle.record.proofs.Formats.{record-lies}
 use Rattle.rule.proofs.Rules.{rule-recorded}
 use Rattle.reach.proofs.Orders.{lower-none-below, lower-one-more}
 use Rattle.work_rows.proofs.Rows.{loaded-none, loaded-more}
@@ -16,11 +17,14 @@ use Rattle.work_rows.proofs.load.Statement.{statement}
 use Rattle.work_rows.proofs.load.Tie as tie
 
 abbrev Inv-loop : tie.InvT-loop
-Inv-loop plan first n work₀ lower₀ i₀ work lower i =
-    let R = rulesIn (recordsFrom plan first n) in (i ≤ n) × Loaded R i work₀ work × (lower ≡ lowerBelow R i)
+Inv-loop plan format first n work₀ each lower₀ i₀ work lower i =
+    let R = rulesIn format (recordsFrom format plan first n) in (i ≤ n) × Loaded R i work₀ work × (lower ≡ lowerBelow R i)
 
 abbrev μ-loop : tie.MeasureT-loop
-μ-loop plan first n work₀ lower₀ i₀ work lower i = n - i
+μ-loop plan format first n work₀ each lower₀ i₀ work lower i = n - i
+
+length-requires : tie.Need-length-requires Inv-loop μ-loop
+length-requires c κs = tt
 
 loop-holds : tie.Need-loop-holds Inv-loop μ-loop
 loop-holds c = (omega arith, loaded-none _ _, lower-none-below _)
@@ -29,13 +33,13 @@ cast-read : tie.Need-cast-read Inv-loop μ-loop
 cast-read c = omega arith
 
 mul-read : tie.Need-mul-read Inv-loop μ-loop
-mul-read c = omega arith
+mul-read c = let lies = record-lies (c .before .before .before .before .before .args .format) (c .loop-test .taken) in let p = c .before .before .before .before .before .pre .0 in rw (c .before .before .length .ensures) (omega (arith, lies, p))
 
 add-read : tie.Need-add-read Inv-loop μ-loop
-add-read c = omega arith
+add-read c = let lies = record-lies (c .before .before .before .before .before .args .format) (c .loop-test .taken) in let p = c .before .before .before .before .before .pre .0 in rw (c .before .before .length .ensures) (omega (arith, lies, p))
 
 read-requires : tie.Need-read-requires Inv-loop μ-loop
-read-requires c κs = omega arith
+read-requires c κs = let lies = record-lies (c .before .before .before .before .before .args .format) (c .loop-test .taken) in let p = c .before .before .before .before .before .pre .0 in rw (c .before .before .length .ensures) (omega (arith, lies, p))
 
 decode-requires : tie.Need-decode-requires Inv-loop μ-loop
 decode-requires c κs = tt
@@ -54,13 +58,14 @@ loop-less c = omega arith
 
 loop-again : tie.Need-loop-again Inv-loop μ-loop
 loop-again c =
-    let a = c .before .before .before .before .before .before .before .before .before .before .before .args in
+    let a = c .before .before .before .before .before .before .before .before .before .before .before .before .args in
+    let f = a .format in
     let i = c .before .before .before .before .before .before .before .before .loop .i in
-    let R = rulesIn (recordsFrom (now (a .plan)) (a .first) (a .n)) in
+    let R = rulesIn f (recordsFrom f (now (a .plan)) (a .first) (a .n)) in
     let means : c .before .before .before .rule-of .result ≡ rule R i
     = c .before .before .before .rule-of .ensures
-    ∙ ap ruleOf (c .before .before .before .before .decode .ensures ∙ ap decode (c .before .before .before .before .before .before .read .ensures))
-    ∙ sym (rule-recorded (now (a .plan)) (a .first) (a .n) i (omega arith)) in
+    ∙ ap ruleOf (c .before .before .before .before .decode .ensures ∙ ap (decode f) (rw (c .before .before .before .before .before .before .before .before .before .length .ensures) at (c .before .before .before .before .before .before .read .ensures)))
+    ∙ sym (rule-recorded f (now (a .plan)) (a .first) (a .n) i (omega arith)) in
     let v = c .before .before .before .before .before .before .before .before .loop .inv in
     let put = c .before .before .put-rule .ensures in
     (omega arith, loaded-more R _ _ _ i (v .1) (rw means at (put .0)), lower-one-more R i (v .2) (rw means at (put .1)))
@@ -69,7 +74,7 @@ same-length : tie.Need-same-length Inv-loop μ-loop
 same-length c = c .before .loop .inv .1 .beyond .same-length
 
 returns : tie.Need-returns Inv-loop μ-loop
-returns c = let e : c .before .loop .i ≡ c .before .before .before .before .args .n = omega arith in let v = c .before .loop .inv in (rw e at (v .1), rw e at (v .2))
+returns c = let e : c .before .loop .i ≡ c .before .before .before .before .before .args .n = omega arith in let v = c .before .loop .inv in (rw e at (v .1), rw e at (v .2))
 
 pub load-spec : {M : Type 1} → statement M
 load-spec =
@@ -77,6 +82,7 @@ load-spec =
     (tie.spec
     Inv-loop
     μ-loop
+    length-requires
     loop-holds
     cast-read
     mul-read

@@ -9,8 +9,7 @@ mod table;
 mod text;
 
 use crate::plan::{self, Plan, cursor_bytes, work_bytes};
-use crate::words;
-use crate::{Measured, Refused, Why, first_stranger};
+use crate::{Measured, Refused, Why, answers, first_stranger};
 use moves::Walker;
 use table::Table;
 
@@ -31,22 +30,17 @@ pub fn spread(plan: &[u8], work: &mut [u8], out: &mut [u8]) -> Result<u64, Refus
     let plan = plan::read(plan)?;
     with_work(&plan, work, |work| {
         let entries = counts::of_start(&plan, work).ok_or(Why::Output.here())?.entries;
-        let length = entries.checked_mul(3).filter(|length| *length <= out.len() as u64).ok_or(Why::Output.here())?;
-        text::write(&Table::build(&plan, work).0, plan.start, &mut out[..length as usize]);
+        let length = entries.checked_mul(plan.format().node() as u64).filter(|length| *length <= out.len() as u64);
+        let length = length.ok_or(Why::Output.here())?;
+        text::write(&Table::build(&plan, work).0, plan.format(), plan.start, &mut out[..length as usize]);
         Ok(length)
     })
 }
 
-pub fn walk(
-    plan: &[u8],
-    work: &mut [u8],
-    cursor: &mut [u8],
-    letters: &[u8],
-    answers: &mut [u8],
-) -> Result<(), Refused> {
+pub fn walk(plan: &[u8], work: &mut [u8], cursor: &mut [u8], letters: &[u8], out: &mut [u8]) -> Result<(), Refused> {
     let plan = plan::read(plan)?;
     let needed = cursor_bytes(plan.rules.count());
-    if cursor.len() < needed || words::count(answers) < letters.len() {
+    if cursor.len() < needed || answers::count(out) < letters.len() {
         return Err(Why::Lent.here());
     }
     with_work(&plan, work, |work| {
@@ -54,7 +48,7 @@ pub fn walk(
             return Err(Why::Letter.at(position));
         }
         let mut walker = Walker::at(&plan, work, &mut cursor[..needed]).ok_or(Why::Place.here())?;
-        for (answer, letter) in answers.as_chunks_mut().0.iter_mut().zip(letters) {
+        for (answer, letter) in out.as_chunks_mut().0.iter_mut().zip(letters) {
             *answer = walker.answer(*letter).to_le_bytes();
         }
         walker.store();

@@ -56,7 +56,7 @@ impl<'a> Walker<'a> {
     }
 
     /// Takes one letter: the label of the node arrived at, or nowhere.
-    pub fn answer(&mut self, letter: u8) -> u16 {
+    pub fn answer(&mut self, letter: u8) -> u32 {
         let arrived = match letter {
             b'a' => self.root(Side::Left),
             b'z' => self.root(Side::Right),

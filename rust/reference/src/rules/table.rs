@@ -10,10 +10,10 @@ use crate::words;
 /// The representative of an empty rule, and the step of a rule that isn't broken down.
 pub const NONE: u16 = u16::MAX;
 
-/// Words of a row: the rule's four, its representative, and four for either side.
+/// Words of a row: the rule's five, its representative, and four for either side.
 mod column {
-    pub const REPRESENTATIVE: usize = 4;
-    pub const LEFT: usize = 5;
+    pub const REPRESENTATIVE: usize = 5;
+    pub const LEFT: usize = 6;
     pub const SIDE: usize = 4;
     pub const STEP: usize = 0;
     pub const END: usize = 1;
@@ -38,7 +38,7 @@ impl<'a> Table<'a> {
     }
 
     fn add(&mut self, number: u16, rule: Rule) {
-        self.0[usize::from(number)][..8].copy_from_slice(&words::pack(rule.words()));
+        rule.words().into_iter().enumerate().for_each(|(column, word)| self.put(number, column, word));
         let (representative, steps) = match rule {
             Rule::Empty => (NONE, None),
             Rule::Pair(b, c) => match (self.representative(b), self.representative(c)) {

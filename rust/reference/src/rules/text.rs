@@ -1,15 +1,17 @@
 //! The text of a rule's forest, by recursion over rules, none of which reaches itself: at most 1,024 deep.
 use super::table::{NONE, Table};
+use crate::Format;
 use crate::plan::Rule;
 
 /// Writes the text of a closed rule, which has exactly the length of `out`.
-pub fn write(table: &Table, rule: u16, out: &mut [u8]) {
-    let mut writer = Writer { table, out, written: 0 };
+pub fn write(table: &Table, format: Format, rule: u16, out: &mut [u8]) {
+    let mut writer = Writer { table, format, out, written: 0 };
     writer.closed(rule);
 }
 
 struct Writer<'a> {
     table: &'a Table<'a>,
+    format: Format,
     out: &'a mut [u8],
     written: usize,
 }
@@ -20,9 +22,11 @@ impl Writer<'_> {
         self.written += 1;
     }
 
-    fn open(&mut self, label: u16) {
+    fn open(&mut self, label: u32) {
         self.put(b'(');
-        self.put(label as u8);
+        for byte in &label.to_le_bytes()[..self.format.label()] {
+            self.put(*byte);
+        }
     }
 
     /// A closed rule's forest. Empty rules and one-sided pairs cost nothing: the representative is written.

@@ -10,7 +10,7 @@ pub struct Finger {
 
 impl Finger {
     /// Takes one letter: the label of the node arrived at, or nowhere.
-    pub fn answer(&mut self, forest: &Forest, letter: u8) -> u16 {
+    pub fn answer(&mut self, forest: &Forest, letter: u8) -> u32 {
         let Some(tried) = self.tried(forest, letter) else { return NOWHERE };
         let Some(node) = forest.node_at(&tried) else { return NOWHERE };
         self.path = tried;

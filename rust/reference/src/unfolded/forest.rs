@@ -1,11 +1,11 @@
 //! A forest in memory, every node of which carries its place.
-use crate::Measured;
 use crate::place::Cell;
+use crate::{Format, Measured};
 use std::collections::HashMap;
 
 /// A tree: its root's label and place, and the trees below.
 pub struct Tree {
-    pub label: u16,
+    pub label: u32,
     pub place: Vec<Cell>,
     pub children: Vec<Tree>,
 }
@@ -60,9 +60,10 @@ impl Forest {
         Measured { trees: self.trees.len() as u64, entries: entries(&self.trees), levels: levels(&self.trees) }
     }
 
-    pub fn text(&self) -> Vec<u8> {
+    /// The text, with labels as a format writes them.
+    pub fn text(&self, format: Format) -> Vec<u8> {
         let mut text = Vec::new();
-        write_text(&self.trees, &mut text);
+        write_text(&self.trees, format, &mut text);
         text
     }
 }
@@ -85,10 +86,11 @@ fn levels(trees: &[Tree]) -> u64 {
     trees.iter().map(|tree| 1 + levels(&tree.children)).max().unwrap_or(0)
 }
 
-fn write_text(trees: &[Tree], text: &mut Vec<u8>) {
+fn write_text(trees: &[Tree], format: Format, text: &mut Vec<u8>) {
     for tree in trees {
-        text.extend([b'(', tree.label as u8]);
-        write_text(&tree.children, text);
+        text.push(b'(');
+        text.extend(&tree.label.to_le_bytes()[..format.label()]);
+        write_text(&tree.children, format, text);
         text.push(b')');
     }
 }

@@ -5,14 +5,14 @@ pub mod places;
 
 use crate::place;
 use crate::plan::{self, Plan, cursor_bytes, work_bytes};
-use crate::words;
-use crate::{Measured, Refused, Why, first_stranger};
+use crate::{Format, Measured, Refused, Why, answers, first_stranger};
 use finger::Finger;
 use forest::Forest;
 
 /// A plan, its forest in memory, and the operations on it.
 pub struct Unfolded {
     n: usize,
+    format: Format,
     pub forest: Forest,
 }
 
@@ -20,7 +20,7 @@ impl Unfolded {
     /// Unfolds an accepted plan, unless its forest has more nodes than this.
     pub fn of(plan: &[u8], most: usize) -> Option<Unfolded> {
         let plan = plan::read(plan).ok()?;
-        Some(Unfolded { n: plan.rules.count(), forest: places::unfold(&plan, most)? })
+        Some(Unfolded { n: plan.rules.count(), format: plan.format(), forest: places::unfold(&plan, most)? })
     }
 
     /// Clears the words of work that n rules need; 8 if there are fewer.
@@ -36,13 +36,13 @@ impl Unfolded {
 
     pub fn spread(&self, work: &mut [u8], out: &mut [u8]) -> Result<u64, Refused> {
         self.take_work(work)?;
-        let text = self.forest.text();
+        let text = self.forest.text(self.format);
         out.get_mut(..text.len()).ok_or(Why::Output.here())?.copy_from_slice(&text);
         Ok(text.len() as u64)
     }
 
-    pub fn walk(&self, work: &mut [u8], cursor: &mut [u8], letters: &[u8], answers: &mut [u8]) -> Result<(), Refused> {
-        if cursor.len() < cursor_bytes(self.n) || words::count(answers) < letters.len() {
+    pub fn walk(&self, work: &mut [u8], cursor: &mut [u8], letters: &[u8], out: &mut [u8]) -> Result<(), Refused> {
+        if cursor.len() < cursor_bytes(self.n) || answers::count(out) < letters.len() {
             return Err(Why::Lent.here());
         }
         self.take_work(work)?;
@@ -52,7 +52,7 @@ impl Unfolded {
         let cursor = &mut cursor[..cursor_bytes(self.n)];
         let mut finger = Finger { path: self.forest.path_of(&place::used(cursor)?).ok_or(Why::Place.here())? };
         for (index, letter) in letters.iter().enumerate() {
-            words::put(answers, index, finger.answer(&self.forest, *letter));
+            answers::put(out, index, finger.answer(&self.forest, *letter));
         }
         place::store(self.forest.place_at(&finger.path), cursor);
         Ok(())

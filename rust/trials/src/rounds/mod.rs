@@ -1,4 +1,5 @@
 //! The rounds of a trial. Each tries one subject as often as it is told.
+pub mod formats;
 pub mod orders;
 pub mod places;
 pub mod plans;
@@ -12,7 +13,7 @@ use crate::random::Random;
 use crate::{families, random_plans};
 use reference::LETTERS;
 
-/// A valid plan with a forest small enough to unfold.
+/// A valid narrow plan with a forest small enough to unfold.
 fn small(random: &mut Random, most_rules: usize) -> Draft {
     if random.once_in(4) {
         let mut draft = families::any(random, most_rules);
@@ -26,6 +27,11 @@ fn small(random: &mut Random, most_rules: usize) -> Draft {
     draft
 }
 
+/// A valid narrow plan, and every other time the same as a wide one.
+fn in_any_format(random: &mut Random, draft: Draft) -> Draft {
+    if random.once_in(2) { draft } else { random_plans::widened(&draft, random) }
+}
+
 /// A valid plan, and every other time the same with its rules renumbered.
 fn in_any_order(random: &mut Random, draft: Draft) -> Draft {
     if random.once_in(2) {
@@ -33,6 +39,12 @@ fn in_any_order(random: &mut Random, draft: Draft) -> Draft {
     }
     let number = random.numbering(draft.n());
     draft.renumbered(&number)
+}
+
+/// A valid narrow plan as it is, as a wide one, renumbered, or both.
+fn in_any_form(random: &mut Random, draft: Draft) -> Draft {
+    let draft = in_any_format(random, draft);
+    in_any_order(random, draft)
 }
 
 /// Letters at random: evenly, with a liking for some, or nearly all the same, so that long rows and deep spines are gone through.

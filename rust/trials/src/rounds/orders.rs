@@ -18,6 +18,7 @@ pub fn agree(trial: &mut Trial, plans: usize) {
             }
             _ => rounds::small(&mut trial.random, 60),
         };
+        let draft = rounds::in_any_format(&mut trial.random, draft);
         let number = trial.random.numbering(draft.n());
         let both = [&draft, &draft.renumbered(&number)];
         same_sizes(trial, both);
@@ -35,7 +36,7 @@ fn same_sizes(trial: &mut Trial, both: [&Draft; 2]) {
     if measured.entries < 20_000 {
         let [text, renumbered] = both.map(|draft| {
             let mut spread = Call::new(Operation::Spread, draft.plan(), draft.n());
-            spread.out = vec![1; 3 * measured.entries as usize];
+            spread.out = vec![1; draft.format.node() * measured.entries as usize];
             trial.accepted(&spread, "the text fits").out
         });
         assert!(text == renumbered, "renumbered, a plan has the same text");

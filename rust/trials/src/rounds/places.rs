@@ -13,7 +13,7 @@ pub fn refuse(trial: &mut Trial, rounds: usize) {
     let damages = cursors::all();
     for _ in 0..rounds {
         let draft = with_one_sided(rounds::small(&mut trial.random, 40));
-        let draft = rounds::in_any_order(&mut trial.random, draft);
+        let draft = rounds::in_any_form(&mut trial.random, draft);
         let Some(places) = places_of(trial, &draft) else { continue };
         let known = Known::of(draft);
         for damage in &damages {
@@ -36,7 +36,7 @@ pub fn walk_from_every(trial: &mut Trial, forests: usize) {
     for _ in 0..forests {
         let mut draft = rounds::small(&mut trial.random, 14);
         crate::random_plans::start_within(&mut draft, 40, &mut trial.random);
-        let draft = rounds::in_any_order(&mut trial.random, draft);
+        let draft = rounds::in_any_form(&mut trial.random, draft);
         let Some(places) = places_of(trial, &draft) else { continue };
         let mut call = Call::new(Operation::Walk, draft.plan(), draft.n());
         for place in &places {

@@ -1,9 +1,10 @@
 //! Check, seal, unseal, measure and spread on valid plans of every size.
 use crate::call::{Call, Operation, Values};
 use crate::draft::Draft;
-use crate::trial::Trial;
+use crate::trial::{Judged, Trial};
 use crate::{families, random_plans, rounds};
-use reference::plan::{MAX_RULES, RECORD, TRAILER};
+use reference::Unsealed;
+use reference::plan::MAX_RULES;
 
 pub fn agree(trial: &mut Trial, plans: usize) {
     for round in 0..plans {
@@ -16,25 +17,26 @@ pub fn agree(trial: &mut Trial, plans: usize) {
             2 => families::leaves(u128::MAX >> trial.random.between(1, 127)),
             _ => rounds::small(&mut trial.random, 60),
         };
-        let draft = rounds::in_any_order(&mut trial.random, draft);
+        let draft = rounds::in_any_form(&mut trial.random, draft);
         round_trip(trial, &draft);
         count_and_write(trial, &draft);
     }
 }
 
-/// Sealed then unsealed, rules and start are the same; a plan without prefix unsealed and sealed has the same bytes.
+/// Sealed then unsealed, record length, rules and start are the same; a plan without prefix unsealed and sealed has the same bytes.
 fn round_trip(trial: &mut Trial, draft: &Draft) {
     let n = draft.n();
-    let mut seal = Call::new(Operation::Seal, draft.words(), n);
-    seal.start = draft.start;
+    let mut seal = Call::seal(draft);
     let longer = trial.random.below(20);
-    seal.out = trial.random.leftovers(RECORD * n + TRAILER + longer);
-    let sealed = &trial.accepted(&seal, "a valid plan is sealed").out[..RECORD * n + TRAILER];
+    seal.out = trial.random.leftovers(draft.sealed_length() + longer);
+    let sealed = &trial.accepted(&seal, "a valid plan is sealed").out[..draft.sealed_length()];
     assert!(draft.plan().ends_with(sealed), "a sealed plan is the plan without its prefix");
     let mut unseal = Call::new(Operation::Unseal, draft.plan(), n);
-    unseal.out = trial.random.leftovers(RECORD * n + longer);
-    let after = trial.accepted(&unseal, "a valid plan is unsealed");
-    assert!(after.out[..RECORD * n] == draft.words(), "unsealed, the words are the same");
+    unseal.out = trial.random.leftovers(draft.words_length() + longer);
+    let Judged { outcome, after } = trial.judge(&unseal);
+    let unsealed = Unsealed { record_length: draft.format.record_length(), n: n as u16, start: draft.start };
+    assert_eq!(outcome, Ok(Values::Unsealed(unsealed)), "a valid plan is unsealed");
+    assert!(after.out[..draft.words_length()] == draft.words(), "unsealed, the words are the same");
     trial.judge(&Call::new(Operation::Check, draft.plan(), n));
 }
 
@@ -46,7 +48,7 @@ fn count_and_write(trial: &mut Trial, draft: &Draft) {
     let Ok(Values::Measured(measured)) = trial.judge(&call).outcome else { return };
     if measured.entries < 200_000 {
         call.operation = Operation::Spread;
-        call.out = trial.random.leftovers(3 * measured.entries as usize + longer);
+        call.out = trial.random.leftovers(draft.format.node() * measured.entries as usize + longer);
         trial.judge(&call);
     }
 }

@@ -1,60 +1,101 @@
-//! Refusals 2 (of seal), 8, 9 and 11: slices too short, strange letters, forests too large.
+//! Refusals 1 and 2 of seal, 8, 9 and 11: slices too short, strange letters, forests too large.
 use crate::call::{Call, Operation};
 use crate::draft::Draft;
 use crate::families;
 use crate::trial::Trial;
 use crate::{random_plans, rounds};
-use reference::plan::{MAX_RULES, RECORD, Rule, TRAILER};
-use reference::{LETTERS, Why, rules};
+use reference::plan::{MAX_RULES, Rule, TRAILER, work_bytes};
+use reference::{Format, LETTERS, Why, answers, rules};
 
 pub fn refuse(trial: &mut Trial, rounds: usize) {
-    for _ in 0..rounds {
-        seal_words(trial);
-        lent(trial);
-        letters(trial);
-        outputs(trial);
-        large(trial);
+    for format in Format::BOTH {
+        for _ in 0..rounds {
+            record_lengths(trial, format);
+            seal_words(trial, format);
+            lent(trial, format);
+            letters(trial, format);
+            outputs(trial, format);
+            large(trial, format);
+        }
     }
+}
+
+/// A plan of a format that has every kind, its rules in any order.
+fn all_kinds(trial: &mut Trial, format: Format) -> Draft {
+    let draft = random_plans::all_kinds(format, &mut trial.random);
+    rounds::in_any_order(&mut trial.random, draft)
 }
 
 /// The length of a slice that is too short, for the number of bytes needed.
 type Shorter = fn(usize) -> usize;
 
-const SHORT: [(&str, Shorter); 4] = [
+const SHORT: [(&str, Shorter); 6] = [
     ("by the last byte", |needed| needed - 1),
-    ("by the last word", |needed| needed - 2),
+    ("by the last two bytes", |needed| needed - 2),
+    ("by the last three bytes", |needed| needed - 3),
+    ("by the last four bytes", |needed| needed - needed.min(4)),
     ("by half", |needed| needed / 2),
     ("wholly", |_| 0),
 ];
 
-/// Seal's 2: words that aren't four to a rule, none, or too many.
-fn seal_words(trial: &mut Trial) {
-    let draft = random_plans::all_kinds(&mut trial.random);
-    let draft = rounds::in_any_order(&mut trial.random, draft);
-    let whole = draft.words();
-    let mut call = Call::new(Operation::Seal, whole.clone(), draft.n());
-    call.out = trial.random.leftovers(2 * RECORD * (MAX_RULES + 10));
-    call.start = draft.start;
-    for (way, words) in [
-        ("one word too few", &whole[..whole.len() - 2]),
-        ("three words too few", &whole[..whole.len() - 6]),
-        ("one byte too few", &whole[..whole.len() - 1]),
-        ("no words", &[]),
-        ("one byte", &[0]),
-    ] {
-        call.plan = words.to_vec();
-        trial.refused(&call, way, Why::Count.here());
+/// Seal's 1: a record length that is neither 8 nor 10, whatever else could be refused.
+fn record_lengths(trial: &mut Trial, format: Format) {
+    let mut draft = all_kinds(trial, format);
+    let whole = Call { out: trial.random.leftovers(draft.sealed_length()), ..Call::seal(&draft) };
+    let cut = Call { plan: draft.words().split_off(3), ..whole.clone() };
+    let nothing = Call { plan: Vec::new(), ..whole.clone() };
+    let no_room = Call { out: Vec::new(), ..whole.clone() };
+    draft.records[3][0] = 6;
+    let faulty = Call { out: whole.out.clone(), ..Call::seal(&draft) };
+    let calls = [
+        ("a fine plan", whole.clone()),
+        ("cut words", cut),
+        ("no words", nothing),
+        ("no output", no_room),
+        ("a faulty rule", faulty),
+    ];
+    let any = trial.random.between(11, 65_535) as u16;
+    for (length, record_length) in [("0", 0), ("7", 7), ("9", 9), ("11", 11), ("65,535", 65_535), ("above 10", any)] {
+        for (name, call) in &calls {
+            let call = Call { record_length, ..call.clone() };
+            trial.refused(&call, &format!("{format:?} plan, {name}, record length {length}"), Why::Mark.here());
+        }
     }
-    call.plan = vec![0; RECORD * (MAX_RULES + 1 + trial.random.below(5))];
-    trial.refused(&call, "more than 1,024 rules", Why::Count.here());
+    // The other format's record length, also for words that are whole rules in both: what comes of that is for the implementations to agree on.
+    let other = if format == Format::Wide { Format::Narrow } else { Format::Wide };
+    for words in [whole.plan.len(), whole.plan.len() / 40 * 40] {
+        let plan = whole.plan[..words].to_vec();
+        trial.judge(&Call { plan, record_length: other.record_length(), ..whole.clone() });
+    }
+}
+
+/// Seal's 2: words that aren't four or five to a rule, none, or too many.
+fn seal_words(trial: &mut Trial, format: Format) {
+    let draft = all_kinds(trial, format);
+    let whole = draft.words();
+    let mut call = Call::seal(&draft);
+    call.out = trial.random.leftovers(format.record() * (MAX_RULES + 10));
+    let mut faulty = vec![
+        ("no words".to_string(), Vec::new()),
+        ("one byte".to_string(), vec![0]),
+        ("1,025 rules".to_string(), vec![0; format.record() * (MAX_RULES + 1)]),
+        ("more rules".to_string(), vec![0; format.record() * (MAX_RULES + 9)]),
+    ];
+    for few in 1..format.words() {
+        faulty.push((format!("{few} words too few"), whole[..whole.len() - 2 * few].to_vec()));
+        faulty.push((format!("{few} words too few, and a byte"), whole[..whole.len() - 2 * few + 1].to_vec()));
+    }
+    for (way, words) in faulty {
+        call.plan = words;
+        trial.refused(&call, &format!("{format:?} plan, {way}"), Why::Count.here());
+    }
     call.plan = [&whole[..], &[7]].concat();
     trial.accepted(&call, "an odd last byte isn't counted");
 }
 
-/// 8: work, cursor and answers.
-fn lent(trial: &mut Trial) {
-    let draft = random_plans::all_kinds(&mut trial.random);
-    let draft = rounds::in_any_order(&mut trial.random, draft);
+/// 8: work, cursor and answers; a rest of answers isn't counted.
+fn lent(trial: &mut Trial, format: Format) {
+    let draft = all_kinds(trial, format);
     let letters = rounds::letters(&mut trial.random, 9);
     for operation in [Operation::Measure, Operation::Spread, Operation::Walk] {
         let mut call = Call::new(operation, draft.plan(), draft.n()).with_letters(&letters);
@@ -62,23 +103,28 @@ fn lent(trial: &mut Trial) {
         for (way, length) in SHORT {
             let mut short = call.clone();
             short.work.truncate(length(call.work.len()));
-            trial.refused(&short, &format!("work short {way}"), Why::Lent.here());
+            trial.refused(&short, &format!("{format:?} plan, work short {way}"), Why::Lent.here());
             if operation == Operation::Walk {
                 let mut short = call.clone();
                 short.cursor.truncate(length(call.cursor.len()));
-                trial.refused(&short, &format!("cursor short {way}"), Why::Lent.here());
+                trial.refused(&short, &format!("{format:?} plan, cursor short {way}"), Why::Lent.here());
                 let mut short = call.clone();
                 short.answers.truncate(length(call.answers.len()));
-                trial.refused(&short, &format!("answers short {way}"), Why::Lent.here());
+                trial.refused(&short, &format!("{format:?} plan, answers short {way}"), Why::Lent.here());
+            }
+        }
+        if operation == Operation::Walk {
+            for rest in 0..4 {
+                call.answers = trial.random.leftovers(answers::LENGTH * letters.len() + rest);
+                trial.accepted(&call, "a rest of answers isn't counted");
             }
         }
     }
 }
 
 /// 9: a byte that is no letter, first, last or anywhere.
-fn letters(trial: &mut Trial) {
-    let draft = random_plans::all_kinds(&mut trial.random);
-    let draft = rounds::in_any_order(&mut trial.random, draft);
+fn letters(trial: &mut Trial, format: Format) {
+    let draft = all_kinds(trial, format);
     let count = trial.random.between(3, 40);
     let letters = rounds::letters(&mut trial.random, count);
     let call = Call::new(Operation::Walk, draft.plan(), draft.n()).with_letters(&letters);
@@ -90,45 +136,62 @@ fn letters(trial: &mut Trial) {
         if LETTERS.contains(&strange.letters[place]) {
             strange.letters[place] = b' ';
         }
-        trial.refused(&strange, &format!("{way} byte no letter"), Why::Letter.at(place));
+        trial.refused(&strange, &format!("{format:?} plan, {way} byte no letter"), Why::Letter.at(place));
         let later = trial.random.between(place, count - 1);
         strange.letters[later] = b'?';
         strange.cursor = trial.random.leftovers(call.cursor.len() + 3);
-        trial.refused(&strange, &format!("{way} byte no letter, with more wrong after it"), Why::Letter.at(place));
+        let way = format!("{format:?} plan, {way} byte no letter, with more wrong after it");
+        trial.refused(&strange, &way, Why::Letter.at(place));
     }
 }
 
-/// 11: output one byte short and shorter, for seal, unseal and spread; just long enough it is accepted.
-fn outputs(trial: &mut Trial) {
+/// A valid plan of a format, its rules in any order.
+fn of_format(trial: &mut Trial, format: Format, draft: Draft) -> Draft {
+    let draft = if format == Format::Wide { random_plans::widened(&draft, &mut trial.random) } else { draft };
+    rounds::in_any_order(&mut trial.random, draft)
+}
+
+/// 11: output one byte short and shorter, for seal, unseal and spread; just long enough it is accepted. What would do for the same rules
+/// in a narrow plan is too short for a wide one.
+fn outputs(trial: &mut Trial, format: Format) {
     let (draft, entries) = loop {
         let draft = rounds::small(&mut trial.random, 30);
-        let draft = rounds::in_any_order(&mut trial.random, draft);
-        let mut work = vec![0; 64 * draft.n()];
+        let draft = of_format(trial, format, draft);
+        let mut work = vec![0; work_bytes(draft.n())];
         match rules::measure(&draft.plan(), &mut work) {
             Ok(measured) if measured.entries > 0 => break (draft, measured.entries as usize),
             _ => (),
         }
     };
-    let n = draft.n();
-    for (operation, needed) in
-        [(Operation::Seal, RECORD * n + TRAILER), (Operation::Unseal, RECORD * n), (Operation::Spread, 3 * entries)]
-    {
-        let mut call = Call::new(operation, draft.plan(), n);
-        if operation == Operation::Seal {
-            (call.plan, call.start) = (draft.words(), draft.start);
-        }
-        let longer = trial.random.below(2);
+    let words = |format: Format| format.record() * draft.n();
+    type Needed<'a> = &'a dyn Fn(Format) -> usize;
+    let operations: [(Operation, Needed); 3] = [
+        (Operation::Seal, &|format| words(format) + TRAILER),
+        (Operation::Unseal, &words),
+        (Operation::Spread, &|format| format.node() * entries),
+    ];
+    for (operation, needed) in operations {
+        let mut call = match operation {
+            Operation::Seal => Call::seal(&draft),
+            _ => Call::new(operation, draft.plan(), draft.n()),
+        };
+        let (longer, needed, narrow) = (trial.random.below(2), needed(format), needed(Format::Narrow));
         call.out = trial.random.leftovers(needed + longer);
         trial.accepted(&call, "output just long enough");
-        for (way, length) in SHORT {
-            call.out = trial.random.leftovers(length(needed));
-            trial.refused(&call, &format!("output short {way}"), Why::Output.here());
+        let mut short: Vec<(&str, usize)> = SHORT.map(|(way, length)| (way, length(needed))).to_vec();
+        if format == Format::Wide {
+            short.push(("as for a narrow plan", narrow));
+            short.push(("above that", trial.random.between(narrow, needed - 1)));
+        }
+        for (way, length) in short {
+            call.out = trial.random.leftovers(length);
+            trial.refused(&call, &format!("{format:?} plan, output short {way}"), Why::Output.here());
         }
     }
 }
 
 /// 11: more than 2^64 − 1 nodes, and texts longer than that, also where unreached rules are larger than the start.
-fn large(trial: &mut Trial) {
+fn large(trial: &mut Trial, format: Format) {
     const ALL: u128 = 1 << 64;
     let some = u128::from(trial.random.number());
     let counts = [
@@ -136,21 +199,22 @@ fn large(trial: &mut Trial) {
         ("2^64 nodes and more", ALL + some, true),
         ("far more than 2^64 nodes", ALL << 20 | some, true),
         ("text too long alone", ALL - 1 - some / 4, false),
-        ("text too long by little", ALL / 3 + 1 + some % 9, false),
+        ("text too long by little", ALL / format.node() as u128 + 1 + some % 9, false),
     ];
     for (way, count, too_many) in counts {
+        let way = format!("{format:?} plan, {way}");
         let draft = families::leaves(count);
         let nested = wrapped(draft.clone());
         // A node above all leaves makes one more, unless they are too many anyway.
         for draft in [draft, nested] {
-            let draft = rounds::in_any_order(&mut trial.random, draft);
+            let draft = of_format(trial, format, draft);
             let mut measure = Call::new(Operation::Measure, draft.plan(), draft.n());
             measure.work = trial.random.leftovers(measure.work.len() + 9);
             let mut spread = Call { operation: Operation::Spread, ..measure.clone() };
             spread.out = trial.random.leftovers(50);
-            trial.refused(&spread, way, Why::Output.here());
+            trial.refused(&spread, &way, Why::Output.here());
             if too_many {
-                trial.refused(&measure, way, Why::Output.here());
+                trial.refused(&measure, &way, Why::Output.here());
             } else {
                 trial.judge(&measure);
             }
@@ -158,7 +222,7 @@ fn large(trial: &mut Trial) {
     }
     let mut draft = families::leaves(ALL << 3 | some);
     random_plans::start_within(&mut draft, 40, &mut trial.random);
-    let draft = rounds::in_any_order(&mut trial.random, draft);
+    let draft = of_format(trial, format, draft);
     for operation in [Operation::Measure, Operation::Spread] {
         let mut call = Call::new(operation, draft.plan(), draft.n());
         call.out = trial.random.leftovers(200);

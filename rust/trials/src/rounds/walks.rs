@@ -5,14 +5,14 @@ use crate::trial::{Judged, Trial};
 use crate::{families, random_plans, rounds};
 use reference::plan::{MAX_RULES, work_bytes};
 use reference::unfolded::finger::Finger;
-use reference::{NOWHERE, rules, words};
+use reference::{NOWHERE, answers, rules};
 
 /// Lists of calls on forests small enough for the finger.
 pub fn small(trial: &mut Trial, plans: usize, calls: usize) {
     for _ in 0..plans {
         let most = trial.random.pick(&[6, 15, 40, 200]);
         let draft = rounds::small(&mut trial.random, most);
-        let draft = rounds::in_any_order(&mut trial.random, draft);
+        let draft = rounds::in_any_form(&mut trial.random, draft);
         list(trial, &draft, calls);
     }
 }
@@ -26,7 +26,7 @@ pub fn large(trial: &mut Trial, plans: usize, calls: usize) {
         } else {
             random_plans::any(&mut trial.random, n)
         };
-        let draft = rounds::in_any_order(&mut trial.random, draft);
+        let draft = rounds::in_any_form(&mut trial.random, draft);
         list(trial, &draft, calls);
     }
 }
@@ -49,7 +49,7 @@ fn list(trial: &mut Trial, draft: &Draft, calls: usize) {
         {
             for (index, letter) in call.letters.iter().enumerate() {
                 let answer = finger.answer(&unfolded.forest, *letter);
-                assert_eq!(words::get(&after.answers, index), answer, "demand 3: the finger's answers");
+                assert_eq!(answers::get(&after.answers, index), answer, "demand 3: the finger's answers");
             }
             let place = unfolded.forest.place_at(&finger.path);
             assert_eq!(reference::place::used(&after.cursor).expect("cell 0"), place, "demand 3: the finger's cells");
@@ -74,7 +74,7 @@ fn next_call(trial: &mut Trial, mut call: Call, n: usize) -> Call {
     call = call.with_letters(&letters);
     call.answers = trial.random.leftovers(call.answers.len() + longer);
     match trial.random.below(30) {
-        0 if count > 0 => call.answers.truncate(2 * count - 1),
+        0 if count > 0 => call.answers.truncate(answers::LENGTH * count - trial.random.between(1, 3)),
         1 => call.work.truncate(work_bytes(n) - 1),
         2 if count > 0 => call.letters[count / 2] = b'x',
         _ => (),
@@ -87,7 +87,7 @@ pub(super) fn mostly_moving(trial: &mut Trial, call: &Call, letters: Vec<u8>) ->
     let mut scout = call.clone().with_letters(&letters);
     let walked = rules::walk(&scout.plan, &mut scout.work, &mut scout.cursor, &letters, &mut scout.answers);
     walked.expect("a list of calls stays in the forest");
-    let moves = |index: usize| words::get(&scout.answers, index) != NOWHERE;
+    let moves = |index: usize| answers::get(&scout.answers, index) != NOWHERE;
     let kept = (0..letters.len()).filter(|index| moves(*index) || trial.random.once_in(6));
     kept.map(|index| letters[index]).collect()
 }

@@ -15,7 +15,7 @@ const MOST: usize = 65_536;
 #[test]
 fn every_case_comes_out_as_written() {
     let text = String::from_utf8(read("tests", "cases.txt")).expect("the cases are text");
-    let mut lent = Lent::nothing(read("samples", "plan.bin"));
+    let mut lent = Lent::nothing(read("samples", "plan.bin"), read("samples", "wide.bin"));
     let (mut ran, mut wrong) = (0, 0);
     for (number, line) in (1..).zip(text.lines()) {
         let taken = match line.as_bytes() {
@@ -45,14 +45,15 @@ fn read(folder: &str, name: &str) -> Vec<u8> {
 /// What the lines so far lend. The plan is the first bytes of its room, so many; those behind them stay for a line that comes later.
 struct Lent {
     sample: Vec<u8>,
+    wide: Vec<u8>,
     plan: Vec<u8>,
     length: usize,
     cursor: Vec<u8>,
 }
 
 impl Lent {
-    fn nothing(sample: Vec<u8>) -> Lent {
-        Lent { sample, plan: vec![0; MOST], length: 0, cursor: vec![0; MOST] }
+    fn nothing(sample: Vec<u8>, wide: Vec<u8>) -> Lent {
+        Lent { sample, wide, plan: vec![0; MOST], length: 0, cursor: vec![0; MOST] }
     }
 
     /// A line that lends.
@@ -63,6 +64,7 @@ impl Lent {
             ("plan" | "rules", words) => self.length = put(&bytes(words)?, &mut self.plan, 0)?,
             ("from", [at, words @ ..]) => self.length = put(&bytes(words)?, &mut self.plan, *at)?,
             ("sample", [at]) => self.length = put(&self.sample, &mut self.plan, *at)?,
+            ("wide", [at]) => self.length = put(&self.wide, &mut self.plan, *at)?,
             ("zeros", [] | [_]) => {
                 self.plan.fill(0);
                 let length = numbers.first().copied().unwrap_or(0);
@@ -102,19 +104,20 @@ impl Lent {
         let cursor = self.cursor.get(..cursor?).ok_or("no room for such a cursor")?.to_vec();
         let plan = self.plan[..self.length].to_vec();
         let operation = operation(name)?;
-        let mut call =
-            Call { operation, plan, start: 0, work, cursor, letters: Vec::new(), answers: Vec::new(), out: Vec::new() };
+        let mut call = Call { work, cursor, ..Call::new(operation, plan, 0) };
         match (operation, tail) {
             (Operation::Walk, Some(letters)) => {
                 call.letters = letters.as_bytes().to_vec();
                 call.answers = out;
             }
-            (Operation::Seal, Some(start)) => {
-                call.start = start.parse().map_err(|_| format!("{start} is no rule"))?;
+            (Operation::Seal, Some(told)) => {
+                let (record_length, start) = told.split_once(' ').ok_or("seal needs a record length and a start")?;
+                call.record_length = word(record_length)?;
+                call.start = word(start)?;
                 call.out = out;
             }
             (Operation::Walk, None) => return Err("walk needs letters".to_string()),
-            (Operation::Seal, None) => return Err("seal needs a start".to_string()),
+            (Operation::Seal, None) => return Err("seal needs a record length and a start".to_string()),
             (_, Some(tail)) => return Err(format!("{name} doesn't take {tail}")),
             (_, None) => call.out = out,
         }
@@ -126,6 +129,7 @@ impl Lent {
 fn made(call: &mut Call) -> Outcome {
     let lent = Slices {
         plan: &call.plan,
+        record_length: call.record_length,
         start: call.start,
         work: &mut call.work,
         cursor: &mut call.cursor,
@@ -150,6 +154,10 @@ fn operation(name: &str) -> Result<Operation, String> {
 
 fn number(text: &str) -> Result<usize, String> {
     text.parse().map_err(|_| format!("'{text}' is no number"))
+}
+
+fn word(text: &str) -> Result<u16, String> {
+    text.parse().map_err(|_| format!("'{text}' is no word"))
 }
 
 /// Numbers as 16-bit words.

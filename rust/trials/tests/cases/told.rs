@@ -1,6 +1,6 @@
 //! What came of a call, told in a line.
 use crate::FILL;
-use reference::{NOWHERE, words};
+use reference::{NOWHERE, answers, words};
 use trials::call::{Call, Operation, Outcome, Values};
 
 /// The answer, then what the call left in the slices that its operation writes.
@@ -11,7 +11,7 @@ pub fn line(after: &Call, outcome: &Outcome) -> String {
         Operation::Seal | Operation::Unseal => all_words(&after.out),
         Operation::Measure => work,
         Operation::Spread => format!(" {}{work}", text(&after.out)),
-        Operation::Walk => all_words(&after.answers) + &cells(&after.cursor) + &work,
+        Operation::Walk => all_answers(&after.answers) + &cells(&after.cursor) + &work,
     };
     answer(outcome) + &left
 }
@@ -19,6 +19,9 @@ pub fn line(after: &Call, outcome: &Outcome) -> String {
 fn answer(outcome: &Outcome) -> String {
     match outcome {
         Ok(Values::Checked(checked)) => format!("accepted {} {}", checked.n, checked.start),
+        Ok(Values::Unsealed(unsealed)) => {
+            format!("accepted {} {} {}", unsealed.record_length, unsealed.n, unsealed.start)
+        }
         Ok(Values::Length(length)) => format!("accepted {length}"),
         Ok(Values::Measured(size)) => format!("accepted {} {} {}", size.trees, size.entries, size.levels),
         Ok(Values::Walked) => "accepted".to_string(),
@@ -26,20 +29,34 @@ fn answer(outcome: &Outcome) -> String {
     }
 }
 
-/// The words of a slice: nowhere is -, and one that is as it was is a full stop.
+/// The words of a slice: one that is as it was is a full stop.
 fn all_words(slice: &[u8]) -> String {
     const FILLED: u16 = u16::from_le_bytes([FILL; 2]);
     let word = |index| match words::get(slice, index) {
-        NOWHERE => " -".to_string(),
         FILLED => " .".to_string(),
         word => format!(" {word}"),
     };
     (0..words::count(slice)).map(word).collect()
 }
 
-/// Bytes as text, a character each.
+/// The answers: nowhere is -, and one that is as it was is a full stop.
+fn all_answers(slice: &[u8]) -> String {
+    const FILLED: u32 = u32::from_le_bytes([FILL; 4]);
+    let answer = |index| match answers::get(slice, index) {
+        NOWHERE => " -".to_string(),
+        FILLED => " .".to_string(),
+        label => format!(" {label}"),
+    };
+    (0..answers::count(slice)).map(answer).collect()
+}
+
+/// Bytes as text, a character each; one that doesn't print is a backslash with two hexadecimal digits.
 fn text(slice: &[u8]) -> String {
-    slice.iter().copied().map(char::from).collect()
+    let character = |byte: &u8| match byte {
+        b' '..=b'~' => char::from(*byte).to_string(),
+        _ => format!("\\{byte:02x}"),
+    };
+    slice.iter().map(character).collect()
 }
 
 /// The cursor: its used cells, and what stands past them.

@@ -14,11 +14,11 @@ abbrev μ-loop : tie.MeasureT-loop
 loop-holds : tie.Need-loop-holds Inv-loop μ-loop
 loop-holds c = omega arith
 
-mul-read16 : tie.Need-mul-read16 Inv-loop μ-loop
-mul-read16 c = omega arith
+mul-read32 : tie.Need-mul-read32 Inv-loop μ-loop
+mul-read32 c = omega arith
 
-read16-requires : tie.Need-read16-requires Inv-loop μ-loop
-read16-requires c κs = search needs
+read32-requires : tie.Need-read32-requires Inv-loop μ-loop
+read32-requires c κs = search needs
 
 put-answer-requires : tie.Need-put-answer-requires Inv-loop μ-loop
 put-answer-requires c κs = search needs
@@ -42,8 +42,8 @@ put-answers-spec =
     Inv-loop
     μ-loop
     loop-holds
-    mul-read16
-    read16-requires
+    mul-read32
+    read32-requires
     put-answer-requires
     add-i
     loop-less

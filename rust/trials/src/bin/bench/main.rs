@@ -5,7 +5,7 @@ mod report;
 mod timing;
 mod tours;
 
-use reference::Why;
+use reference::{Format, Why};
 use report::Report;
 use std::path::PathBuf;
 use std::{fs, io};
@@ -41,6 +41,7 @@ fn main() -> io::Result<()> {
     let by_entries = entries(&mut report);
     calls(&mut report);
     orders(&mut report);
+    formats(&mut report);
     texts(&mut report);
     print!("{}", report.text());
     let docs: PathBuf = [env!("CARGO_MANIFEST_DIR"), "..", "..", "docs"].iter().collect();
@@ -165,18 +166,45 @@ fn orders(report: &mut Report) {
     }
 }
 
+/// What a call costs by the plan's format.
+fn formats(report: &mut Report) {
+    const N: usize = 1024;
+    report.section(
+        "Wide plans",
+        "Microseconds a call, as above, on the families' plans of 1,024 rules, each as a narrow plan and as a wide one of the same labels.",
+    );
+    report.header(&["family", "n", "check", "walk without letters", "measure"]);
+    for (name, family) in FAMILIES {
+        let mut draft = family(N);
+        tours::start_below(&mut draft, u64::MAX as f64 / 2.0);
+        for (format, draft) in in_both(draft) {
+            let times = [(Operation::Check, 64), (Operation::Walk, 8), (Operation::Measure, 8)];
+            let times = times.map(|(operation, times)| (Desk::new(&draft).time(operation, times) / 1000.0).shown());
+            report.row(&format!("{name}, {format}"), N, &times);
+        }
+    }
+}
+
+/// The same rules in either format.
+fn in_both(draft: Draft) -> [(&'static str, Draft); 2] {
+    [("narrow", draft.clone()), ("wide", draft.in_format(Format::Wide))]
+}
+
 fn texts(report: &mut Report) {
     report.section(
         "Spread",
-        "Nanoseconds a byte of output: library / reference (the one by the other). The forest is the family's largest of at most 50,000 entries.",
+        "Nanoseconds a byte of output: library / reference (the one by the other). The forest is the family's largest of at most 50,000 entries; \
+         an entry is three bytes in a narrow plan, five in a wide one.",
     );
     report.header(&["family", "bytes", "spread"]);
     for (name, family) in FAMILIES {
         let (draft, entries) = tours::largest_below(family, 50_000.0);
-        let bytes = 3 * entries as usize;
-        let mut desk = Desk::new(&draft);
-        desk.room(bytes);
-        let spread = desk.time(Operation::Spread, 1) / bytes as f64;
-        report.row(name, bytes, &[spread.shown()]);
+        for (format, draft) in in_both(draft) {
+            let bytes = draft.format.node() * entries as usize;
+            let mut desk = Desk::new(&draft);
+            desk.room(bytes);
+            let spread = desk.time(Operation::Spread, 1) / bytes as f64;
+            report.row(&format!("{name}, {format}"), bytes, &[spread.shown()]);
+        }
     }
 }

@@ -85,6 +85,7 @@ impl Desk {
         let call = &mut self.call;
         let lent = Slices {
             plan: &call.plan,
+            record_length: call.record_length,
             start: call.start,
             work: &mut call.work,
             cursor: &mut call.cursor,

@@ -1,6 +1,6 @@
 //! The letters that are measured, and where on a plan.
 use reference::plan::Rule;
-use reference::{NOWHERE, rules, words};
+use reference::{NOWHERE, answers, rules};
 use trials::call::{Call, Operation};
 use trials::draft::Draft;
 use trials::random::Random;
@@ -15,7 +15,7 @@ pub struct Tour {
 fn leads(draft: &Draft, letters: &[u8]) -> Vec<bool> {
     let mut call = Call::new(Operation::Walk, draft.plan(), draft.n()).with_letters(letters);
     rules::walk(&call.plan, &mut call.work, &mut call.cursor, letters, &mut call.answers).expect("a valid plan");
-    (0..letters.len()).map(|index| words::get(&call.answers, index) != NOWHERE).collect()
+    (0..letters.len()).map(|index| answers::get(&call.answers, index) != NOWHERE).collect()
 }
 
 /// A lap: letters to begin with, then one letter for as long as it leads somewhere, at most 1,000 times.
