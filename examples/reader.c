@@ -3,16 +3,17 @@
        reader PLAN
 
    Keys are the letters of plan_walk (a z f l n p u s) and q, which ends; blanks and line ends are passed over.
-   All memory is laid out here, once, for the largest plan of either format: the walker keeps nothing and asks for nothing. */
+   All memory is laid out here, once, for the largest plan of either format that this reader takes: the walker keeps nothing and asks for
+   nothing. A table-top reader takes few rules, and turns down a plan of more before any call, so that it needs the smaller stack alone. */
 #include "mealplan.h"
 #include <ctype.h>
 #include <stdio.h>
 
-enum { MOST_PLAN = 16384 }; /* with its cover */
+enum { MOST_PLAN = 16384 /* bytes, with its cover */, MOST_RULES = MEALPLAN_FEW_RULES };
 
 static uint8_t plan[MOST_PLAN + 1];
-static uint8_t work[MEALPLAN_WORK_BYTES(MEALPLAN_MOST_RULES)];
-static uint8_t cursor[MEALPLAN_CURSOR_BYTES(MEALPLAN_MOST_RULES)]; /* zeros: above the forest */
+static uint8_t work[MEALPLAN_WORK_BYTES(MOST_RULES)];
+static uint8_t cursor[MEALPLAN_CURSOR_BYTES(MOST_RULES)]; /* zeros: above the forest */
 static size_t plan_len;
 
 static int refused(uint32_t number, uint64_t position) {
@@ -20,14 +21,17 @@ static int refused(uint32_t number, uint64_t position) {
     return 1;
 }
 
-/* Reads the plan; one that is absent counts as empty, one too long as refused with 8. */
+/* Reads the plan; one that is absent counts as empty, one too long as refused with 8. One of too many rules is refused with 2, where check
+   tests their number: behind the mark, before all else. */
 static int read_plan(const char *name) {
     FILE *file = fopen(name, "rb");
     if (file) {
         plan_len = fread(plan, 1, sizeof plan, file);
         fclose(file);
     }
-    return plan_len > MOST_PLAN ? refused(MEALPLAN_LENT, 0) : 0;
+    if (plan_len > MOST_PLAN) return refused(MEALPLAN_LENT, 0);
+    if (MEALPLAN_MARKED(plan, plan_len) && MEALPLAN_RULES(plan, plan_len) > MOST_RULES) return refused(MEALPLAN_COUNT, 0);
+    return 0;
 }
 
 /* Says of what format and how large the plan is. */

@@ -51,14 +51,27 @@ extern "C" {
 #define MEALPLAN_RECORD_LENGTH(plan, plan_len) \
     ((plan)[(plan_len) - 1] == 0x71 ? MEALPLAN_WIDE : MEALPLAN_NARROW)
 
-/* Limits: the rules of a plan, and its labels. */
-#define MEALPLAN_MOST_RULES 1024u
+/* Limits: the rules of a plan, those of a plan of few rules, which takes less work for
+   each and less stack, and the labels. */
+#define MEALPLAN_MOST_RULES 16384u
+#define MEALPLAN_FEW_RULES 1024u
 #define MEALPLAN_MOST_LABEL(record_length) ((record_length) == MEALPLAN_WIDE ? 16777215u : 255u)
+
+/* What a plan's end says before any call: whether its mark is one of the two (1), and
+   its number of rules, for a plan that has one. So a device that is laid out for few
+   rules, or has little stack, can turn down larger plans where the functions test n. */
+#define MEALPLAN_MARKED(plan, plan_len)                        \
+    ((plan_len) >= 10 && (plan)[(plan_len) - 2] == 0x6D &&     \
+     ((plan)[(plan_len) - 1] == 0x70 || (plan)[(plan_len) - 1] == 0x71))
+#define MEALPLAN_RULES(plan, plan_len) \
+    ((uint32_t)((plan)[(plan_len) - 10] | (plan)[(plan_len) - 9] << 8))
 
 /* Lengths in bytes, for n rules, m letters and so many nodes. Each is the least that
    is accepted; tests/interface.c holds them to the library. What is to serve for plans
-   of both formats goes by MEALPLAN_WIDE. */
-#define MEALPLAN_WORK_BYTES(n) ((size_t)64 * (n))        /* work of measure, spread and walk */
+   of both formats goes by MEALPLAN_WIDE, what is to serve for plans of up to n rules by
+   n: no length falls where n grows. */
+#define MEALPLAN_WORK_BYTES(n) \
+    ((size_t)((n) > MEALPLAN_FEW_RULES ? 80 : 64) * (n)) /* work of measure, spread and walk */
 #define MEALPLAN_CURSOR_BYTES(n) ((size_t)32 * (n) + 32) /* the cursor */
 #define MEALPLAN_ANSWERS_BYTES(m) ((size_t)4 * (m))      /* answers to m letters */
 
@@ -88,7 +101,7 @@ enum mealplan_refusal {
     MEALPLAN_ACCEPTED = 0,
     MEALPLAN_MAGIC = 1,      /* fewer than 10 bytes, or a mark that is neither; a record
                                 length that is neither 8 nor 10 */
-    MEALPLAN_COUNT = 2,      /* n is 0 or above 1,024; the words aren't four to a rule, or
+    MEALPLAN_COUNT = 2,      /* n is 0 or above 16,384; the words aren't four to a rule, or
                                 in a wide plan five */
     MEALPLAN_DISTANCE = 3,   /* the distance isn't 8 * n, or in a wide plan 10 * n, or goes
                                 back before the first byte */
@@ -165,20 +178,26 @@ uint32_t plan_walk(const uint8_t *plan, size_t plan_len,
    alone where the linker drops what isn't used (--gc-sections). There are no data and
    no bss, and the one function that the library calls is memset. */
 #define MEALPLAN_CODE_BYTES 18432
-#define MEALPLAN_CODE_BYTES_CHECK_WALK 12288
+#define MEALPLAN_CODE_BYTES_CHECK_WALK 13312
 
-/* Stack, whatever the plan: the deepest chain of calls (there is no recursion) with
-   the return address, without the arguments that the caller puts on the stack and
-   without what memset takes beyond its own return address. The code uses the red zone
-   of the x86-64 ABI: an interrupt on the same stack leaves 128 bytes below the stack
-   pointer alone. Most of it is the room in which each of them orders the rules of the
-   largest plan, to see that none reaches itself. */
+/* Stack: the deepest chain of calls (there is no recursion) with the return address,
+   without the arguments that the caller puts on the stack and without what memset takes
+   beyond its own return address. The code uses the red zone of the x86-64 ABI: an
+   interrupt on the same stack leaves 128 bytes below the stack pointer alone. Most of
+   it is the room in which each function orders a plan's rules, to see that none reaches
+   itself: four bytes a rule, for MEALPLAN_FEW_RULES or for MEALPLAN_MOST_RULES.
+
+   By the function, for plans that aren't MEALPLAN_MARKED or whose MEALPLAN_RULES are at
+   most MEALPLAN_FEW_RULES, and for the words of so many rules, accepted or refused: */
 #define MEALPLAN_STACK_CHECK 5120
 #define MEALPLAN_STACK_SEAL 5120
 #define MEALPLAN_STACK_UNSEAL 5120
 #define MEALPLAN_STACK_MEASURE 5120
 #define MEALPLAN_STACK_SPREAD 5120
 #define MEALPLAN_STACK_WALK 5120
+
+/* For each function, whatever the plan or the words: */
+#define MEALPLAN_STACK_MANY 73728
 
 #ifdef __cplusplus
 }

@@ -6,7 +6,7 @@
 #include <stdlib.h>
 #include <string.h>
 
-enum { MOST = MEALPLAN_MOST_RULES, NARROW = MEALPLAN_NARROW, WIDE = MEALPLAN_WIDE, TEXT = 33 };
+enum { MOST = MEALPLAN_MOST_RULES, FEW = MEALPLAN_FEW_RULES, NARROW = MEALPLAN_NARROW, WIDE = MEALPLAN_WIDE, TEXT = 33 };
 
 /* The sample plan, and the same as a wide plan with labels of its own; what is lent serves for both formats. */
 static uint8_t sample[74], wide[90];
@@ -82,7 +82,7 @@ static size_t empty_rules(size_t count, uint16_t record) {
     memset(plan, 0, sizeof plan);
     uint8_t *trailer = plan + record * count;
     trailer[0] = (uint8_t)count, trailer[1] = (uint8_t)(count >> 8);
-    trailer[4] = (uint8_t)(record * count), trailer[5] = (uint8_t)(record * count >> 8);
+    for (size_t i = 0; i < 4; i++) trailer[4 + i] = (uint8_t)(record * count >> 8 * i);
     memcpy(trailer + 8, record == WIDE ? "mq" : "mp", 2);
     return MEALPLAN_PLAN_BYTES(count, record);
 }
@@ -118,15 +118,33 @@ static uint32_t changed_word(size_t rule, size_t word, unsigned value) {
     return check(plan, sizeof wide);
 }
 
-/* The limit, and the lengths of the smallest plan, of the sample and of the largest, in either format. */
+/* The work that a measure of so many empty rules needs and clears: these bytes, and none behind them. */
+static void worked(size_t count, uint16_t record, size_t bytes) {
+    size_t length = empty_rules(count, record);
+    want("MEALPLAN_MARKED", MEALPLAN_MARKED(plan, length), 1);
+    want("MEALPLAN_RULES", MEALPLAN_RULES(plan, length), count);
+    want("MEALPLAN_WORK_BYTES", MEALPLAN_WORK_BYTES(count), bytes);
+    memset(work, 3, sizeof work);
+    gives("measure with a byte less", plan_measure(plan, length, work, bytes - 1, &trees, &entries, &levels, &position),
+          MEALPLAN_LENT, 0);
+    want("work is untouched", work[0], 3);
+    gives("measure", plan_measure(plan, length, work, sizeof work, &trees, &entries, &levels, &position), MEALPLAN_ACCEPTED, 0);
+    for (size_t i = 0; i < sizeof work; i++) want("work", work[i], i < bytes ? 0 : 3);
+}
+
+/* The limits, and the lengths of the smallest plan, of the sample, of the largest, and of those on both sides of MEALPLAN_FEW_RULES, in
+   either format. */
 static void limits(void) {
     lengths(sample, sizeof sample);
     lengths(wide, sizeof wide);
     static const uint16_t records[] = {NARROW, WIDE};
     for (int i = 0; i < 2; i++) {
         uint16_t record = records[i];
-        lengths(plan, empty_rules(1, record));
-        lengths(plan, empty_rules(MOST, record));
+        static const size_t counts[] = {1, FEW - 1, FEW, FEW + 1, MOST - 1, MOST};
+        for (size_t c = 0; c < sizeof counts / sizeof *counts; c++) lengths(plan, empty_rules(counts[c], record));
+        worked(FEW, record, 32 * 2 * (size_t)FEW);
+        worked(FEW + 1, record, 40 * 2 * (size_t)(FEW + 1));
+        worked(MOST, record, 40 * 2 * (size_t)MOST);
         gives("n above MEALPLAN_MOST_RULES", check(plan, empty_rules(MOST + 1, record)), MEALPLAN_COUNT, 0);
         memset(words, 0, sizeof words);
         gives("seal of more rules", seal(MEALPLAN_WORDS_BYTES(MOST + 1, record), record, sizeof out), MEALPLAN_COUNT, 0);
@@ -136,8 +154,15 @@ static void limits(void) {
 /* Each refusal, but 8 and 11, which the lengths provoke. */
 static void refusals(void) {
     gives("nine bytes", check(sample + 65, 9), MEALPLAN_MAGIC, 0);
+    want("and MEALPLAN_MARKED", MEALPLAN_MARKED(sample + 65, 9), 0);
     gives("a mark that is neither", changed(73, 'r'), MEALPLAN_MAGIC, 0);
+    want("and MEALPLAN_MARKED", MEALPLAN_MARKED(plan, sizeof sample), 0);
+    gives("another first byte of the mark", changed(72, 'n'), MEALPLAN_MAGIC, 0);
+    want("and MEALPLAN_MARKED", MEALPLAN_MARKED(plan, sizeof sample), 0);
     gives("n = 0", changed(64, 0), MEALPLAN_COUNT, 0);
+    gives("n = 16,392", changed(65, 64), MEALPLAN_COUNT, 0);
+    want("MEALPLAN_RULES", MEALPLAN_RULES(plan, sizeof sample), 16392);
+    gives("n = 16,136, and so a wrong distance", changed(65, 63), MEALPLAN_DISTANCE, 0);
     gives("words that aren't four to a rule", seal(14, NARROW, sizeof out), MEALPLAN_COUNT, 0);
     gives("a distance that isn't 8 * n", changed(68, 63), MEALPLAN_DISTANCE, 0);
     gives("label 256", changed(11, 1), MEALPLAN_MALFORMED, 1);

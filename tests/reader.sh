@@ -91,4 +91,32 @@ shows "$build/long" 'a' 1 <<'END'
 refused 8 at 0
 END
 
+# The reader's own limit of rules, where check tests n: behind the mark, before the distance.
+empty() { # N N-BYTES DISTANCE-BYTES MARK: so many empty narrow rules, start 0; the bytes as printf has them
+    head -c $((8 * $1)) /dev/zero
+    printf "$2\\0\\0$3\\0\\0$4"
+}
+empty 1024 '\0\4' '\0\40' mp >"$build/most"
+shows "$build/most" 'az' 0 <<'END'
+1024 rules, start 0: 0 trees, 0 entries, 0 levels
+a  nowhere
+z  nowhere
+stopped with 0 cells
+END
+
+empty 1025 '\1\4' '\10\40' mp >"$build/many"
+shows "$build/many" 'a' 1 <<'END'
+refused 2 at 0
+END
+
+empty 1025 '\1\4' '\0\40' mq >"$build/many"
+shows "$build/many" 'a' 1 <<'END'
+refused 2 at 0
+END
+
+empty 1025 '\1\4' '\10\40' mr >"$build/many"
+shows "$build/many" 'a' 1 <<'END'
+refused 1 at 0
+END
+
 echo "reader: as expected"

@@ -1,5 +1,5 @@
-/* How much stack each function of the library takes on plans of 1,024 rules of several shapes, in several orders and in both formats, held to
-   the bounds of include/mealplan.h.
+/* How much stack each function of the library takes on plans of several shapes, in several orders and in both formats, held to the bounds of
+   include/mealplan.h: those for few rules on plans of 1,024 rules, that for any plan on plans of 16,384.
    Each call runs on a stack of its own that was painted before: what is no longer paint, below where the function was called, was used.
    A bound that is exceeded, or that is more than twice what was used, ends the run with status 1. */
 #include "mealplan.h"
@@ -8,13 +8,13 @@
 #include <string.h>
 #include <ucontext.h>
 
-enum { RULES = MEALPLAN_MOST_RULES, LETTERS = 4096, TEXT = 1 << 20 };
+enum { MOST = MEALPLAN_MOST_RULES, LETTERS = 4096, TEXT = 1 << 20 };
 
-static uint8_t words[MEALPLAN_WORDS_BYTES(RULES, MEALPLAN_WIDE)], plan[MEALPLAN_PLAN_BYTES(RULES, MEALPLAN_WIDE)];
-static uint8_t work[MEALPLAN_WORK_BYTES(RULES)], cursor[MEALPLAN_CURSOR_BYTES(RULES)];
+static uint8_t words[MEALPLAN_WORDS_BYTES(MOST, MEALPLAN_WIDE)], plan[MEALPLAN_PLAN_BYTES(MOST, MEALPLAN_WIDE)];
+static uint8_t work[MEALPLAN_WORK_BYTES(MOST)], cursor[MEALPLAN_CURSOR_BYTES(MOST)];
 static uint8_t letters[LETTERS], answers[MEALPLAN_ANSWERS_BYTES(LETTERS)], out[TEXT];
-static uint16_t record, n, start, first = RULES - 1; /* first: the start that is lent to seal */
-static uint16_t format;                              /* the record length of the plan that is tried */
+static uint16_t record, n, start;
+static uint16_t rules, format, first; /* of the plan that is tried: its rules, the record length, and the start that is lent to seal */
 static size_t words_len, plan_len;
 static uint64_t trees, entries, levels, written, position;
 static uint32_t result;
@@ -48,7 +48,7 @@ static void walk(void) {
 
 /* The bytes of stack that a call used, the deeper of two stacks painted differently. */
 static size_t used(void (*call)(void)) {
-    static uint8_t area[1 << 16] __attribute__((aligned(16)));
+    static uint8_t area[1 << 17] __attribute__((aligned(16)));
     static ucontext_t outside, inside;
     size_t most = 0;
     for (int paint = 0x5a; paint <= 0xa5; paint += 0x4b) {
@@ -66,7 +66,7 @@ static size_t used(void (*call)(void)) {
     return most;
 }
 
-/* The functions, what the header says of each, and the most that was used. */
+/* The functions, what the header says of each on plans of few rules, and the most that was used on the plans tried. */
 static struct function {
     const char *name;
     void (*call)(void);
@@ -127,14 +127,14 @@ static const struct shape {
 /* The orders of a plan's rules: as they are made, naming lower ones only; backwards, naming higher ones only; any. In two more orders the
    rule that all others reach, which is made first and comes last backwards, is a pair of itself, and the plan is refused. */
 static void as_made(uint16_t *number) {
-    for (unsigned r = 0; r < RULES; r++) number[r] = (uint16_t)r;
+    for (unsigned r = 0; r < rules; r++) number[r] = (uint16_t)r;
 }
 static void backwards(uint16_t *number) {
-    for (unsigned r = 0; r < RULES; r++) number[r] = (uint16_t)(RULES - 1 - r);
+    for (unsigned r = 0; r < rules; r++) number[r] = (uint16_t)(rules - 1 - r);
 }
 static void any(uint16_t *number) {
     as_made(number);
-    for (unsigned r = RULES - 1; r; r--) {
+    for (unsigned r = rules - 1; r; r--) {
         unsigned other = below(r + 1);
         uint16_t kept = number[r];
         number[r] = number[other], number[other] = kept;
@@ -156,10 +156,10 @@ static const struct order {
 /* Renumbers the rules; gives the number of the one made first. */
 static uint64_t renumber(const struct order *o) {
     static uint8_t made[sizeof words];
-    static uint16_t number[RULES];
+    static uint16_t number[MOST];
     memcpy(made, words, words_len);
     o->made(number);
-    for (unsigned r = 0; r < RULES; r++) {
+    for (unsigned r = 0; r < rules; r++) {
         const uint8_t *from = made + format * r;
         unsigned word[4];
         for (size_t i = 0; i < 4; i++) word[i] = from[2 * i] | (unsigned)from[2 * i + 1] << 8;
@@ -170,14 +170,14 @@ static uint64_t renumber(const struct order *o) {
         rule(number[r], word[0], word[1], word[2], word[3]);
     }
     if (o->cycle) rule(number[0], 1, number[0], number[0], 0);
-    first = number[RULES - 1];
+    first = number[rules - 1];
     return number[0];
 }
 
 /* The plan that seal would write of the words, which it doesn't where it refuses. */
 static void lay_out(void) {
     memcpy(plan, words, words_len);
-    unsigned trailer[4] = {RULES, first, (unsigned)words_len, 0};
+    unsigned trailer[4] = {rules, first, (unsigned)words_len & 65535, (unsigned)(words_len >> 16)};
     uint8_t *to = plan + words_len;
     for (size_t i = 0; i < 4; i++) to[2 * i] = (uint8_t)trailer[i], to[2 * i + 1] = (uint8_t)(trailer[i] >> 8);
     memcpy(to + 8, format == MEALPLAN_WIDE ? "mq" : "mp", 2);
@@ -189,8 +189,8 @@ static void build(const struct shape *s) {
     rule(2, 4, 98, 1, 1);
     unsigned from = s->holed ? 3 : 2;
     if (s->made == nested) rule(2, 2, 98, 1, 0), rule(3, 1, 2, 1, 0), from = 4;
-    for (unsigned r = from; r < RULES; r++) s->made(r);
-    if (s->holed) rule(RULES - 1, 3, RULES - 2, 1, 0);
+    for (unsigned r = from; r < rules; r++) s->made(r);
+    if (s->holed) rule(rules - 1, 3, rules - 2, 1, 0);
     for (size_t i = 0; i < LETTERS; i++) letters[i] = (uint8_t)"azfflnnnnppppus"[below(15)];
     memset(cursor, 0, sizeof cursor);
 }
@@ -204,7 +204,7 @@ static const struct format {
 static int tried(const struct shape *s, const struct order *o, const struct format *as) {
     int wrong = 0;
     format = as->length;
-    words_len = MEALPLAN_WORDS_BYTES(RULES, format), plan_len = MEALPLAN_PLAN_BYTES(RULES, format);
+    words_len = MEALPLAN_WORDS_BYTES(rules, format), plan_len = MEALPLAN_PLAN_BYTES(rules, format);
     build(s);
     uint64_t lowest = renumber(o);
     lay_out();
@@ -213,24 +213,38 @@ static int tried(const struct shape *s, const struct order *o, const struct form
         if (f->most < bytes) f->most = bytes;
         int large = (f->call == measure || f->call == spread) && result == MEALPLAN_ROOM;
         int fine = o->cycle ? result == MEALPLAN_CYCLE && position == lowest : !result || large;
-        if (!fine) printf("%s on %s, %s, %s: %u at %u\n", f->name, s->name, o->name, as->name, result, (unsigned)position), wrong++;
+        if (fine) continue;
+        printf("%s on %u rules, %s, %s, %s: %u at %u\n", f->name, rules, s->name, o->name, as->name, result, (unsigned)position), wrong++;
     }
     if (o->cycle) return wrong;
     size_t moved = 0;
     for (size_t i = 0; i < LETTERS; i++) moved += MEALPLAN_ANSWER(answers, i) != MEALPLAN_NOWHERE;
-    printf("%s, %s, %s: %zu of %d letters lead to a node\n", s->name, o->name, as->name, moved, LETTERS);
+    printf("%u rules, %s, %s, %s: %zu of %d letters lead to a node\n", rules, s->name, o->name, as->name, moved, LETTERS);
     return wrong;
 }
 
-int main(void) {
+/* Every shape, order and format on plans of so many rules, and what was used held to its bound: one for all functions, or, if that is 0, the
+   one of each; gives whether anything failed. A cycle that all of many rules reach is searched for long, so it is tried with one shape alone. */
+static int measured(uint16_t count, size_t bound) {
     int failed = 0;
+    rules = count;
+    for (struct function *f = functions; f < functions + 6; f++) f->most = 0;
     for (size_t s = 0; s < sizeof shapes / sizeof *shapes; s++)
         for (size_t o = 0; o < sizeof orders / sizeof *orders; o++)
-            for (size_t f = 0; f < sizeof formats / sizeof *formats; f++) failed |= tried(&shapes[s], &orders[o], &formats[f]) != 0;
+            for (size_t f = 0; f < sizeof formats / sizeof *formats; f++)
+                if (rules <= MEALPLAN_FEW_RULES || !orders[o].cycle || (s == 0 && f == 0))
+                    failed |= tried(&shapes[s], &orders[o], &formats[f]) != 0;
     for (struct function *f = functions; f < functions + 6; f++) {
-        int bad = f->bound < f->most || 2 * f->most < f->bound;
-        printf("%s: %zu bytes of stack used, %zu stated%s\n", f->name, f->most, f->bound, bad ? ": FAILED" : "");
+        size_t stated = bound ? bound : f->bound;
+        int bad = stated < f->most || 2 * f->most < stated;
+        printf("%s, painted, on plans of %u rules: %zu bytes of stack used, %zu stated%s\n", f->name, rules, f->most, stated,
+               bad ? ": FAILED" : "");
         failed |= bad;
     }
     return failed;
+}
+
+int main(void) {
+    int few = measured(MEALPLAN_FEW_RULES, 0), many = measured(MEALPLAN_MOST_RULES, MEALPLAN_STACK_MANY);
+    return few | many;
 }

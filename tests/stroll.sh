@@ -62,6 +62,38 @@ holds "a mark that is neither" 0 'refused 1 at 0\n' "$root/stroll" "$room/plan" 
 holds "a wide plan of 1,024 rules" 0 'a -\nz -\n' "$root/stroll" "$room/plan" az
 { many 16294 x && cat "$wide"; } >"$room/plan"
 holds "a wide plan of 16,384 bytes, and the longest output" 0 "a 16777215\n$(many 4095 's 16777215\\n')" "$root/stroll" "$room/plan" "a$(many 4095 s)"
+# ward BYTES RULE TRAILER: so many bytes of empty rules, one rule more, the trailer; both as printf has them
+ward() {
+    head -c "$1" /dev/zero
+    printf "$2$3"
+}
+# A node over rule 0, which is empty; in a wide plan, too.
+leaf='\2\0\141\0\0\0\0\0'
+wide_leaf="$leaf\\0\\0"
+ward 8184 "$leaf" '\0\4\377\3\0\40\0\0mp' >"$room/plan"
+holds "a plan of 1,024 rules" 0 'a 97\nn -\n' "$root/stroll" "$room/plan" an
+ward 10230 "$wide_leaf" '\0\4\377\3\0\50\0\0mq' >"$room/plan"
+holds "a wide plan of 1,024 rules, the last a node" 0 'a 97\nn -\n' "$root/stroll" "$room/plan" an
+ward 8192 "$leaf" '\1\4\0\4\10\40\0\0mp' >"$room/plan"
+holds "a plan of 1,025 rules" 0 'refused 2 at 0\n' "$root/stroll" "$room/plan" a
+holds "a plan of 1,025 rules, and no letter" 0 'refused 2 at 0\n' "$root/stroll" "$room/plan" x
+holds "a plan of 1,025 rules, and 4,097 letters" 0 'refused 2 at 0\n' "$root/stroll" "$room/plan" "$(many 4097 a)"
+ward 10240 "$wide_leaf" '\1\4\0\4\12\50\0\0mq' >"$room/plan"
+holds "a wide plan of 1,025 rules" 0 'refused 2 at 0\n' "$root/stroll" "$room/plan" a
+ward 8192 "$leaf" '\1\4\0\4\0\40\0\0mp' >"$room/plan"
+holds "a plan of 1,025 rules, and a wrong distance" 0 'refused 2 at 0\n' "$root/stroll" "$room/plan" a
+ward 8192 '\6\0\141\0\0\0\0\0' '\1\4\0\4\10\40\0\0mp' >"$room/plan"
+holds "a plan of 1,025 rules, and kind above 5" 0 'refused 2 at 0\n' "$root/stroll" "$room/plan" a
+ward 8192 "$leaf" '\1\4\0\4\10\40\0\0mr' >"$room/plan"
+holds "a plan of 1,025 rules, and a wrong mark" 0 'refused 1 at 0\n' "$root/stroll" "$room/plan" a
+ward 8184 "$leaf" '\0\4\377\3\10\40\0\0mp' >"$room/plan"
+holds "a plan of 1,024 rules, and a wrong distance" 0 'refused 3 at 0\n' "$root/stroll" "$room/plan" a
+ward 16360 "$leaf" '\376\7\375\7\360\77\0\0mp' >"$room/plan"
+holds "the most rules that 16,384 bytes hold" 0 'refused 2 at 0\n' "$root/stroll" "$room/plan" a
+ward 131064 "$leaf" '\0\100\377\77\0\0\2\0mp' >"$room/plan"
+holds "a plan of 16,384 rules: too long before all else" 0 'refused 8 at 0\n' "$root/stroll" "$room/plan" a
+printf '\0\100\0\0\0\0\2\0mp' >"$room/plan"
+holds "n = 16,384 and no rules" 0 'refused 2 at 0\n' "$root/stroll" "$room/plan" a
 printf '\1\0\0\0\0\0\0\0\1\0\0\0\10\0\0\0mp' >"$room/plan"
 holds "rule 0 = pair 0 0" 0 'refused 12 at 0\n' "$root/stroll" "$room/plan" a
 holds "rule 0 = pair 0 0, and 4,097 letters" 0 'refused 12 at 0\n' "$root/stroll" "$room/plan" "$(many 4097 a)"

@@ -34,8 +34,13 @@ fn format_cases() {
     check(b"the sample plan", &sample::bytes(), b"accepted 8 7");
     check(b"10 bytes, right mark, n = 0", &NO_RULES, b"refused 2 at 0");
     check(b"rule 0 = pair 0 0", &PAIR, b"refused 12 at 0");
-    check_empty(b"n = 1,024", &mut [0u8; 8202], 1024, b"accepted 1024 0");
-    check_empty(b"n = 1,025", &mut [0u8; 8210], 1025, b"refused 2 at 0");
+    check_empty(
+        b"n = 16,384",
+        &mut [0u8; 131082],
+        16384,
+        b"accepted 16384 0",
+    );
+    check_empty(b"n = 16,385", &mut [0u8; 131090], 16385, b"refused 2 at 0");
     check(b"label 255", &LABEL_255, b"accepted 2 1");
     check(b"label 256", &LABEL_256, b"refused 4 at 1");
 }

@@ -8,12 +8,14 @@ use Rattle.plan.specs.declared.Checked.{Checked}
 use Rattle.plan.specs.Check.{rulesOf, mostRules}
 use Rattle.rule.specs.Sound.{rule}
 use Rattle.plan.proofs.Sound.{Plan, checked-plan}
+use Rattle.record.specs.Format.{wordLength}
+use Rattle.forest.specs.Outcome.{workWords}
 use Rattle.forest.specs.Expression.{expression}
 use Rattle.forest.proofs.Unfold.{unfolding-equation, closed-row}
 use Rattle.forest.specs.Good.{Sort, Good}
 use Rattle.work_rows.specs.Rows.{workLength, ruleIn, firstRules, Holds}
 use Rattle.work_rows.proofs.Kept.{holds-first}
-use Rattle.work_rows.proofs.Work.{enough-room}
+use Rattle.work_rows.proofs.Work.{enough-room, enough-words}
 use Rattle.work_load.specs.Prepared.{Loads, Prepared}
 use Rattle.count_passes.specs.Tally.{Ready, Unfolds}
 use Rattle.count_passes.specs.Total.{Startable}
@@ -27,6 +29,7 @@ pub record Held (s : List ℕ) (n start : ℕ) (t : List ℕ) : Type 0 where
   pub accepted : Plan mostRules s n start
   pub rules : firstRules t n ≡ rulesOf s
   pub room : workLength * n ≤ length t
+  pub words : wordLength * workWords n ≤ length t
 
 pub held : {s u t : List ℕ} {x : Checked} {n start : ℕ} → Prepared s u t x → x ≡ Checked.Accepted n start → Held s n start t
 unfolding Holds
@@ -34,6 +37,7 @@ held {s} {u} {t} {n = n} {start = start} b e =
     let loads : Loads s u t n start = b .loaded n start e in
     let p : Plan mostRules s n start = checked-plan s n start (loads .accepted) in
     let enough : workLength * n ≤ length u = enough-room n u (loads .enough) in
+    let words : wordLength * workWords n ≤ length u = enough-words n u (loads .enough) in
     let long : length (rulesOf s) ≡ n = p .rules in
     let same-long : length t ≡ length u = loads .arranged .within .same-length in
     let same : (k : ℕ) → k < n → ruleIn t k ≡ rule (rulesOf s) k = loads .arranged .rows in
@@ -52,6 +56,7 @@ held {s} {u} {t} {n = n} {start = start} b e =
       accepted = p;
       rules = all;
       room = omega arith;
+      words = omega arith;
     }
 
 -- what the loaded rows are good for

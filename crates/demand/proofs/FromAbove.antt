@@ -16,7 +16,8 @@ use Rattle.forest.specs.declared.Walked.{Walked}
 use Rattle.forest.specs.Forest.{forest}
 use Rattle.forest.specs.Place.{placedForest}
 use Rattle.forest.specs.Reference.{answers}
-use Rattle.forest.specs.Outcome.{enoughWork}
+use Rattle.record.specs.Format.{wordLength}
+use Rattle.forest.specs.Outcome.{workWords, enoughWork}
 use Rattle.forest.specs.Walk.{answerLength, answerCount, cursorWords, enoughLent, lettersOf, firstOther, cellAt, Begun, lettersJudged, begun, walked, answerWord}
 use Rattle.demand.specs.Calls.{Call, Left, lent, walkOf}
 use Rattle.demand.specs.Demand.{Above, isRefused, answerWords}
@@ -41,7 +42,7 @@ unfolding Above cellAt
 zeros-above m = simp number-zeros
 
 module _ (s work cursor letters given : List ℕ) (n start : ℕ) (accepted : checked s ≡ Checked.Accepted n start) (above : Above cursor)
-    (worked : 64 * n ≤ length work) (room : 32 * (n + 1) ≤ length cursor) (answerable : answerLength * length letters ≤ length given) where
+    (worked : wordLength * workWords n ≤ length work) (room : 32 * (n + 1) ≤ length cursor) (answerable : answerLength * length letters ≤ length given) where
   abbrev call : Call
   call = record { work = work; letters = letters; answers = given }
 
@@ -50,7 +51,7 @@ module _ (s work cursor letters given : List ℕ) (n start : ℕ) (accepted : ch
 
   enough-work : enoughWork n work ≡ true
   unfolding enoughWork
-  enough-work = le-leb (32 * n) (wordCount work) (omega arith)
+  enough-work = le-leb (workWords n) (wordCount work) (omega arith)
 
   enough : enoughLent work cursor letters given n ≡ true
   unfolding enoughLent cursorWords

@@ -8,3 +8,4 @@ pub mod Prefixed
 pub mod FromAbove
 pub mod ByLetters
 pub mod Demand3
+pub mod OldLimit

@@ -30,3 +30,4 @@ pub mod Stored
 pub mod Fit
 pub mod Prefixed
 pub mod Narrow
+pub mod WorkWords

@@ -18,12 +18,19 @@ use Rattle.plan.specs.Written.{outputAfter}
 use Rattle.forest.specs.declared.Measured.{Measured}
 use Rattle.forest.specs.Forest.{Forest, forest, count, weigh, one, levels, text}
 
--- "work has fewer than 32 × n words": the words of work a rule, and those that n rules need
+-- "work has fewer than 32 × n words"; document 02, Note 3: "For plans above 1,024 rules work needs 40 words a rule": the words of work a
+-- rule, and those that n rules need
+abbrev pub fewRules : ℕ
+fewRules = 1024
+
 abbrev pub ruleWork : ℕ
 ruleWork = 32
 
+abbrev pub manyWork : ℕ
+manyWork = 40
+
 unfoldable pub workWords : ℕ → ℕ
-workWords n = ruleWork * n
+workWords n = cond (leb n fewRules) (ruleWork * n) (manyWork * n)
 
 unfoldable pub enoughWork : ℕ → List ℕ → Bool
 unfolding workWords

@@ -1,5 +1,5 @@
 -- What the test of one rule and of all rules comes to in the code, which also sees whether a rule names only lower ones.
-use Prim.Native.Nat.{ℕ, _<_}
+use Prim.Native.Nat.{ℕ, _+_, _*_, _≤_}
 use mathlib.Core.Path.{_≡_}
 use mathlib.Core.Bool.{Bool, true, cond}
 use mathlib.Core.List.{List}
@@ -8,7 +8,8 @@ use lib.Dec.{ltb}
 use Rattle.refusal.specs.declared.Refusal.{Refusal}
 use Rattle.record.specs.declared.Format.{Format}
 use Rattle.record.specs.declared.Record.{Record}
-use Rattle.record.specs.Records.{recordIn, kindAt}
+use Rattle.record.specs.Format.{recordLength}
+use Rattle.record.specs.Records.{recordsFrom, recordIn, kindAt}
 use Rattle.rule.specs.declared.Decoded.{Decoded}
 use Rattle.rule.specs.Rule.{decode, every, sorts, rulesIn}
 use Rattle.reach.specs.Order.{Lower}
@@ -17,9 +18,12 @@ use Rattle.judge.specs.declared.Tested.{Tested}
 use Rattle.judge.specs.declared.Rules.{Rules}
 use Rattle.judge.specs.Judge.{rulesJudged}
 
--- the most rules that a search for a rule that reaches itself has room for
+-- the most rules that a search for a rule that reaches itself has room for, in the small array and in the large one
+abbrev pub fewSearched : ℕ
+fewSearched = 1024
+
 abbrev pub mostSearched : ℕ
-mostSearched = 1024
+mostSearched = 16384
 
 -- the first of 4, 5 and 6 whose test failed; else whether the rule names only lower ones
 unfoldable pub verdict : ℕ → Bool → Bool → Bool → Bool → Tested
@@ -47,3 +51,9 @@ unfoldable pub Tells : Format → List Record → Rules → Type 0
 Tells f ws Rules.Lower = Passed f ws × Lower (rulesIn f ws)
 Tells f ws Rules.Mixed = Passed f ws
 Tells f ws (Rules.Refused why) = (last : Judged) → rulesJudged f ws last 0 (length ws) ≡ Judged.Refused why
+
+-- rules that lie in the slice, pass 4 to 6 and are not too many for a search
+pub record Searchable (f : Format) (s : List ℕ) (first n : ℕ) : Type 0 where
+  pub lies : first + recordLength f * n ≤ length s
+  pub few : n ≤ mostSearched
+  pub passed : Passed f (recordsFrom f s first n)

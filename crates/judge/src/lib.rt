@@ -10,8 +10,10 @@ ghost use Rattle.record.specs.Record.{recordLength};
 ghost use Rattle.rule.specs.Rule.{kindEmpty, kindPair, kindNode, closed, holed, tree, rulesIn};
 ghost use Rattle.record.specs.Records.{recordsFrom, recordIn, kindAt};
 ghost use Rattle.reach.specs.Reaches.{lowestCycle};
+ghost use Rattle.refusal.specs.declared.Refusal.{Refusal};
+ghost use Rattle.judge.specs.declared.Judged.{Judged};
 ghost use Rattle.judge.specs.Judge.{cycleJudged, startJudged, judged};
-ghost use Rattle.judge.specs.Tested.{mostSearched, verdict, tested, Passed, Tells};
+ghost use Rattle.judge.specs.Tested.{fewSearched, mostSearched, verdict, tested, Tells, Searchable};
 
 // What a test of rules comes to.
 pub enum Judged {
@@ -210,14 +212,36 @@ fn judge_start(s: &[u8], format: Format, first: usize, n: u16, start: u16) -> Ju
     Judged::Fine
 }
 
-// The most rules that a search here has room for.
-const MOST_SEARCHED: usize = 1024;
+// Refusal 12, at the lowest rule that reaches itself.
+fn cycle_from(lowest: u16) -> Judged
+    ensures { λ r. ⌜ r ≡ Judged.Refused (Refusal.Cycle lowest) ⌝ }
+{
+    Judged::Refused(Refusal::Cycle(lowest as usize))
+}
 
-// Refusal 12 and then 7, of rules that pass 4 to 6: they are searched for an order in which each stands after those that it names.
-fn judge_cycles(s: &[u8], format: Format, first: usize, n: u16, start: u16) -> Judged
-    requires { ⌜ (first + recordLength format * n ≤ length (now s))
-        × (n ≤ mostSearched)
-        × Passed format (recordsFrom format (now s) first n) ⌝ }
+// The most rules that each search has room for.
+pub const FEW_SEARCHED: u16 = 1024;
+
+const MOST_SEARCHED: usize = 16384;
+
+// Refusal 12 and then 7, of few rules that pass 4 to 6: they are searched, in a small array, for an order in which each stands after those
+// that it names.
+fn search_few(s: &[u8], format: Format, first: usize, n: u16, start: u16) -> Judged
+    requires { ⌜ Searchable format (now s) first n × (n ≤ fewSearched) ⌝ }
+    ensures { λ r.
+        let ws = recordsFrom format (now (s .entry)) first n in
+        ⌜ r ≡ cycleJudged (lowestCycle (rulesIn format ws)) (startJudged ws start) ⌝ }
+{
+    let mut room = [0u8; 4 * (FEW_SEARCHED as usize)];
+    if reach_order::order(s, format, first, n, &mut room) {
+        return judge_start(s, format, first, n, start);
+    }
+    cycle_from(reach_order::lowest(s, format, first, n, &mut room))
+}
+
+// The same of as many rules as there may be, in a large array.
+fn search_many(s: &[u8], format: Format, first: usize, n: u16, start: u16) -> Judged
+    requires { ⌜ Searchable format (now s) first n ⌝ }
     ensures { λ r.
         let ws = recordsFrom format (now (s .entry)) first n in
         ⌜ r ≡ cycleJudged (lowestCycle (rulesIn format ws)) (startJudged ws start) ⌝ }
@@ -226,18 +250,30 @@ fn judge_cycles(s: &[u8], format: Format, first: usize, n: u16, start: u16) -> J
     if reach_order::order(s, format, first, n, &mut room) {
         return judge_start(s, format, first, n, start);
     }
-    let lowest = reach_order::lowest(s, format, first, n, &mut room);
-    Judged::Refused(Refusal::Cycle(lowest as usize))
+    cycle_from(reach_order::lowest(s, format, first, n, &mut room))
 }
 
-// Refusals 4 to 7 and 12 of n rules whose records begin at first: rules from 0 up, then one that reaches itself, then the start.
-pub fn judge(s: &[u8], format: Format, first: usize, n: u16, start: u16) -> Judged
+// Refusals 4 to 7 and 12 of few rules, whose records begin at first: rules from 0 up, then one that reaches itself, then the start.
+pub fn judge_few(s: &[u8], format: Format, first: usize, n: u16, start: u16) -> Judged
+    requires { ⌜ (first + recordLength format * n ≤ length (now s)) × (n ≤ fewSearched) ⌝ }
+    ensures { λ r. ⌜ r ≡ judged format (recordsFrom format (now (s .entry)) first n) start ⌝ }
+{
+    match test_rules(s, format, first, n) {
+        Rules::Lower => judge_start(s, format, first, n, start),
+        Rules::Mixed => search_few(s, format, first, n, start),
+        Rules::Refused(refusal) => Judged::Refused(refusal),
+    }
+}
+
+// The same of as many rules as there may be. It is a function beside judge_few, and check and seal each choose between the two, so that its
+// large array stands in no frame that a plan of few rules comes to (tests/stack.sh).
+pub fn judge_many(s: &[u8], format: Format, first: usize, n: u16, start: u16) -> Judged
     requires { ⌜ (first + recordLength format * n ≤ length (now s)) × (n ≤ mostSearched) ⌝ }
     ensures { λ r. ⌜ r ≡ judged format (recordsFrom format (now (s .entry)) first n) start ⌝ }
 {
     match test_rules(s, format, first, n) {
         Rules::Lower => judge_start(s, format, first, n, start),
-        Rules::Mixed => judge_cycles(s, format, first, n, start),
+        Rules::Mixed => search_many(s, format, first, n, start),
         Rules::Refused(refusal) => Judged::Refused(refusal),
     }
 }

@@ -7,7 +7,7 @@ use mathlib.Core.Path.{_≡_, refl, sym, ap, _∙_}
 use native.Mathlib.Omega.{arith}
 use lib.Dec.{leb, eqb}
 use lib.ListN.{length}
-use borrow.Author.Tests.{leb-true, eqb-true}
+use borrow.Author.Tests.{leb-true, eqb-true, le-leb, eq-eqb}
 use Rattle.refusal.specs.declared.Refusal.{Refusal}
 use Rattle.record.specs.declared.Format.{Format}
 use Rattle.record.specs.declared.Record.{Record}
@@ -108,6 +108,13 @@ accepted-plan most s n start h =
 pub checked-plan : (s : List ℕ) (n start : ℕ) → checked s ≡ Checked.Accepted n start → Plan mostRules s n start
 unfolding checked
 checked-plan s n start h = accepted-plan mostRules s n start h
+
+-- what is accepted up to a limit, is up to a higher one
+pub accepted-more : (most more : ℕ) (s : List ℕ) (n start : ℕ) → most ≤ more → checkedUpTo most s ≡ Checked.Accepted n start → checkedUpTo more s ≡ Checked.Accepted n start
+unfolding answer inLimits accepted
+accepted-more most more s n start h e =
+    let q = accepted-plan most s n start e in
+    rw (checked-answer more s, le-leb _ _ (q .trailer), q .magical, ← q .count, ← q .begins, le-leb 1 n (q .least), le-leb n more (omega (arith, q .greatest)), eq-eqb _ _ (q .distance), le-leb _ _ (q .within), q .fine)
 
 -- ---- where an accepted plan's rules lie
 module _ (most : ℕ) (s : List ℕ) (n start : ℕ) (q : Plan most s n start) where

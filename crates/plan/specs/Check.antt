@@ -35,9 +35,9 @@ unfoldable pub magic : Format → List ℕ
 magic Format.Narrow = 0x6d ∷ 0x70 ∷ []
 magic Format.Wide = 0x6d ∷ 0x71 ∷ []
 
--- "n is 1 to 1,024"
+-- "n is 1 to 1,024"; document 02, Note 3: "The limit becomes 16,384"
 abbrev pub mostRules : ℕ
-mostRules = 1024
+mostRules = 16384
 
 -- the trailer of n rules that stand right before it
 unfoldable pub trailerBytes : Format → ℕ → ℕ → List ℕ

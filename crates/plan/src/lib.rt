@@ -1,6 +1,7 @@
 // The plan's format (document 01, "A plan's bytes" and "Check", and document 02, Note 2): the trailer and check.
 use judge::Judged;
-use judge::judge;
+use judge::judge_few;
+use judge::judge_many;
 use record::Format;
 use refusal::Refusal;
 ghost use mathlib.Core.Path.{_≡_};
@@ -11,8 +12,11 @@ ghost use lib.Seq.{sets};
 ghost use mathlib.Core.Bool.{_&&_};
 ghost use lib.Dec.{leb, eqb};
 ghost use Rattle.record.specs.Format.{recordLength};
+ghost use Rattle.record.specs.Records.{recordsFrom};
+ghost use Rattle.judge.specs.Judge.{judged};
+ghost use Rattle.judge.specs.Tested.{mostSearched};
 ghost use Rattle.plan.specs.Check.{trailerLength, magic, trailerBytes, mostRules, countOf, startOf, distanceOf};
-ghost use Rattle.plan.specs.Check.{markedAs, formatOf, inLimits, accepted, checked};
+ghost use Rattle.plan.specs.Check.{markedAs, formatOf, inLimits, accepted, checkedUpTo, checked};
 
 // What check answers: document 01's n and start, or the refusal.
 pub enum Checked {
@@ -48,7 +52,7 @@ impl Trailer {
 
     const WIDE_MAGIC: [u8; 2] = *b"mq";
 
-    pub const MOST_RULES: u16 = 1024;
+    pub const MOST_RULES: u16 = 16384;
 
     // The fields of a plan's trailer.
     fn read(s: &[u8]) -> Trailer
@@ -131,10 +135,10 @@ impl Trailer {
     }
 
     // Is the number of rules in range?
-    fn in_limits(n: u16) -> bool
-        ensures { λ r. ⌜ r ≡ inLimits mostRules n ⌝ }
+    fn in_limits(most: u16, n: u16) -> bool
+        ensures { λ r. ⌜ r ≡ inLimits most n ⌝ }
     {
-        (1 <= n) & (n <= Trailer::MOST_RULES)
+        (1 <= n) & (n <= most)
     }
 
     // Is the distance that of n rules, and no longer than what stands before the trailer?
@@ -157,9 +161,28 @@ impl Checked {
     }
 }
 
+// Refusals 4 to 7 and 12 of a plan's rules, with the room that they need.
+fn judge_rules(plan: &[u8], format: Format, first: usize, n: u16, start: u16) -> Judged
+    requires { ⌜ (first + recordLength format * n ≤ length (now plan)) × (n ≤ mostSearched) ⌝ }
+    ensures { λ r. ⌜ r ≡ judged format (recordsFrom format (now (plan .entry)) first n) start ⌝ }
+{
+    if n <= judge::FEW_SEARCHED {
+        return judge_few(plan, format, first, n, start);
+    }
+    judge_many(plan, format, first, n, start)
+}
+
 // Check a plan: document 01's n and start, or why it is turned down.
 pub fn check(plan: &[u8]) -> Checked
     ensures { λ r. ⌜ r ≡ checked (now (plan .entry)) ⌝ }
+{
+    check_up_to(plan, Trailer::MOST_RULES)
+}
+
+// Check with a limit of its own on the number of rules.
+pub fn check_up_to(plan: &[u8], most: u16) -> Checked
+    requires { ⌜ most ≤ mostRules ⌝ }
+    ensures { λ r. ⌜ r ≡ checkedUpTo most (now (plan .entry)) ⌝ }
 {
     if plan.len() < Trailer::LENGTH {
         return Checked::Refused(Refusal::Magic);
@@ -171,7 +194,7 @@ pub fn check(plan: &[u8]) -> Checked
     let trailer = Trailer::read(plan);
     let n = trailer.n;
     let start = trailer.start;
-    if !Trailer::in_limits(n) {
+    if !Trailer::in_limits(most, n) {
         return Checked::Refused(Refusal::Count);
     }
     let end = plan.len() - Trailer::LENGTH;
@@ -179,5 +202,9 @@ pub fn check(plan: &[u8]) -> Checked
     if !Trailer::reaches(format, n, distance, end) {
         return Checked::Refused(Refusal::Distance);
     }
-    Checked::accepted(n, start, judge(plan, format, end - distance, n, start))
+    Checked::accepted(
+        n,
+        start,
+        judge_rules(plan, format, end - distance, n, start),
+    )
 }

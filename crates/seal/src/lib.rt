@@ -1,19 +1,23 @@
 // Document 01, "Seal", and document 02, Note 2.
 use judge::Judged;
-use judge::judge;
+use judge::judge_few;
+use judge::judge_many;
 use plan::Trailer;
 use plan::Written;
 use record::Format;
 use record::copy_records;
 use refusal::Refusal;
-ghost use Prim.Native.Nat.{ℕ, _%_};
+ghost use Prim.Native.Nat.{ℕ, _*_, _%_, _≤_};
 ghost use mathlib.Core.Path.{_≡_};
 ghost use mathlib.Core.Bool.{_&&_};
 ghost use mathlib.Core.List.{List};
 ghost use lib.ListN.{length};
 ghost use lib.Dec.{eqb};
 ghost use Rattle.words.specs.Number.{wordCount};
-ghost use Rattle.record.specs.Format.{recordWords};
+ghost use Rattle.record.specs.Format.{recordLength, recordWords};
+ghost use Rattle.record.specs.Records.{recordsFrom};
+ghost use Rattle.judge.specs.Judge.{judged};
+ghost use Rattle.judge.specs.Tested.{mostSearched};
 ghost use Rattle.plan.specs.Check.{mostRules, inLimits};
 ghost use Rattle.seal.specs.Seal.{formatFor, isLength, givenCount, sealedUpTo, sealed, outputAs, sealedOutput};
 
@@ -78,6 +82,17 @@ fn counted(words: &[u8], format: Format, n: usize) -> bool
         & ((1 <= n) & (n <= Trailer::MOST_RULES as usize))
 }
 
+// Refusals 4 to 7 and 12 of the rules given, with the room that they need.
+fn judge_words(words: &[u8], format: Format, n: u16, start: u16) -> Judged
+    requires { ⌜ (recordLength format * n ≤ length (now words)) × (n ≤ mostSearched) ⌝ }
+    ensures { λ r. ⌜ r ≡ judged format (recordsFrom format (now (words .entry)) 0 n) start ⌝ }
+{
+    if n <= judge::FEW_SEARCHED {
+        return judge_few(words, format, 0, n, start);
+    }
+    judge_many(words, format, 0, n, start)
+}
+
 // Seal's answer, for an output of room bytes.
 fn sealing(words: &[u8], format: Format, start: u16, room: usize) -> Written
     ensures { λ r. ⌜ ((out : List ℕ) → length out ≡ room → r ≡ sealedUpTo mostRules format (now (words .entry)) start out) ⌝ }
@@ -86,7 +101,7 @@ fn sealing(words: &[u8], format: Format, start: u16, room: usize) -> Written
     if !counted(words, format, n) {
         return Written::Refused(Refusal::Count);
     }
-    match judge(words, format, 0, n as u16, start) {
+    match judge_words(words, format, n as u16, start) {
         Judged::Refused(why) => Written::Refused(why),
         Judged::Fine => {
             let need = format.length() * n + Trailer::LENGTH;

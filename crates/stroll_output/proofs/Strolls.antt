@@ -10,18 +10,21 @@ use lib.ListN.{length, replicate, length-replicate}
 use borrow.Author.Tests.{le-leb, lt-leb}
 use Rattle.refusal.specs.declared.Refusal.{Refusal}
 use Rattle.plan.specs.declared.Checked.{Checked}
-use Rattle.plan.specs.Check.{checked, rulesOf}
-use Rattle.plan.proofs.Sound.{checked-plan}
+use Rattle.record.specs.Format.{wordLength}
+use Rattle.plan.specs.Check.{checked, checkedUpTo, mostRules, rulesOf}
+use Rattle.plan.proofs.Sound.{Plan, accepted-plan, accepted-more}
 use Rattle.forest.specs.declared.Walked.{Walked}
+use Rattle.forest.specs.Outcome.{workWords}
 use Rattle.forest.specs.Forest.{forest}
 use Rattle.forest.specs.Reference.{answers}
 use Rattle.forest.specs.Walk.{answerLength, lettersOf, firstOther}
 use Rattle.forest.proofs.Cases.{by-option}
+use Rattle.forest.proofs.WorkWords.{few-words}
 use Rattle.demand.specs.Calls.{Left, walkOf, lends, leaves}
 use Rattle.demand.specs.Demand.{Above, answerWords}
 use Rattle.demand.proofs.FromAbove.{zeros-above, above-accepted, above-refused, above-answers}
 use Rattle.stroll_line.specs.Lines.{lineLength, lines, refusedLine}
-use Rattle.stroll_output.specs.Stroll.{mostPlan, mostLetters, walkPrinted, checkPrinted, strollOutput}
+use Rattle.stroll_output.specs.Stroll.{mostPlan, mostLetters, mostStrolled, walkPrinted, checkPrinted, strollOutput}
 use Rattle.stroll_line.specs.Said.{answerOf, answersFrom}
 use Rattle.stroll_output.specs.Printed.{Accepted, Strollable, Strolled}
 use Rattle.stroll_line.proofs.Shown.{allLines}
@@ -34,17 +37,17 @@ module _ (plan letters : List ℕ) where
   plan-too-long h = rw (lt-leb (length plan) mostPlan h)
 
   -- or is checked
-  pub plan-checked : length plan ≤ mostPlan → strollOutput plan letters ≡ checkPrinted plan letters (checked plan)
+  pub plan-checked : length plan ≤ mostPlan → strollOutput plan letters ≡ checkPrinted plan letters (checkedUpTo mostStrolled plan)
   unfolding strollOutput
   plan-checked h = rw (le-leb (length plan) mostPlan h)
 
   -- and refused
-  pub plan-refused : length plan ≤ mostPlan → (why : Refusal) → checked plan ≡ Checked.Refused why → strollOutput plan letters ≡ refusedLine why
+  pub plan-refused : length plan ≤ mostPlan → (why : Refusal) → checkedUpTo mostStrolled plan ≡ Checked.Refused why → strollOutput plan letters ≡ refusedLine why
   unfolding checkPrinted
   plan-refused h why e = plan-checked h ∙ rw e
 
 -- too many letters
-pub too-many : (plan letters : List ℕ) → Accepted plan → mostLetters < length letters → checkPrinted plan letters (checked plan) ≡ refusedLine Refusal.Lent
+pub too-many : (plan letters : List ℕ) → Accepted plan → mostLetters < length letters → checkPrinted plan letters (checkedUpTo mostStrolled plan) ≡ refusedLine Refusal.Lent
 unfolding checkPrinted
 too-many plan letters A h = rw (A .accepted, lt-leb (length letters) mostLetters h)
 
@@ -69,21 +72,29 @@ module _ {plan letters work cursor given : List ℕ} (S : Strollable plan letter
   abbrev A : Accepted plan
   A = S .accepted
 
-  printed : checkPrinted plan letters (checked plan) ≡ walkPrinted (forest (rulesOf plan) (A .start)) letters (firstOther letters 0)
+  printed : checkPrinted plan letters (checkedUpTo mostStrolled plan) ≡ walkPrinted (forest (rulesOf plan) (A .start)) letters (firstOther letters 0)
   unfolding checkPrinted
   printed = rw (A .accepted, le-leb (length letters) mostLetters (S .few))
 
-  worked : 64 * A .n ≤ length work
-  worked = let h = (checked-plan plan (A .n) (A .start) (A .accepted)) .greatest in omega arith
+  -- within stroll's limit, so within check's
+  within : Plan mostStrolled plan (A .n) (A .start)
+  within = accepted-plan mostStrolled plan (A .n) (A .start) (A .accepted)
+
+  all : checked plan ≡ Checked.Accepted (A .n) (A .start)
+  unfolding checked
+  all = accepted-more mostStrolled mostRules plan (A .n) (A .start) (omega arith) (A .accepted)
+
+  worked : wordLength * workWords (A .n) ≤ length work
+  worked = let h = within .greatest in let e = few-words (A .n) h in omega arith
 
   room : 32 * (A .n + 1) ≤ length cursor
-  room = let h = (checked-plan plan (A .n) (A .start) (A .accepted)) .greatest in omega arith
+  room = let h = within .greatest in omega arith
 
   accepted : firstOther letters 0 ≡ none → x ≡ Walked.Accepted
-  accepted e = ap (λ (l : Left). l .answer) W ∙ above-accepted plan work cursor letters given (A .n) (A .start) (A .accepted) (L .above) worked room (L .answerable) e
+  accepted e = ap (λ (l : Left). l .answer) W ∙ above-accepted plan work cursor letters given (A .n) (A .start) all (L .above) worked room (L .answerable) e
 
   refused : (i : ℕ) → firstOther letters 0 ≡ some i → x ≡ Walked.Refused (Refusal.Letter i)
-  refused i e = ap (λ (l : Left). l .answer) W ∙ above-refused plan work cursor letters given (A .n) (A .start) (A .accepted) (L .above) worked room (L .answerable) i e
+  refused i e = ap (λ (l : Left). l .answer) W ∙ above-refused plan work cursor letters given (A .n) (A .start) all (L .above) worked room (L .answerable) i e
 
   -- accepted, every byte is a letter, and the words are the reference walker's answers
   every-letter : x ≡ Walked.Accepted → firstOther letters 0 ≡ none
@@ -94,17 +105,17 @@ module _ {plan letters work cursor given : List ℕ} (S : Strollable plan letter
   answered q =
       ap (map answerOf)
       (ap (λ (l : Left). answerWords (length letters) (l .answers) 0) W
-      ∙ above-answers plan work cursor letters given (A .n) (A .start) (A .accepted) (L .above) worked room (L .answerable) (every-letter q))
-      ∙ words-said _ (plan-answers plan (A .n) (A .start) (A .accepted) (lettersOf letters) [])
+      ∙ above-answers plan work cursor letters given (A .n) (A .start) all (L .above) worked room (L .answerable) (every-letter q))
+      ∙ words-said _ (plan-answers plan (A .n) (A .start) all (lettersOf letters) [])
 
-  walk-printed : x ≡ Walked.Accepted → allLines letters given′ ≡ checkPrinted plan letters (checked plan)
+  walk-printed : x ≡ Walked.Accepted → allLines letters given′ ≡ checkPrinted plan letters (checkedUpTo mostStrolled plan)
   unfolding walkPrinted
   walk-printed q = ap (lines letters) (answered q) ∙ sym (printed ∙ rw (every-letter q))
 
   walk-short : x ≡ Walked.Accepted → length (allLines letters given′) ≤ lineLength * length letters
-  walk-short q = rw (answered q) (lines-length letters _ (plan-answers plan (A .n) (A .start) (A .accepted) (lettersOf letters) []))
+  walk-short q = rw (answered q) (lines-length letters _ (plan-answers plan (A .n) (A .start) all (lettersOf letters) []))
 
-  walk-refused : (why : Refusal) → x ≡ Walked.Refused why → refusedLine why ≡ checkPrinted plan letters (checked plan)
+  walk-refused : (why : Refusal) → x ≡ Walked.Refused why → refusedLine why ≡ checkPrinted plan letters (checkedUpTo mostStrolled plan)
   unfolding walkPrinted
   walk-refused why q =
       by-option (firstOther letters 0)

@@ -7,7 +7,7 @@ use lib.ListN.{length}
 use lib.Dec.{leb}
 use Rattle.refusal.specs.declared.Refusal.{Refusal}
 use Rattle.plan.specs.declared.Checked.{Checked}
-use Rattle.plan.specs.Check.{checked, rulesOf}
+use Rattle.plan.specs.Check.{checkedUpTo, rulesOf}
 use Rattle.forest.specs.Forest.{Forest, forest}
 use Rattle.forest.specs.Reference.{answers}
 use Rattle.forest.specs.Walk.{lettersOf, firstOther}
@@ -19,6 +19,10 @@ mostPlan = 16384
 
 abbrev pub mostLetters : ℕ
 mostLetters = 4096
+
+-- document 02, Note 3: "The table-top reader's program, stroll, keeps its own limit of 1,024 .. at the point where check tests n"
+abbrev pub mostStrolled : ℕ
+mostStrolled = 1024
 
 -- "The walk begins above the forest": the answers are those of the reference walker (document 01's finger) on the forest
 -- from the empty path on; a byte that is no letter is 9, and there is no other refusal
@@ -36,4 +40,4 @@ checkPrinted plan letters (Checked.Refused r) = refusedLine r
 
 -- ".. the plan's before all else"
 unfoldable pub strollOutput : List ℕ → List ℕ → List ℕ
-strollOutput plan letters = cond (leb (length plan) mostPlan) (checkPrinted plan letters (checked plan)) (refusedLine Refusal.Lent)
+strollOutput plan letters = cond (leb (length plan) mostPlan) (checkPrinted plan letters (checkedUpTo mostStrolled plan)) (refusedLine Refusal.Lent)

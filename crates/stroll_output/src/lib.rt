@@ -3,14 +3,13 @@ use forest::Walked;
 use letter::Letter;
 use place_cells::Cell;
 use plan::Checked;
-use plan::Trailer;
 use refusal::Refusal;
 ghost use Prim.Native.Nat.{_*_, _≤_};
 ghost use lib.ListN.{length};
-ghost use Rattle.plan.specs.Check.{checked};
+ghost use Rattle.plan.specs.Check.{checkedUpTo};
 ghost use Rattle.forest.specs.Walk.{answerLength};
 ghost use Rattle.stroll_line.specs.Lines.{lineLength};
-ghost use Rattle.stroll_output.specs.Stroll.{mostLetters, checkPrinted, strollOutput};
+ghost use Rattle.stroll_output.specs.Stroll.{mostLetters, mostStrolled, checkPrinted, strollOutput};
 ghost use Rattle.decimal.specs.Put.{Put};
 ghost use Rattle.stroll_output.specs.Printed.{Accepted, Strollable, Strolled, Printed};
 
@@ -25,12 +24,13 @@ const LINE: usize = 11;
 // Bytes of output.
 pub const MOST_OUTPUT: usize = LINE * MOST_LETTERS;
 
+// Rules, at most.
+const MOST_STROLLED: u16 = 1024;
+
 // Bytes of work, cursor and answers for the most rules and letters.
-const MOST_RULES: usize = Trailer::MOST_RULES as usize;
+const MOST_WORK: usize = work_rows::WORK_LENGTH * (MOST_STROLLED as usize);
 
-const MOST_WORK: usize = work_rows::WORK_LENGTH * MOST_RULES;
-
-const MOST_CURSOR: usize = Cell::LENGTH * Cell::A_RULE * (MOST_RULES + 1);
+const MOST_CURSOR: usize = Cell::LENGTH * Cell::A_RULE * (MOST_STROLLED as usize + 1);
 
 const MOST_ANSWERS: usize = Letter::ANSWER_LENGTH * MOST_LETTERS;
 
@@ -52,7 +52,7 @@ fn print_walk(plan: &[u8], letters: &[u8], out: &mut [u8]) -> usize
         let plan = now (plan .entry) in
         let letters = now (letters .entry) in
         let out = now (out .entry) in
-        ⌜ Put (checkPrinted plan letters (checked plan)) 0 out out′ r ⌝ }
+        ⌜ Put (checkPrinted plan letters (checkedUpTo mostStrolled plan)) 0 out out′ r ⌝ }
 {
     let mut answers = [0u8; MOST_ANSWERS];
     match walk_above(plan, letters, &mut answers) {
@@ -69,7 +69,7 @@ fn stroll_letters(plan: &[u8], letters: &[u8], out: &mut [u8]) -> usize
         let plan = now (plan .entry) in
         let letters = now (letters .entry) in
         let out = now (out .entry) in
-        ⌜ Put (checkPrinted plan letters (checked plan)) 0 out out′ r ⌝ }
+        ⌜ Put (checkPrinted plan letters (checkedUpTo mostStrolled plan)) 0 out out′ r ⌝ }
 {
     if MOST_LETTERS < letters.len() {
         return stroll_line::put_refusal(out, Refusal::Lent);
@@ -89,7 +89,7 @@ pub fn stroll(plan: &[u8], letters: &[u8], out: &mut [u8; MOST_OUTPUT]) -> usize
     if MOST_PLAN < plan.len() {
         return stroll_line::put_refusal(out, Refusal::Lent);
     }
-    match plan::check(plan) {
+    match plan::check_up_to(plan, MOST_STROLLED) {
         Checked::Accepted { .. } => stroll_letters(plan, letters, out),
         Checked::Refused(why) => stroll_line::put_refusal(out, why),
     }

@@ -18,7 +18,7 @@ use Rattle.forest.specs.Outcome.{workWords, enoughWork, cleared, workAfter}
 use Rattle.forest.specs.Walk.{answerLength, cursorWords, enoughLent, firstOther, Begun, placeJudged, lettersJudged, begunFrom, begun, walked, cursorAfter, answersAfter, walkedWork}
 use Rattle.demand.specs.Calls.{walkOf, lends, leaves}
 use Rattle.work_rows.specs.Rows.{workLength, Within}
-use Rattle.work_rows.proofs.Work.{enough-room, work-cleared}
+use Rattle.work_rows.proofs.Work.{enough-room, enough-words, work-cleared}
 use Rattle.walk.specs.Calls.{Lendable}
 use Rattle.walk_place.specs.Travel.{Walks}
 
@@ -40,7 +40,7 @@ module _ (s work cursor letters given : List ℕ) where
         let rest = and-eq-true-iff (enoughWork n work) _ .0 e .1 in
         let far : 16 * (n + 1) ≤ length cursor / 2 = leb-true _ _ (and-eq-true-iff (leb (cursorWords n) (wordCount cursor)) _ .0 rest .0) in
         let all : length letters ≤ length given / answerLength = leb-true _ _ (and-eq-true-iff (leb (cursorWords n) (wordCount cursor)) _ .0 rest .1) in
-        record { accepted = q; worked = enough-room n work worked; room = omega arith; answerable = omega arith }
+        record { accepted = q; worked = enough-room n work worked; words = enough-words n work worked; room = omega arith; answerable = omega arith }
 
     begins : enoughLent work cursor letters given n ≡ true
         → begun s work cursor letters given ≡ lettersJudged (firstOther letters 0) (placeJudged (rulesOf s) n start cursor)

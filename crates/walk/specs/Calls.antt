@@ -7,6 +7,8 @@ use Rattle.rule.specs.declared.Rule.{Rule}
 use Rattle.plan.specs.declared.Checked.{Checked}
 use Rattle.plan.specs.Check.{checked}
 use Rattle.model.specs.Facts.{factsOf}
+use Rattle.record.specs.Format.{wordLength}
+use Rattle.forest.specs.Outcome.{workWords}
 use Rattle.work_rows.specs.Rows.{workLength}
 use Rattle.facts.specs.Facts.{factsIn, Climbs}
 use Rattle.place_cells.specs.Cells.{cursorLength}
@@ -23,5 +25,6 @@ pub record Filled (R : List Rule) (t : List ℕ) : Type 0 where
 pub record Lendable (plan : List ℕ) (n start : ℕ) (work cursor letters given : List ℕ) : Type 0 where
   pub accepted : checked plan ≡ Checked.Accepted n start
   pub worked : workLength * n ≤ length work
+  pub words : wordLength * workWords n ≤ length work
   pub room : cursorLength n ≤ length cursor
   pub answerable : Answerable letters given

@@ -14,18 +14,22 @@ use Rattle.record.specs.Records.{recordsFrom}
 use Rattle.rule.specs.Rule.{rulesIn}
 use Rattle.plan.specs.Check.{checked, rulesOf, formatOf, trailerLength, mostRules}
 use Rattle.plan.proofs.Sound.{Plan, checked-plan, plan-long, plan-first, plan-records}
-use Rattle.forest.specs.Outcome.{ruleWork, workWords, enoughWork, cleared, workAfter}
+use Rattle.forest.specs.Outcome.{workWords, enoughWork, cleared, workAfter}
+use Rattle.forest.proofs.WorkWords.{words-least}
 use Rattle.work_rows.specs.Rows.{workLength, rowLength, Within, Beyond}
 use Rattle.work_rows.proofs.Rows.{within-wider}
 
--- the bytes that enough work has
-pub enough-room : (n : ℕ) (s : List ℕ) → enoughWork n s ≡ true → workLength * n ≤ length s
-unfolding enoughWork workWords
-enough-room n s t = let words : ruleWork * n ≤ length s / 2 = leb-true (ruleWork * n) (length s / 2) t in omega arith
+-- the rows and what is behind them lie in the words that n rules need
+pub work-least : (n : ℕ) → workLength * n ≤ wordLength * workWords n
+work-least n = let h = words-least n in omega arith
 
-pub work-bytes : (n : ℕ) → wordLength * workWords n ≡ workLength * n
-unfolding workWords
-work-bytes n = omega arith
+-- the bytes that enough work has
+pub enough-words : (n : ℕ) (s : List ℕ) → enoughWork n s ≡ true → wordLength * workWords n ≤ length s
+unfolding enoughWork
+enough-words n s t = let words : workWords n ≤ length s / 2 = leb-true (workWords n) (length s / 2) t in omega arith
+
+pub enough-room : (n : ℕ) (s : List ℕ) → enoughWork n s ≡ true → workLength * n ≤ length s
+enough-room n s t = let a = enough-words n s t in let b = work-least n in omega arith
 
 -- the first m bytes are cleared whatever they were
 pub cleared-same : {m : ℕ} {s t : List ℕ} → Within 0 m s t → cleared m t ≡ cleared m s
@@ -45,7 +49,7 @@ module _ (enough : ℕ → Bool) (s work : List ℕ) where
 
     pub work-cleared : enough n ≡ true → (t : List ℕ) → Within 0 (workLength * n) work t → cleared (wordLength * workWords n) t ≡ workAfter enough (checked s) work
     unfolding workAfter
-    work-cleared e t w = rw (q, e, work-bytes n) (cleared-same w)
+    work-cleared e t w = rw (q, e) (cleared-same (within-wider 0 (wordLength * workWords n) (omega arith) (work-least n) w))
 
 -- frames below the end of the words that are cleared
 pub beyond-work : (n : ℕ) {s t : List ℕ} → Beyond n s t → Within 0 (workLength * n) s t

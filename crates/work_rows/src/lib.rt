@@ -218,16 +218,33 @@ fn load(plan: &[u8], format: Format, first: usize, n: u16, work: &mut [u8]) -> b
     lower
 }
 
-// The 16-bit words of work that a rule needs, and their bytes.
+// The 16-bit words of work that a rule needs, of few rules and of many.
+const FEW_RULES: u16 = 1024;
+
 const WORK_WORDS: usize = 32;
 
+const MANY_WORDS: usize = 40;
+
+// The bytes that a rule of few needs; those of many need them too, and more.
 pub const WORK_LENGTH: usize = 2 * WORK_WORDS;
+
+// The words of work that n rules need.
+fn work_words(n: u16) -> usize
+    ensures { λ r. ⌜ r ≡ workWords n ⌝ }
+{
+    if n <= FEW_RULES {
+        WORK_WORDS * (n as usize)
+    } else {
+        MANY_WORDS * (n as usize)
+    }
+}
 
 // Whether work has the words that n rules need.
 pub fn enough_work(work: &[u8], n: u16) -> bool
     ensures { λ r. ⌜ r ≡ enoughWork n (now (work .entry)) ⌝ }
 {
-    WORK_WORDS * (n as usize) <= words::word_count(work)
+    let words = work_words(n);
+    words <= words::word_count(work)
 }
 
 // Where the order of n rules begins, in bytes a rule: behind the rows and a word a rule.
@@ -274,8 +291,9 @@ pub fn load_rules(plan: &[u8], work: &mut [u8], n: u16) -> bool
 
 // Zeros into the words of work that n rules need.
 pub fn clear_work(work: &mut [u8], n: u16)
-    requires { ⌜ workLength * n ≤ length (now work) ⌝ }
+    requires { ⌜ wordLength * workWords n ≤ length (now work) ⌝ }
     ensures { λ x. ⌜ now (work .exit) ≡ cleared (wordLength * workWords n) (now (work .entry)) ⌝ }
 {
-    words::clear(work, WORK_LENGTH * (n as usize));
+    let words = work_words(n);
+    words::clear(work, 2 * words);
 }

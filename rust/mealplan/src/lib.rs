@@ -44,6 +44,17 @@ pub const NARROW: u16 = 8;
 /// The record length of a wide plan, in bytes: rules of five words, labels 0 to 16,777,215.
 pub const WIDE: u16 = 10;
 
+/// The most rules of a plan.
+pub const MOST_RULES: usize = 16_384;
+
+/// The most rules of a plan that takes 64 bytes of work a rule; one of more rules takes 80.
+pub const FEW_RULES: usize = 1_024;
+
+/// Bytes of work that [`measure`], [`spread`] and [`walk`] need for a plan of so many rules.
+pub const fn work_bytes(rules: usize) -> usize {
+    if rules > FEW_RULES { 80 * rules } else { 64 * rules }
+}
+
 /// The word among the answers for a letter that leads nowhere, in plans of both formats.
 pub const NOWHERE: u32 = 4_294_967_295;
 
@@ -106,7 +117,7 @@ pub fn unseal(plan: &[u8], out: &mut [u8]) -> Result<Unsealed, Refused> {
     answer(number, position, unsealed)
 }
 
-/// Counts a plan's trees, entries and levels. `work` needs 64 bytes a rule.
+/// Counts a plan's trees, entries and levels. `work` needs [`work_bytes`].
 pub fn measure(plan: &[u8], work: &mut [u8]) -> Result<Measured, Refused> {
     let mut measured = Measured::default();
     let mut position = 0;

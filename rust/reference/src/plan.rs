@@ -3,16 +3,21 @@ use crate::reach;
 use crate::words;
 use crate::{Checked, Format, Refused, Unsealed, Why};
 
-pub const MAX_RULES: usize = 1024;
+/// The most rules of a plan (document 02, Note 3).
+pub const MAX_RULES: usize = 16_384;
+/// The most rules that document 01 allowed, each of which needs fewer words of work.
+pub const FEW_RULES: usize = 1_024;
 /// Words of a rule in either format; a narrow plan's have no fifth, which is then taken for 0.
 pub const WORDS: usize = 5;
 /// Bytes of the trailer: n, start, distance, mark.
 pub const TRAILER: usize = 10;
-/// Words of work that measure, spread and walk need for each rule.
-pub const WORK_WORDS: usize = 32;
+/// Words of work that measure, spread and walk need for each of n rules.
+pub const fn work_words(n: usize) -> usize {
+    if n <= FEW_RULES { 32 } else { 40 }
+}
 /// Bytes of work that n rules need.
 pub const fn work_bytes(n: usize) -> usize {
-    2 * WORK_WORDS * n
+    2 * work_words(n) * n
 }
 /// Bytes of cursor that n rules need: 16 × (n + 1) words.
 pub const fn cursor_bytes(n: usize) -> usize {

@@ -12,7 +12,7 @@ pub struct Refused {
 pub enum Why {
     /// Fewer than 10 bytes, or a mark that is neither format's; for seal, a record length that is neither's.
     Mark = 1,
-    /// The number of rules is 0 or above 1,024; seal's words aren't so many to a rule.
+    /// The number of rules is 0 or above 16,384; seal's words aren't so many to a rule.
     Count = 2,
     /// The distance isn't the record length × n or goes back before the first byte.
     Distance = 3,

@@ -157,18 +157,21 @@ fn order_of_the_refusals() {
 
 #[test]
 fn long_ones() {
-    const N: u16 = 1024;
-    let node = |to: fn(u16) -> u16| (0..N).map(|rule| Rule::Node(97, to(rule)).words()).collect::<Vec<_>>();
-    assert_eq!(check(&node(|rule| (rule + 1) % N), 0), Err(Why::Cycle.at(0)));
-    assert_eq!(check(&node(|rule| (rule + N - 1) % N), 0), Err(Why::Cycle.at(0)));
-    assert_eq!(check(&node(|rule| (rule + 1).min(N - 1)), 0), Err(Why::Cycle.at(1023)));
-    assert_eq!(check(&node(|rule| rule.saturating_sub(1)), 0), Err(Why::Cycle.at(0)));
-    let mut backwards = node(|rule| (rule + 1).min(N - 1));
-    backwards[1023] = Rule::Empty.words();
-    let mut work = vec![3; work_bytes(1024)];
-    for format in Format::BOTH {
-        let measured = rules::measure(&plan_of(format, &backwards, 0), &mut work);
-        assert_eq!(measured, Ok(Measured { trees: 1, entries: 1023, levels: 1023 }));
+    for n in [1_023, 1_024, 1_025, 2_000, 16_383, 16_384_u16] {
+        let node = |to: &dyn Fn(u16) -> u16| (0..n).map(|rule| Rule::Node(97, to(rule)).words()).collect::<Vec<_>>();
+        let last = usize::from(n) - 1;
+        assert_eq!(check(&node(&|rule| (rule + 1) % n), 0), Err(Why::Cycle.at(0)));
+        assert_eq!(check(&node(&|rule| (rule + n - 1) % n), 0), Err(Why::Cycle.at(0)));
+        assert_eq!(check(&node(&|rule| (rule + 1).min(n - 1)), 0), Err(Why::Cycle.at(last)));
+        assert_eq!(check(&node(&|rule| rule.saturating_sub(1)), 0), Err(Why::Cycle.at(0)));
+        let mut backwards = node(&|rule| (rule + 1).min(n - 1));
+        backwards[last] = Rule::Empty.words();
+        let mut work = vec![3; work_bytes(n.into())];
+        for format in Format::BOTH {
+            let measured = rules::measure(&plan_of(format, &backwards, 0), &mut work);
+            let levels = u64::from(n) - 1;
+            assert_eq!(measured, Ok(Measured { trees: 1, entries: levels, levels }));
+        }
     }
 }
 

@@ -152,13 +152,3 @@ fn walked(plan: &[u8], unfolded: Option<&Unfolded>, label: u32) {
     }
     assert_eq!(NOWHERE, 4_294_967_295);
 }
-
-#[test]
-fn limits_of_wide_plans() {
-    for format in Format::BOTH {
-        let check = |n: usize| plan::check(&plan_of(format, &vec![EMPTY; n], 0)).map(|checked| checked.n);
-        assert_eq!((check(1_024), check(1_025)), (Ok(1_024), Err(Why::Count.here())));
-        let seal = |n: usize| plan::seal(&vec![0; format.record() * n], format.record_length(), 0, &mut []);
-        assert_eq!((seal(1_024), seal(1_025)), (Err(Why::Output.here()), Err(Why::Count.here())));
-    }
-}

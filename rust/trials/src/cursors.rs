@@ -124,7 +124,7 @@ fn in_head() -> Vec<Damage> {
     ];
     for (way, count) in counts {
         all.push(damage(way, move |stored, known, _| {
-            stored.head[0] = count(known.draft.n()) as u16;
+            stored.head[0] = count(known.draft.n()).min(65_535) as u16;
             Some(())
         }));
     }

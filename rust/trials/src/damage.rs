@@ -44,7 +44,7 @@ fn distance_in(plan: &[u8], trailer: usize) -> u32 {
 /// 1 to 3: the plan's bytes, changed as given with the trailer's first byte.
 fn in_trailer() -> Vec<Damage> {
     type Change = fn(&mut Vec<u8>, usize, &mut Random);
-    let ways: [(&str, Why, Change); 12] = [
+    let ways: [(&str, Why, Change); 13] = [
         ("fewer than 10 bytes", Why::Mark, |plan, _, random| drop(plan.drain(..plan.len() - random.below(TRAILER)))),
         ("first mark byte", Why::Mark, |plan, at, random| plan[at + 8] ^= random.between(1, 255) as u8),
         // The second bytes of both marks differ in one bit.
@@ -52,10 +52,16 @@ fn in_trailer() -> Vec<Damage> {
         ("marks swapped", Why::Mark, |plan, at, _| plan.swap(at + 8, at + 9)),
         ("the other format's mark", Why::Distance, |plan, at, _| plan[at + 9] ^= 1),
         ("n is 0", Why::Count, |plan, at, _| plan[at..at + 2].fill(0)),
-        ("n above 1,024", Why::Count, |plan, at, random| {
+        ("n above 16,384", Why::Count, |plan, at, random| {
             let any = random.between(MAX_RULES + 1, 65_535);
             let n = random.pick(&[MAX_RULES + 1, 65_535, any]) as u16;
             plan[at..at + 2].copy_from_slice(&n.to_le_bytes());
+        }),
+        ("n up to 16,384, but not the plan's", Why::Distance, |plan, at, random| {
+            let own = u16::from_le_bytes([plan[at], plan[at + 1]]);
+            let any = random.between(1, MAX_RULES) as u16;
+            let n = random.pick(&[own + 1, 1_024, 1_025, 16_383, 16_384, any]);
+            plan[at..at + 2].copy_from_slice(&(if n == own { n + 1 } else { n }).to_le_bytes());
         }),
         ("distance too short", Why::Distance, |plan, at, random| {
             let shorter = distance_in(plan, at) - random.pick(&[1, 7, 8, 9, 10]);

@@ -75,6 +75,25 @@ pub fn rows(growth: Growth, n: usize) -> Draft {
     draft
 }
 
+/// One row of leaves, in which all rules but two grow it.
+pub fn row_alone(growth: Growth, n: usize) -> Draft {
+    let mut draft = Draft::default();
+    let (empty, leaf) = ground(&mut draft);
+    row(&mut draft, growth, n.saturating_sub(2), leaf, empty);
+    draft
+}
+
+/// Node over node: the place of the last has two cells for each rule but the empty one.
+pub fn nodes(n: usize) -> Draft {
+    let mut draft = Draft::default();
+    let mut forest = draft.add(Rule::Empty);
+    while draft.n() < n {
+        let label = u32::from(b'a') + (draft.n() % 26) as u32;
+        forest = draft.add(Rule::Node(label, forest));
+    }
+    draft
+}
+
 /// One spine of parts with a leaf on either side of the hole.
 pub fn spine(growth: Growth, n: usize) -> Draft {
     let mut draft = Draft::default();

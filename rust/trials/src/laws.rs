@@ -29,7 +29,7 @@ pub fn ask(before: &Call, outcome: &Outcome, after: &Call) {
 }
 
 /// The number of rules that an accepted plan's trailer gives.
-fn rules_of(plan: &[u8]) -> usize {
+pub(crate) fn rules_of(plan: &[u8]) -> usize {
     let at = plan.len() - TRAILER;
     usize::from(u16::from_le_bytes([plan[at], plan[at + 1]]))
 }

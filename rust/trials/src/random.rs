@@ -47,6 +47,14 @@ impl Random {
         among[self.below(among.len())].clone()
     }
 
+    /// So many of these, or all where there are fewer.
+    pub fn some<T>(&mut self, mut among: Vec<T>, count: usize) -> Vec<T> {
+        while among.len() > count {
+            among.swap_remove(self.below(among.len()));
+        }
+        among
+    }
+
     /// So many rules numbered in any order.
     pub fn order(&mut self, n: usize) -> Vec<u16> {
         let mut number: Vec<u16> = (0..n as u16).collect();

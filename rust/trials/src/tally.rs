@@ -1,6 +1,8 @@
 //! What has been tried, and whether it was enough.
 use crate::call::{Call, Operation, Outcome};
-use reference::{NOWHERE, Why, answers};
+use crate::laws;
+use reference::plan::FEW_RULES;
+use reference::{NOWHERE, Why, answers, words};
 use std::collections::BTreeMap;
 use std::fmt;
 
@@ -11,6 +13,10 @@ pub const LEAST_LETTERS: u64 = 1_000_000;
 pub const LEAST_RENUMBERED: u64 = 1_000;
 /// How many narrow plans must have been compared with themselves as wide ones.
 pub const LEAST_WIDENED: u64 = 1_000;
+/// How many calls on plans of more than 1,024 rules must have been compared, letters walked there, and the most cells of a place reached.
+pub const LEAST_CALLS_OF_WARDS: u64 = 2_000;
+pub const LEAST_LETTERS_OF_WARDS: u64 = 100_000;
+pub const LEAST_CELLS: usize = 32_766;
 /// The last refusal.
 const LAST: u32 = Why::Cycle as u32;
 
@@ -26,18 +32,28 @@ pub struct Tally {
     /// Narrow plans that were compared with the same rules in a wide plan, and letters walked on both.
     pub widened: u64,
     pub letters_in_both: u64,
+    /// Accepted calls on plans of more than 1,024 rules, letters walked on them, and the most cells of a place that a walk left.
+    pub calls_of_wards: u64,
+    pub letters_of_wards: u64,
+    pub most_cells: usize,
     /// How often a refusal came up: by its number, the way to it, and the operation.
     ways: BTreeMap<(u32, String, Operation), u64>,
 }
 
 impl Tally {
-    pub fn count(&mut self, call: &Call, outcome: &Outcome, answers: &[u8]) {
+    pub fn count(&mut self, call: &Call, outcome: &Outcome, after: &Call) {
+        let answers = &after.answers;
         *self.calls.entry(call.operation).or_default() += 1;
+        if outcome.is_ok() && rules_of(call) > FEW_RULES {
+            self.calls_of_wards += 1;
+            self.letters_of_wards += call.letters.len() as u64;
+        }
         if call.operation == Operation::Walk && outcome.is_ok() {
             let moved =
                 |index: usize| b"flnpu".contains(&call.letters[index]) && answers::get(answers, index) != NOWHERE;
             self.letters += call.letters.len() as u64;
             self.moves += (0..call.letters.len()).filter(|index| moved(*index)).count() as u64;
+            self.most_cells = self.most_cells.max(words::get(&after.cursor, 0).into());
         }
     }
 
@@ -63,10 +79,25 @@ impl Tally {
         if self.widened < LEAST_WIDENED {
             missing.push(format!("{} plans widened", self.widened));
         }
+        if self.calls_of_wards < LEAST_CALLS_OF_WARDS || self.letters_of_wards < LEAST_LETTERS_OF_WARDS {
+            let Tally { calls_of_wards, letters_of_wards, .. } = self;
+            missing.push(format!("{calls_of_wards} calls and {letters_of_wards} letters on more than 1,024 rules"));
+        }
+        if self.most_cells < LEAST_CELLS {
+            missing.push(format!("{} cells", self.most_cells));
+        }
         if 3 * self.moves < self.letters {
             missing.push(format!("{} moves of {} letters", self.moves, self.letters));
         }
         missing
+    }
+}
+
+/// The number of rules that an accepted call was about.
+fn rules_of(call: &Call) -> usize {
+    match call.operation {
+        Operation::Seal => call.plan.len() / usize::from(call.record_length),
+        _ => laws::rules_of(&call.plan),
     }
 }
 
@@ -85,6 +116,11 @@ impl fmt::Display for Tally {
             f,
             "widened: {} narrow plans beside the same with other labels as a wide one, {} letters on both",
             self.widened, self.letters_in_both
+        )?;
+        writeln!(
+            f,
+            "more than 1,024 rules: {} calls, {} letters; the most cells of a place are {}",
+            self.calls_of_wards, self.letters_of_wards, self.most_cells
         )?;
         for number in 1..=LAST {
             let of_number = self.ways.iter().filter(|(key, _)| key.0 == number);

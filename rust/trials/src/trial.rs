@@ -46,7 +46,7 @@ impl Trial {
             assert_eq!(answer, outcome, "{name} answers otherwise (left) than {} (right)", ByRules.name());
             self.rooms.compare(name, &after);
         }
-        self.tally.count(call, &outcome, &after.answers);
+        self.tally.count(call, &outcome, &after);
         Judged { outcome, after }
     }
 

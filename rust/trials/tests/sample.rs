@@ -14,7 +14,11 @@ struct Reader {
 
 impl Reader {
     fn new(draft: &Draft) -> Reader {
-        Reader { plan: draft.plan(), work: vec![9; 64 * draft.n()], cursor: vec![0; 32 * (draft.n() + 1)] }
+        Reader {
+            plan: draft.plan(),
+            work: vec![9; mealplan::work_bytes(draft.n())],
+            cursor: vec![0; 32 * (draft.n() + 1)],
+        }
     }
 
     /// The labels that letters lead to, none for nowhere.
@@ -62,7 +66,7 @@ fn cells_of_the_sample_plan() {
 #[test]
 fn sizes_of_the_sample_plan() {
     let draft = families::sample();
-    let (plan, mut work) = (draft.plan(), vec![9; 64 * draft.n()]);
+    let (plan, mut work) = (draft.plan(), vec![9; mealplan::work_bytes(draft.n())]);
     assert_eq!(mealplan::check(&plan), Ok(Checked { n: 8, start: 7 }));
     assert_eq!(mealplan::measure(&plan, &mut work), Ok(Measured { trees: 3, entries: 11, levels: 3 }));
     let mut text = [0; 33];
@@ -85,7 +89,7 @@ fn wide_sample() -> Draft {
 #[test]
 fn the_sample_plan_as_a_wide_one() {
     let draft = wide_sample();
-    let (plan, mut work) = (draft.plan(), vec![9; 64 * draft.n()]);
+    let (plan, mut work) = (draft.plan(), vec![9; mealplan::work_bytes(draft.n())]);
     let file = concat!(env!("CARGO_MANIFEST_DIR"), "/../../samples/wide.bin");
     assert_eq!(plan, std::fs::read(file).expect("samples/wide.bin"));
     assert_eq!(mealplan::check(&plan), Ok(Checked { n: 8, start: 7 }));
@@ -147,4 +151,38 @@ fn refusals() {
     assert_eq!(mealplan::check(&label(255)), Ok(Checked { n: 2, start: 0 }));
     assert_eq!(mealplan::check(&label(256)), Err(refused(4, 1)));
     assert_eq!(Reader::new(&families::sample()).walk("af?"), Err(refused(9, 2)));
+}
+
+#[test]
+fn plans_for_a_whole_ward() {
+    for format in Format::BOTH {
+        for n in [1_024, 1_025, 16_384] {
+            let records = (0..n).map(|rule: u16| match rule {
+                0 => [0; WORDS],
+                _ => Rule::Node(u32::from(rule % 256), rule - 1).words(),
+            });
+            let draft = Draft { format, records: records.collect(), start: n - 1, ..Draft::default() };
+            let (plan, mut reader) = (draft.plan(), Reader::new(&draft));
+            assert_eq!(mealplan::check(&plan), Ok(Checked { n, start: n - 1 }));
+            let bytes = usize::from(n) * if n > 1_024 { 80 } else { 64 };
+            assert_eq!(mealplan::measure(&plan, &mut vec![9; bytes - 1]), Err(refused(8, 0)));
+            let levels = u64::from(n) - 1;
+            assert_eq!(
+                mealplan::measure(&plan, &mut vec![9; bytes]),
+                Ok(Measured { trees: 1, entries: levels, levels })
+            );
+            let down = reader.walk(&format!("a{}", "f".repeat(n.into()))).expect("from above");
+            assert_eq!(down[..2], [Some(u32::from((n - 1) % 256)), Some(u32::from((n - 2) % 256))]);
+            assert_eq!(down[usize::from(n) - 2..], [Some(1), None, None]);
+            let cells = reader.cells();
+            assert_eq!(cells.len(), 2 * (usize::from(n) - 1));
+            assert_eq!(cells[cells.len() - 2..], [[1, 0, 1, 0], [2, 1, 0, 0]]);
+            assert_eq!(reader.walk("su"), Ok(labels(&[1, 2])));
+        }
+        let many = |n: usize| Draft { format, records: vec![[0; WORDS]; n], ..Draft::default() };
+        assert_eq!(mealplan::check(&many(16_385).plan()), Err(refused(2, 0)));
+        assert_eq!(mealplan::seal(&many(16_385).words(), format.record_length(), 0, &mut []), Err(refused(2, 0)));
+        assert_eq!(mealplan::seal(&many(16_384).words(), format.record_length(), 0, &mut []), Err(refused(11, 0)));
+    }
+    assert_eq!((mealplan::FEW_RULES, mealplan::MOST_RULES), (1_024, 16_384));
 }

@@ -37,11 +37,11 @@ few c =
     let a = c .before .before .before .before .args in
     counted-few (a .format) mostRules (now (a .words)) (a .start) (now (a .words)) _ (c .before .before .given-count .ensures) (passed c)
 
-cast-judge : tie.Need-cast-judge
-cast-judge c = omega (arith, few c)
+cast-judge-words : tie.Need-cast-judge-words
+cast-judge-words c = omega (arith, few c)
 
-judge-requires : tie.Need-judge-requires
-judge-requires c κs =
+judge-words-requires : tie.Need-judge-words-requires
+judge-words-requires c κs =
     (omega (arith, given-fits (c .before .before .before .before .args .format) _ _ (c .before .before .given-count .ensures)), few c)
 
 enum-known-why : tie.Need-enum-known-why
@@ -72,13 +72,13 @@ returns-2 c out e =
     let asked = c .before .before .before .before in
     let l = c .before .length .ensures in
     let t = rw l at (c .if2 .taken) in
-    sym (no-room (a .format) mostRules (now (a .words)) (a .start) out _ (c .before .before .before .before .before .before .before .given-count .ensures) (passed (asked .before)) _ (asked .judge .ensures) (c .before .before .enum-told .given .1) (omega (arith, t)))
+    sym (no-room (a .format) mostRules (now (a .words)) (a .start) out _ (c .before .before .before .before .before .before .before .given-count .ensures) (passed (asked .before)) _ (asked .judge-words .ensures) (c .before .before .enum-told .given .1) (omega (arith, t)))
 
 returns-3 : tie.Need-returns-3
 returns-3 c out e =
     let a = c .before .before .before .before .before .before .before .before .args in
     let asked = c .before .before .before in
-    sym (not-fine (a .format) mostRules (now (a .words)) (a .start) out _ (c .before .before .before .before .before .before .given-count .ensures) (passed (asked .before)) _ (asked .judge .ensures) _ (c .before .why .given .1))
+    sym (not-fine (a .format) mostRules (now (a .words)) (a .start) out _ (c .before .before .before .before .before .before .given-count .ensures) (passed (asked .before)) _ (asked .judge-words .ensures) _ (c .before .why .given .1))
 
 returns-4 : tie.Need-returns-4
 returns-4 c out e =
@@ -86,7 +86,7 @@ returns-4 c out e =
     let asked = c .before .before .before .before in
     let l = c .before .length .ensures in
     let t = rw l at (c .if2 .left) in
-    sym (rw l (room-enough (a .format) mostRules (now (a .words)) (a .start) out _ (c .before .before .before .before .before .before .before .given-count .ensures) (passed (asked .before)) _ (asked .judge .ensures) (c .before .before .enum-told .given .1) (omega (arith, t))))
+    sym (rw l (room-enough (a .format) mostRules (now (a .words)) (a .start) out _ (c .before .before .before .before .before .before .before .given-count .ensures) (passed (asked .before)) _ (asked .judge-words .ensures) (c .before .before .enum-told .given .1) (omega (arith, t))))
 
 pub sealing-spec : {M : Type 1} → statement M
 sealing-spec =
@@ -95,8 +95,8 @@ sealing-spec =
     given-count-requires
     counted-requires
     returns
-    cast-judge
-    judge-requires
+    cast-judge-words
+    judge-words-requires
     enum-known-why
     enum-told
     length-requires

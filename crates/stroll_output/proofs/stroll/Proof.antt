@@ -17,15 +17,15 @@ returns c =
     let a = c .before .before .before .before .before .args in
     put-printed (put-as (sym (plan-too-long (now (a .plan)) (now (a .letters)) (c .before .before .if1 .taken))) (c .put-refusal .ensures))
 
-check-requires : tie.Need-check-requires
-check-requires c κs = search needs
+check-up-to-requires : tie.Need-check-up-to-requires
+check-up-to-requires c κs = search needs
 
 enum-told : tie.Need-enum-told
 enum-told c = search needs
 
 stroll-letters-requires : tie.Need-stroll-letters-requires
 stroll-letters-requires c κs =
-    (record { n = _; start = _; accepted = sym (c .before .before .before .check .ensures) ∙ c .before .enum-told .given .1 }, omega arith)
+    (record { n = _; start = _; accepted = sym (c .before .before .before .check-up-to .ensures) ∙ c .before .enum-told .given .1 }, omega arith)
 
 enum-known-why : tie.Need-enum-known-why
 enum-known-why c = search needs
@@ -41,7 +41,7 @@ returns-2 c =
 returns-3 : tie.Need-returns-3
 returns-3 c =
     let a = c .before .before .before .before .before .before .before .before .before .args in
-    put-printed (put-as (sym (plan-refused (now (a .plan)) (now (a .letters)) (c .before .before .before .before .before .before .if1 .left) _ (sym (c .before .before .before .before .before .check .ensures) ∙ c .before .before .before .why .given .1))) (c .put-refusal2 .ensures))
+    put-printed (put-as (sym (plan-refused (now (a .plan)) (now (a .letters)) (c .before .before .before .before .before .before .if1 .left) _ (sym (c .before .before .before .before .before .check-up-to .ensures) ∙ c .before .before .before .why .given .1))) (c .put-refusal2 .ensures))
 
 pub stroll-spec : {M : Type 1} → statement M
 stroll-spec =
@@ -49,7 +49,7 @@ stroll-spec =
     (tie.spec
     put-refusal-requires
     returns
-    check-requires
+    check-up-to-requires
     enum-told
     stroll-letters-requires
     enum-known-why

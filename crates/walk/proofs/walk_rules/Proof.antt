@@ -26,7 +26,7 @@ walk-bytes-requires : tie.Need-walk-bytes-requires
 walk-bytes-requires c κs = lendable _ _ _ _ _ _ _ (c .before .before .before .before .before .before .before .before .before .before .before .before .before .pre) (sym (c .before .before .before .before .enough-lent .ensures) ∙ not-false _ (c .before .before .before .if1 .left))
 
 clear-work-requires : tie.Need-clear-work-requires
-clear-work-requires c κs = let l = lendable _ _ _ _ _ _ _ (c .before .before .before .before .before .before .before .before .before .before .before .before .before .before .before .before .before .before .before .before .before .pre) (sym (c .before .before .before .before .before .before .before .before .before .before .before .before .enough-lent .ensures) ∙ not-false _ (c .before .before .before .before .before .before .before .before .before .before .before .if1 .left)) in let same = c .before .before .before .before .before .before .before .walk-bytes .ensures .1 .same-length in let room = l .worked in omega arith
+clear-work-requires c κs = let l = lendable _ _ _ _ _ _ _ (c .before .before .before .before .before .before .before .before .before .before .before .before .before .before .before .before .before .before .before .before .before .pre) (sym (c .before .before .before .before .before .before .before .before .before .before .before .before .enough-lent .ensures) ∙ not-false _ (c .before .before .before .before .before .before .before .before .before .before .before .if1 .left)) in let same = c .before .before .before .before .before .before .before .walk-bytes .ensures .1 .same-length in let room = l .words in omega arith
 
 same-length-4 : tie.Need-same-length-4
 same-length-4 c = search needs

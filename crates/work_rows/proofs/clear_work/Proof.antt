@@ -1,8 +1,10 @@
 -- The bytes are those of the words that n rules need. Assumes nothing.
 use borrow.Author.Needs.{needs}
-use Rattle.work_rows.proofs.Work.{work-bytes}
 use Rattle.work_rows.proofs.clear_work.Statement.{statement}
 use Rattle.work_rows.proofs.clear_work.Tie as tie
+
+work-words-requires : tie.Need-work-words-requires
+work-words-requires c κs = search needs
 
 mul-clear : tie.Need-mul-clear
 mul-clear c = search needs
@@ -14,7 +16,8 @@ same-length : tie.Need-same-length
 same-length c = search needs
 
 returns : tie.Need-returns
-returns c = rw work-bytes (c .before .before .clear .ensures)
+returns c = rw (c .before .before .before .before .work-words .ensures) at (c .before .before .clear .ensures)
 
 pub clear-work-spec : {M : Type 1} → statement M
-clear-work-spec = tie.close (tie.spec mul-clear clear-requires same-length returns)
+clear-work-spec =
+    tie.close (tie.spec work-words-requires mul-clear clear-requires same-length returns)

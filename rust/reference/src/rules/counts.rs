@@ -1,6 +1,6 @@
 //! Trees, nodes and levels of every rule, in work, by one pass over the rules in their order.
 use crate::Measured;
-use crate::plan::{Plan, Rule, WORK_WORDS};
+use crate::plan::{Plan, Rule};
 
 /// What is counted of a rule. `entries` is exact, or none if it passes 2^64 − 1; the others are never above it where it is exact.
 #[derive(Clone, Copy, Default)]
@@ -12,7 +12,8 @@ struct Counts {
     hole: u64,
 }
 
-type Row = [u8; 2 * WORK_WORDS];
+/// A rule has at least these bytes of work, however many rules there are.
+type Row = [u8; 64];
 
 impl Counts {
     fn write(self, row: &mut Row) {

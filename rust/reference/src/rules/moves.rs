@@ -12,7 +12,7 @@ pub struct Walker<'a> {
     /// The cursor, cell 0 first.
     pub(super) cells: &'a mut [[u8; 8]],
     /// For each cell that opens a tree of a row: the cell that opens the row. For one that opens the C of a spine: 0. Past the rows of the
-    /// table work has 16 × n words, enough for the 4 × (n + 1) cells of a cursor.
+    /// table work has at least 16 × n words, enough for the 4 × (n + 1) cells of a cursor.
     pub(super) opened: &'a mut [[u8; 2]],
     pub(super) used: usize,
     pub(super) here: u16,

@@ -1,4 +1,4 @@
-//! The text of a rule's forest, by recursion over rules, none of which reaches itself: at most 1,024 deep.
+//! The text of a rule's forest, by recursion over rules, none of which reaches itself: at most 16,384 deep.
 use super::table::{NONE, Table};
 use crate::Format;
 use crate::plan::Rule;

@@ -5,7 +5,7 @@ use trials::random::Random;
 use trials::trial::Trial;
 
 const HOUR: u64 = 3_600;
-/// A turn takes about a second.
+/// A turn takes a few seconds.
 const EFFORT: usize = 5;
 
 fn main() {

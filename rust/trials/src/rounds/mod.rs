@@ -6,6 +6,7 @@ pub mod plans;
 pub mod sizes;
 pub mod slices;
 pub mod walks;
+pub mod wards;
 
 use crate::call::MOST_NODES;
 use crate::draft::Draft;

@@ -6,14 +6,14 @@ use crate::rounds::walks;
 use crate::trial::Trial;
 use crate::{families, random_plans, rounds};
 use reference::place::{self, Cell};
-use reference::plan::MAX_RULES;
+use reference::plan::FEW_RULES;
 
 pub fn agree(trial: &mut Trial, plans: usize) {
     for round in 0..plans {
         let draft = match round % 3 {
-            0 => families::any(&mut trial.random, MAX_RULES),
+            0 => families::any(&mut trial.random, FEW_RULES),
             1 => {
-                let n = trial.random.between(1, MAX_RULES);
+                let n = trial.random.between(1, FEW_RULES);
                 random_plans::any(&mut trial.random, n)
             }
             _ => rounds::small(&mut trial.random, 60),

@@ -5,7 +5,7 @@ use crate::damage;
 use crate::draft::Draft;
 use crate::random_plans;
 use crate::trial::Trial;
-use reference::plan::{MAX_RULES, Rule};
+use reference::plan::{FEW_RULES, MAX_RULES, Rule};
 use reference::{Format, Why};
 
 pub fn refuse(trial: &mut Trial, rounds: usize) {
@@ -67,23 +67,23 @@ fn twice_damaged(trial: &mut Trial, format: Format, damages: &[damage::Damage]) 
     }
 }
 
-/// Plans of 1,024 rules and of 1,025, all of kind 0.
+/// Plans of 16,384 rules and of 16,385, all of kind 0.
 fn limits(trial: &mut Trial, format: Format) {
     for n in [MAX_RULES, MAX_RULES + 1] {
         let draft = Draft { format, records: vec![Rule::Empty.words(); n], start: 3, prefix: Vec::new() };
         for call in check_and_seal(trial, &draft) {
             if n > MAX_RULES {
-                trial.refused(&call, &format!("{format:?} plan, 1,025 whole rules"), Why::Count.here());
+                trial.refused(&call, &format!("{format:?} plan, 16,385 whole rules"), Why::Count.here());
             } else {
-                trial.accepted(&call, "1,024 rules are accepted");
+                trial.accepted(&call, "16,384 rules are accepted");
             }
         }
     }
 }
 
-/// Plans of 1,024 rules in which some rule reaches itself: all of them, some, or the last alone.
+/// Plans of 1,024 rules in which some rule reaches itself: all of them, some, or the last alone. Those of more are in `wards`.
 fn long_cycles(trial: &mut Trial, format: Format) {
-    for (way, draft, lowest) in cycles::long(MAX_RULES, &mut trial.random) {
+    for (way, draft, lowest) in cycles::long(FEW_RULES, &mut trial.random) {
         for call in check_and_seal(trial, &draft.in_format(format)) {
             trial.refused(&call, &format!("{format:?} plan, {way}"), Why::Cycle.at(lowest));
         }
@@ -91,7 +91,7 @@ fn long_cycles(trial: &mut Trial, format: Format) {
 }
 
 /// A check of a plan without prefix, and the seal of its rules.
-fn check_and_seal(trial: &mut Trial, draft: &Draft) -> [Call; 2] {
+pub(super) fn check_and_seal(trial: &mut Trial, draft: &Draft) -> [Call; 2] {
     let check = Call::new(Operation::Check, draft.plan(), draft.n());
     let mut seal = Call::seal(draft);
     seal.out = trial.random.leftovers(draft.sealed_length());

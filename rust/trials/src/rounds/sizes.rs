@@ -1,17 +1,17 @@
-//! Check, seal, unseal, measure and spread on valid plans of every size.
+//! Check, seal, unseal, measure and spread on valid plans of every size up to 1,024 rules; those of more are in `wards`.
 use crate::call::{Call, Operation, Values};
 use crate::draft::Draft;
 use crate::trial::{Judged, Trial};
 use crate::{families, random_plans, rounds};
 use reference::Unsealed;
-use reference::plan::MAX_RULES;
+use reference::plan::FEW_RULES;
 
 pub fn agree(trial: &mut Trial, plans: usize) {
     for round in 0..plans {
         let draft = match round % 4 {
-            0 => families::any(&mut trial.random, MAX_RULES),
+            0 => families::any(&mut trial.random, FEW_RULES),
             1 => {
-                let n = trial.random.between(1, MAX_RULES);
+                let n = trial.random.between(1, FEW_RULES);
                 random_plans::any(&mut trial.random, n)
             }
             2 => families::leaves(u128::MAX >> trial.random.between(1, 127)),
@@ -24,7 +24,7 @@ pub fn agree(trial: &mut Trial, plans: usize) {
 }
 
 /// Sealed then unsealed, record length, rules and start are the same; a plan without prefix unsealed and sealed has the same bytes.
-fn round_trip(trial: &mut Trial, draft: &Draft) {
+pub(super) fn round_trip(trial: &mut Trial, draft: &Draft) {
     let n = draft.n();
     let mut seal = Call::seal(draft);
     let longer = trial.random.below(20);
@@ -41,7 +41,7 @@ fn round_trip(trial: &mut Trial, draft: &Draft) {
 }
 
 /// Measure, and spread if the text isn't long.
-fn count_and_write(trial: &mut Trial, draft: &Draft) {
+pub(super) fn count_and_write(trial: &mut Trial, draft: &Draft) {
     let mut call = Call::new(Operation::Measure, draft.plan(), draft.n());
     let longer = trial.random.below(20);
     call.work = trial.random.leftovers(call.work.len() + longer);

@@ -78,7 +78,7 @@ fn seal_words(trial: &mut Trial, format: Format) {
     let mut faulty = vec![
         ("no words".to_string(), Vec::new()),
         ("one byte".to_string(), vec![0]),
-        ("1,025 rules".to_string(), vec![0; format.record() * (MAX_RULES + 1)]),
+        ("16,385 rules".to_string(), vec![0; format.record() * (MAX_RULES + 1)]),
         ("more rules".to_string(), vec![0; format.record() * (MAX_RULES + 9)]),
     ];
     for few in 1..format.words() {

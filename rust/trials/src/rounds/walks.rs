@@ -3,7 +3,7 @@ use crate::call::{Call, Operation};
 use crate::draft::Draft;
 use crate::trial::{Judged, Trial};
 use crate::{families, random_plans, rounds};
-use reference::plan::{MAX_RULES, work_bytes};
+use reference::plan::{FEW_RULES, work_bytes};
 use reference::unfolded::finger::Finger;
 use reference::{NOWHERE, answers, rules};
 
@@ -20,7 +20,7 @@ pub fn small(trial: &mut Trial, plans: usize, calls: usize) {
 /// Lists of calls on plans whose forests nobody can unfold.
 pub fn large(trial: &mut Trial, plans: usize, calls: usize) {
     for _ in 0..plans {
-        let n = trial.random.pick(&[30, 100, 300, MAX_RULES]);
+        let n = trial.random.pick(&[30, 100, 300, FEW_RULES]);
         let draft = if trial.random.once_in(2) {
             families::any(&mut trial.random, n)
         } else {
@@ -33,7 +33,7 @@ pub fn large(trial: &mut Trial, plans: usize, calls: usize) {
 
 /// One list of calls with one cursor, which begins above the forest. Some calls are refused (8 or 9) and leave the place. Beside it goes a
 /// finger that is fed the letters and lengths alone, where the forest can be unfolded.
-fn list(trial: &mut Trial, draft: &Draft, calls: usize) {
+pub(super) fn list(trial: &mut Trial, draft: &Draft, calls: usize) {
     let plan = draft.plan();
     let mut call = Call::new(Operation::Walk, plan.clone(), draft.n());
     let longer = trial.random.below(40);

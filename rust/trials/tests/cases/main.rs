@@ -10,7 +10,7 @@ use trials::library::Library;
 /// The byte that is everywhere in lent memory before a call.
 const FILL: u8 = b'.';
 /// The most bytes of a plan or cursor.
-const MOST: usize = 65_536;
+const MOST: usize = 1 << 20;
 
 #[test]
 fn every_case_comes_out_as_written() {

@@ -18,6 +18,9 @@ use trials::families::{self, Growth};
 use trials::random::Random;
 
 const SIZES: [usize; 4] = [8, 64, 256, 1024];
+/// Those of a letter and of a call, up to the most rules.
+const SIZES_OF_LETTERS: [usize; 5] = [8, 64, 256, 1024, 16_384];
+const SIZES_OF_CALLS: [usize; 6] = [8, 64, 256, 1024, 4096, 16_384];
 const LETTERS: usize = 10_000;
 
 type Family = fn(usize) -> Draft;
@@ -66,7 +69,7 @@ fn letters(report: &mut Report) {
     );
     report.header(&["family", "n", "f", "l", "n", "p", "u"]);
     for (name, family) in FAMILIES {
-        for n in SIZES {
+        for n in SIZES_OF_LETTERS {
             let draft = family(n);
             let costs = b"flnpu".map(|letter| cost(&draft, &tours::repeating(&draft, letter, LETTERS)).shown());
             report.row(name, n, &costs);
@@ -115,11 +118,12 @@ fn entries(report: &mut Report) -> Vec<(String, Times)> {
 fn calls(report: &mut Report) {
     report.section(
         "A call",
-        "Microseconds a call: library / reference (the one by the other). The walk has no letters and stands above the forest.",
+        "Microseconds a call: library / reference (the one by the other). The walk has no letters and stands above the forest. Up to 1,024 rules a \
+         call clears 64 bytes of work a rule, above that 80.",
     );
     report.header(&["family", "n", "walk without letters", "check", "measure"]);
     for (name, family) in FAMILIES {
-        for n in SIZES {
+        for n in SIZES_OF_CALLS {
             let mut draft = family(n);
             let walk = Desk::new(&draft).time(Operation::Walk, 8) / 1000.0;
             let check = Desk::new(&draft).time(Operation::Check, 64) / 1000.0;
@@ -132,37 +136,43 @@ fn calls(report: &mut Report) {
 
 /// What a call costs by the order of the rules, and what a refusal with 12 does.
 fn orders(report: &mut Report) {
-    const N: usize = 1024;
     report.section(
         "Rules in any order",
-        "Microseconds a call, as above, by the order of 1,024 rules. Those of doubled rows and of combs name lower rules only; then the same backwards, \
+        "Microseconds a call, as above, by the order of the rules. Those of doubled rows and of combs name lower rules only; then the same backwards, \
          naming higher ones only, and in any order. The others are refused with 12: a ring of all rules, whose lowest reaches itself, and a \
-         chain into a last rule that alone does, so that a search from each rule in turn goes through all behind it.",
+         chain into a last rule that alone does, so that a search from each rule in turn goes through all behind it. Of these at 16,384 rules a \
+         figure is the best of 3 rounds.",
     );
     report.header(&["rules", "n", "check", "walk without letters", "measure"]);
-    let (backwards, any): (Vec<u16>, Vec<u16>) = ((0..N as u16).rev().collect(), Random::new(1).order(N));
-    for (name, growth) in [("doubled rows", Growth::Doubled), ("combs", Growth::Comb)] {
-        let mut draft = families::rows(growth, N);
-        tours::start_below(&mut draft, u64::MAX as f64 / 2.0);
-        for (order, draft) in [
-            ("lower only", draft.clone()),
-            ("backwards", draft.renumbered(&backwards)),
-            ("any order", draft.renumbered(&any)),
-        ] {
-            let times = [(Operation::Check, 64), (Operation::Walk, 8), (Operation::Measure, 8)];
-            let times = times.map(|(operation, times)| (Desk::new(&draft).time(operation, times) / 1000.0).shown());
-            report.row(&format!("{name}, {order}"), N, &times);
+    for n in [1024, 16_384] {
+        let (backwards, any): (Vec<u16>, Vec<u16>) = ((0..n as u16).rev().collect(), Random::new(1).order(n));
+        for (name, growth) in [("doubled rows", Growth::Doubled), ("combs", Growth::Comb)] {
+            let mut draft = families::rows(growth, n);
+            tours::start_below(&mut draft, u64::MAX as f64 / 2.0);
+            for (order, draft) in [
+                ("lower only", draft.clone()),
+                ("backwards", draft.renumbered(&backwards)),
+                ("any order", draft.renumbered(&any)),
+            ] {
+                let times = [(Operation::Check, 64), (Operation::Walk, 8), (Operation::Measure, 8)];
+                let times = times.map(|(operation, times)| (Desk::new(&draft).time(operation, times) / 1000.0).shown());
+                report.row(&format!("{name}, {order}"), n, &times);
+            }
         }
-    }
-    for (name, draft, lowest) in [
-        ("a ring of all", cycles::ring(N), 0),
-        ("a ring of all, any order", cycles::ring(N).renumbered(&any), 0),
-        ("a chain into a loop", cycles::chain_into_loop(N), N - 1),
-        ("a chain into a loop, backwards", cycles::chain_into_loop(N).renumbered(&backwards), 0),
-        ("a chain into a loop, any order", cycles::chain_into_loop(N).renumbered(&any), any[N - 1].into()),
-    ] {
-        let check = Desk::refused(&draft, Why::Cycle.at(lowest)).time(Operation::Check, 1) / 1000.0;
-        report.row(name, N, &[check.shown(), "–".to_string(), "–".to_string()]);
+        for (name, draft, lowest) in [
+            ("a ring of all", cycles::ring(n), 0),
+            ("a ring of all, any order", cycles::ring(n).renumbered(&any), 0),
+            ("a chain into a loop", cycles::chain_into_loop(n), n - 1),
+            ("a chain into a loop, backwards", cycles::chain_into_loop(n).renumbered(&backwards), 0),
+            ("a chain into a loop, any order", cycles::chain_into_loop(n).renumbered(&any), any[n - 1].into()),
+        ] {
+            let mut desk = Desk::refused(&draft, Why::Cycle.at(lowest));
+            if n > 1024 {
+                desk.rounds = 3;
+            }
+            let check = desk.time(Operation::Check, 1) / 1000.0;
+            report.row(name, n, &[check.shown(), "–".to_string(), "–".to_string()]);
+        }
     }
 }
 

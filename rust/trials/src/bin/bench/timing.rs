@@ -50,13 +50,15 @@ pub struct Desk {
     place: Vec<u8>,
     /// What the plan is refused with; nothing if it is accepted.
     refused: Option<Refused>,
+    /// Of how many rounds a time is the best.
+    pub rounds: usize,
 }
 
 impl Desk {
     /// Buffers just large enough, written once; the place is above the forest.
     pub fn new(draft: &Draft) -> Desk {
         let call = Call::new(Operation::Walk, draft.plan(), draft.n());
-        Desk { place: call.cursor.clone(), call, refused: None }
+        Desk { place: call.cursor.clone(), call, refused: None, rounds: ROUNDS }
     }
 
     /// The same for a plan that is refused.
@@ -100,7 +102,7 @@ impl Desk {
     /// The time of one call: the best of many rounds of `times` calls, library and reference by turns.
     pub fn time(&mut self, operation: Operation, times: usize) -> Times {
         let mut best = Times::WORST;
-        for _ in 0..ROUNDS {
+        for _ in 0..self.rounds {
             let library = self.round(&mut Library, operation, times);
             let (answers, cursor) = (self.call.answers.clone(), self.call.cursor.clone());
             let reference = self.round(&mut ByRules, operation, times);

@@ -7,8 +7,8 @@ use Rattle.reach.proofs.Orders.{lower-none}
 use Rattle.judge.specs.Judge.{cycleJudged, judged}
 use Rattle.judge.specs.Tested.{Tells}
 use borrow.Author.Needs.{needs}
-use Rattle.judge.proofs.judge.Statement.{statement}
-use Rattle.judge.proofs.judge.Tie as tie
+use Rattle.judge.proofs.judge_many.Statement.{statement}
+use Rattle.judge.proofs.judge_many.Tie as tie
 
 test-rules-requires : tie.Need-test-rules-requires
 test-rules-requires c κs = search needs
@@ -22,9 +22,9 @@ judge-start-requires c κs = search needs
 enum-told-2 : tie.Need-enum-told-2
 enum-told-2 c = search needs
 
-judge-cycles-requires : tie.Need-judge-cycles-requires
+search-many-requires : tie.Need-search-many-requires
 unfolding Tells
-judge-cycles-requires c κs = (c .before .before .before .before .pre .0, c .before .before .before .before .pre .1, subst (Tells _ (let a = c .before .before .before .before .args in recordsFrom (a .format) (now (a .s)) (a .first) (a .n))) (c .enum-told2 .given .1) (c .before .before .test-rules .ensures))
+search-many-requires c κs = record { lies = c .before .before .before .before .pre .0; few = c .before .before .before .before .pre .1; passed = subst (Tells _ (let a = c .before .before .before .before .args in recordsFrom (a .format) (now (a .s)) (a .first) (a .n))) (c .enum-told2 .given .1) (c .before .before .test-rules .ensures) }
 
 enum-known-refusal : tie.Need-enum-known-refusal
 enum-known-refusal c = search needs
@@ -37,21 +37,21 @@ returns c =
 
 returns-2 : tie.Need-returns-2
 unfolding Tells judged
-returns-2 c = c .judge-cycles .ensures ∙ sym (subst (Tells _ (let a = c .before .before .before .before .before .args in recordsFrom (a .format) (now (a .s)) (a .first) (a .n))) (c .before .enum-told2 .given .1) (c .before .before .before .test-rules .ensures) _)
+returns-2 c = c .search-many .ensures ∙ sym (subst (Tells _ (let a = c .before .before .before .before .before .args in recordsFrom (a .format) (now (a .s)) (a .first) (a .n))) (c .before .enum-told2 .given .1) (c .before .before .before .test-rules .ensures) _)
 
 returns-3 : tie.Need-returns-3
 unfolding Tells judged
 returns-3 c = sym (subst (Tells _ (let a = c .before .before .before .before .before .args in recordsFrom (a .format) (now (a .s)) (a .first) (a .n))) (c .before .refusal .given .1) (c .before .before .before .test-rules .ensures) _)
 
-pub judge-spec : {M : Type 1} → statement M
-judge-spec =
+pub judge-many-spec : {M : Type 1} → statement M
+judge-many-spec =
     tie.close
     (tie.spec
     test-rules-requires
     enum-told
     judge-start-requires
     enum-told-2
-    judge-cycles-requires
+    search-many-requires
     enum-known-refusal
     returns
     returns-2
