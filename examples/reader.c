@@ -2,18 +2,22 @@
 
        reader PLAN
 
-   Keys are the letters of plan_walk (a z f l n p u s) and q, which ends; blanks and line ends are passed over.
+   Keys are the letters of plan_walk (a z f l n p u s), m, which remembers the place, =, which asks whether the entry and all below it is the
+   same there and here, and q, which ends; blanks and line ends are passed over.
    All memory is laid out here, once, for the largest plan of either format that this reader takes: the walker keeps nothing and asks for
    nothing. A table-top reader takes few rules, and turns down a plan of more before any call, so that it needs the smaller stack alone. */
 #include "mealplan.h"
 #include <ctype.h>
 #include <stdio.h>
+#include <string.h>
 
+enum { BUDGET = 100000 /* pairs of entries that a reader waits for */ };
 enum { MOST_PLAN = 16384 /* bytes, with its cover */, MOST_RULES = MEALPLAN_FEW_RULES };
 
 static uint8_t plan[MOST_PLAN + 1];
 static uint8_t work[MEALPLAN_WORK_BYTES(MOST_RULES)];
 static uint8_t cursor[MEALPLAN_CURSOR_BYTES(MOST_RULES)]; /* zeros: above the forest */
+static uint8_t remembered[MEALPLAN_CURSOR_BYTES(MOST_RULES)];
 static size_t plan_len;
 
 static int refused(uint32_t number, uint64_t position) {
@@ -72,12 +76,33 @@ static int press(int key) {
     return 0;
 }
 
+/* Remembers the place: its used cells are enough. */
+static int remember(void) {
+    memcpy(remembered, cursor, MEALPLAN_PLACE_BYTES(cursor));
+    return printf("m  remembered\n"), 0;
+}
+
+/* Compares the place with the one remembered; neither is changed. */
+static int compare(void) {
+    uint32_t verdict, count;
+    uint64_t position;
+    uint32_t number = plan_compare(plan, plan_len, work, sizeof work, remembered, sizeof remembered, cursor, sizeof cursor, BUDGET,
+                                   &verdict, &count, &position);
+    if (number == MEALPLAN_PLACE) return printf("=  above the forest\n"), 0;
+    if (number) return refused(number, position);
+    switch (verdict) {
+    case MEALPLAN_SAME: return printf("=  the same, %lu in all\n", (unsigned long)count), 0;
+    case MEALPLAN_DIFFER: return printf("=  another at %lu\n", (unsigned long)count), 0;
+    default: return printf("=  the same up to %lu\n", (unsigned long)count), 0;
+    }
+}
+
 int main(int argc, char **argv) {
     if (argc != 2) return fprintf(stderr, "usage: reader PLAN\n"), 2;
     if (read_plan(argv[1]) || greet()) return 1;
     for (int key; (key = getchar()) != EOF && key != 'q';) {
         if (isspace(key)) continue;
-        if (press(key)) return 1;
+        if (key == 'm' ? remember() : key == '=' ? compare() : press(key)) return 1;
     }
     /* The place could be kept in a file now: it is the first MEALPLAN_PLACE_BYTES(cursor) bytes. */
     printf("stopped with %u cells\n", (unsigned)MEALPLAN_CELLS(cursor));

@@ -3,10 +3,11 @@
    Slices. Every slice is a pointer and a length in bytes. A pointer is never null,
    also where the length is 0. A slice that is written (out, work, cursor, answers)
    lies apart from every other slice of the call, and until the call returns nobody
-   else reads or writes it. Slices that are only read (plan, words, letters) may
-   overlap each other, and until the call returns nobody writes them either. Words
-   of 16 bits are two bytes, low first; an odd last byte isn't counted. Answers are
-   words of 32 bits, four bytes, low first; a rest of one to three isn't counted.
+   else reads or writes it. Slices that are only read (plan, words, letters, first,
+   second) may overlap each other or be one, and until the call returns nobody writes
+   them either. Words of 16 bits are two bytes, low first; an odd last byte isn't
+   counted. Answers are words of 32 bits, four bytes, low first; a rest of one to three
+   isn't counted.
 
    Formats. A plan is narrow or wide, as its mark says; plan_seal is told which by the
    record length, and plan_unseal gives that. In a narrow plan a rule is four words, 8
@@ -71,8 +72,8 @@ extern "C" {
    of both formats goes by MEALPLAN_WIDE, what is to serve for plans of up to n rules by
    n: no length falls where n grows. */
 #define MEALPLAN_WORK_BYTES(n) \
-    ((size_t)((n) > MEALPLAN_FEW_RULES ? 80 : 64) * (n)) /* work of measure, spread and walk */
-#define MEALPLAN_CURSOR_BYTES(n) ((size_t)32 * (n) + 32) /* the cursor */
+    ((size_t)((n) > MEALPLAN_FEW_RULES ? 80 : 64) * (n)) /* work of measure, spread, walk, compare */
+#define MEALPLAN_CURSOR_BYTES(n) ((size_t)32 * (n) + 32) /* a cursor */
 #define MEALPLAN_ANSWERS_BYTES(m) ((size_t)4 * (m))      /* answers to m letters */
 
 /* A plan without cover: out of plan_seal. */
@@ -111,10 +112,11 @@ enum mealplan_refusal {
     MEALPLAN_NOT_BELOW = 5,  /* names a rule not below n */
     MEALPLAN_WRONG_SORT = 6, /* names one of the wrong sort, as one of kind above 5 is */
     MEALPLAN_START = 7,      /* start isn't below n or isn't closed */
-    MEALPLAN_LENT = 8,       /* work or cursor too short, or fewer answers than letters */
+    MEALPLAN_LENT = 8,       /* work or a cursor too short, or fewer answers than letters */
     MEALPLAN_LETTER = 9,     /* a byte outside a z f l n p u s */
     MEALPLAN_PLACE = 10,     /* no letters lead from a place above this forest to these
-                                used cells, or cell 0 has a nonzero later word */
+                                used cells, or cell 0 has a nonzero later word; where
+                                places are compared, one above the forest */
     MEALPLAN_ROOM = 11,      /* output too short; over 2^64 - 1 nodes */
     MEALPLAN_CYCLE = 12      /* some rule reaches itself through the rules it names */
 };
@@ -172,12 +174,33 @@ uint32_t plan_walk(const uint8_t *plan, size_t plan_len,
                    uint8_t *answers, size_t answers_len,
                    uint64_t *position);
 
+/* What plan_compare finds of two places. */
+enum mealplan_verdict {
+    MEALPLAN_SAME = 0,   /* the same nodes below them, and the same labels */
+    MEALPLAN_DIFFER = 1, /* not the same */
+    MEALPLAN_SPENT = 2   /* the budget was spent before that was known */
+};
+
+/* Compare the subtrees at the places in first and second: 1 to 6, 12, 7, 8, 10. All
+   nodes of each, in reading order with label and level below its top, stand against
+   each other pair by pair. Accepted: *verdict is as above, *count the place, from 1, of
+   the first pair that differs, a node against an ended list included, or their common
+   length. Spent comes where that number is above the budget, and then always, and
+   *count is the budget: a larger budget changes no same and no differ. 10 is the first
+   place's, then the second's. work as for plan_measure; first and second are only read. */
+uint32_t plan_compare(const uint8_t *plan, size_t plan_len,
+                      uint8_t *work, size_t work_len,
+                      const uint8_t *first, size_t first_len,
+                      const uint8_t *second, size_t second_len,
+                      uint32_t budget, uint32_t *verdict, uint32_t *count,
+                      uint64_t *position);
+
 /* What the library takes of a device, in bytes, at most; tests/stack.sh measures it.
 
-   Code with its constants, of all six functions, and of plan_check and plan_walk
+   Code with its constants, of all seven functions, and of plan_check and plan_walk
    alone where the linker drops what isn't used (--gc-sections). There are no data and
    no bss, and the one function that the library calls is memset. */
-#define MEALPLAN_CODE_BYTES 18432
+#define MEALPLAN_CODE_BYTES 22528
 #define MEALPLAN_CODE_BYTES_CHECK_WALK 13312
 
 /* Stack: the deepest chain of calls (there is no recursion) with the return address,
@@ -195,6 +218,7 @@ uint32_t plan_walk(const uint8_t *plan, size_t plan_len,
 #define MEALPLAN_STACK_MEASURE 5120
 #define MEALPLAN_STACK_SPREAD 5120
 #define MEALPLAN_STACK_WALK 5120
+#define MEALPLAN_STACK_COMPARE 5120
 
 /* For each function, whatever the plan or the words: */
 #define MEALPLAN_STACK_MANY 73728

@@ -12,9 +12,10 @@ enum { MOST = MEALPLAN_MOST_RULES, FEW = MEALPLAN_FEW_RULES, NARROW = MEALPLAN_N
 static uint8_t sample[74], wide[90];
 static uint8_t plan[MEALPLAN_PLAN_BYTES(MOST + 1, WIDE)], words[MEALPLAN_WORDS_BYTES(MOST + 1, WIDE)];
 static uint8_t out[MEALPLAN_PLAN_BYTES(MOST, WIDE) + 1], work[MEALPLAN_WORK_BYTES(MOST) + 1];
-static uint8_t cursor[MEALPLAN_CURSOR_BYTES(MOST) + 1], answers[MEALPLAN_ANSWERS_BYTES(8)];
+static uint8_t cursor[MEALPLAN_CURSOR_BYTES(MOST) + 1], second[MEALPLAN_CURSOR_BYTES(MOST) + 1], answers[MEALPLAN_ANSWERS_BYTES(8)];
 static uint16_t record_length, n, start;
 static uint64_t trees, entries, levels, written, position;
+static uint32_t verdict, count;
 static unsigned calls, seen;
 
 /* What came is what was to come. */
@@ -49,6 +50,12 @@ static uint32_t walk(const uint8_t *bytes, size_t length, const char *letters) {
                      strlen(letters), answers, MEALPLAN_ANSWERS_BYTES(strlen(letters)), &position);
 }
 
+/* A comparison of the places in cursor and second, likewise. */
+static uint32_t compare(const uint8_t *bytes, size_t length, uint32_t budget) {
+    return plan_compare(bytes, length, work, MEALPLAN_WORK_BYTES(n), cursor, MEALPLAN_CURSOR_BYTES(n), second,
+                        MEALPLAN_CURSOR_BYTES(n), budget, &verdict, &count, &position);
+}
+
 static uint32_t seal(size_t length, uint16_t record, size_t room) {
     return plan_seal(words, length, record, start, out, room, &written, &position);
 }
@@ -74,6 +81,9 @@ static void lengths(const uint8_t *bytes, size_t length) {
     NEEDS(w, MEALPLAN_LENT, plan_walk(bytes, length, work, LENGTH, cursor, c, az, 2, answers, a, &position));
     NEEDS(c, MEALPLAN_LENT, plan_walk(bytes, length, work, w, cursor, LENGTH, az, 2, answers, a, &position));
     NEEDS(a, MEALPLAN_LENT, plan_walk(bytes, length, work, w, cursor, c, az, 2, answers, LENGTH, &position));
+    for (int less = 0; less < 4; less++) /* with nothing less a place above the forest is refused */
+        gives("compare above the forest", plan_compare(bytes, length, work, w - (less == 1), cursor, c - (less == 2), second,
+              c - (less == 3), 9, &verdict, &count, &position), less ? MEALPLAN_LENT : MEALPLAN_PLACE, 0);
     memset(cursor, 0, sizeof cursor);
 }
 
@@ -204,6 +214,7 @@ static void orders(void) {
     gives("and measured", plan_measure(plan, sizeof sample, work, 0, &trees, &entries, &levels, &position), MEALPLAN_CYCLE, 7);
     gives("and spread", plan_spread(plan, sizeof sample, work, 0, out, 0, &written, &position), MEALPLAN_CYCLE, 7);
     gives("and walked", walk(plan, sizeof sample, "x"), MEALPLAN_CYCLE, 7);
+    gives("and compared", compare(plan, sizeof sample, 0), MEALPLAN_CYCLE, 7);
 }
 
 /* The two formats: record lengths, marks, and what a wide plan's words may be. */
@@ -298,6 +309,73 @@ static void places(void) {
     want("the byte past the cursor", cursor[MEALPLAN_CURSOR_BYTES(8)], 255);
 }
 
+/* Takes the place in cursor for the second, and letters from above the forest for the first. */
+static void stand(const uint8_t *bytes, size_t length, const char *letters) {
+    memcpy(second, cursor, sizeof second);
+    memset(cursor, 0, sizeof cursor);
+    gives(letters, walk(bytes, length, letters), MEALPLAN_ACCEPTED, 0);
+}
+
+/* What a comparison finds, at a budget. */
+static void finds(const char *what, const uint8_t *bytes, size_t length, uint32_t budget, uint32_t found, uint32_t number) {
+    static uint8_t first_before[sizeof cursor], second_before[sizeof second];
+    memcpy(first_before, cursor, sizeof cursor), memcpy(second_before, second, sizeof second);
+    memset(work, 3, sizeof work);
+    gives(what, compare(bytes, length, budget), MEALPLAN_ACCEPTED, 0);
+    want(what, verdict, found);
+    want(what, count, number);
+    want("both cursors are only read", !memcmp(first_before, cursor, sizeof cursor) && !memcmp(second_before, second, sizeof second), 1);
+    for (size_t i = 0; i <= MEALPLAN_WORK_BYTES(n); i++) want("work", work[i], i < MEALPLAN_WORK_BYTES(n) ? 0 : 3);
+}
+
+/* A comparison that is refused, and leaves the numbers alone. */
+static void turned_down(const char *what, uint32_t refusal) {
+    verdict = count = 77;
+    gives(what, compare(sample, sizeof sample, 9), refusal, 0);
+    want("the numbers are left alone", verdict == 77 && count == 77, 1);
+}
+
+/* Two places of the sample plans: each verdict, each refusal, the lengths. */
+static void compared(void) {
+    static const struct { const uint8_t *bytes; size_t length; } plans[] = {{sample, sizeof sample}, {wide, sizeof wide}};
+    for (int i = 0; i < 2; i++) {
+        const uint8_t *bytes = plans[i].bytes;
+        size_t length = plans[i].length;
+        check(bytes, length);
+        stand(bytes, length, "a"), stand(bytes, length, "a");
+        finds("the first tree and itself", bytes, length, 4294967295u, MEALPLAN_SAME, 9);
+        finds("as many pairs as the budget", bytes, length, 9, MEALPLAN_SAME, 9);
+        finds("more pairs than the budget", bytes, length, 8, MEALPLAN_SPENT, 8);
+        finds("a budget of 0", bytes, length, 0, MEALPLAN_SPENT, 0);
+        gives("one cursor twice", plan_compare(bytes, length, work, sizeof work, cursor, sizeof cursor, cursor, sizeof cursor, 9,
+              &verdict, &count, &position), MEALPLAN_ACCEPTED, 0);
+        want("is the same", verdict == MEALPLAN_SAME && count == 9, 1);
+        stand(bytes, length, "afnn");
+        finds("the tree in its hole", bytes, length, 4294967295u, MEALPLAN_DIFFER, 4);
+        finds("the fourth pair", bytes, length, 4, MEALPLAN_DIFFER, 4);
+        finds("three pairs", bytes, length, 3, MEALPLAN_SPENT, 3);
+        stand(bytes, length, "afn"), stand(bytes, length, "z");
+        finds("two leaves", bytes, length, 1, MEALPLAN_SAME, 1);
+        size_t w = MEALPLAN_WORK_BYTES(n), c = MEALPLAN_CURSOR_BYTES(n);
+        NEEDS(w, MEALPLAN_LENT, plan_compare(bytes, length, work, LENGTH, cursor, c, second, c, 9, &verdict, &count, &position));
+        NEEDS(c, MEALPLAN_LENT, plan_compare(bytes, length, work, w, cursor, LENGTH, second, c, 9, &verdict, &count, &position));
+        NEEDS(c, MEALPLAN_LENT, plan_compare(bytes, length, work, w, cursor, c, second, LENGTH, 9, &verdict, &count, &position));
+    }
+    check(sample, sizeof sample);
+    cursor[2] = 1;
+    turned_down("a later word of the first cell 0", MEALPLAN_PLACE);
+    memset(cursor, 0, sizeof cursor);
+    turned_down("the first above the forest", MEALPLAN_PLACE);
+    stand(sample, sizeof sample, "a");
+    turned_down("the second above the forest", MEALPLAN_PLACE);
+    second[0] = 1;
+    turned_down("a cell that leads nowhere", MEALPLAN_PLACE);
+    verdict = count = 77;
+    gives("a plan cut short", compare(sample, sizeof sample - 1, 9), MEALPLAN_MAGIC, 0);
+    want("the numbers are left alone", verdict == 77 && count == 77, 1);
+    memset(cursor, 0, sizeof cursor);
+}
+
 /* Reads a plan of so many bytes from a file; says whether it is there. */
 static int read_plan(const char *name, uint8_t *bytes, size_t length) {
     FILE *file = fopen(name, "rb");
@@ -318,6 +396,7 @@ int main(int argc, char **argv) {
     widely();
     sampled();
     places();
+    compared();
     want("0 and every refusal came, as bits", seen, (1u << (MEALPLAN_CYCLE + 1)) - 1);
     printf("interface: %u calls as the header and documents 01 and 02 say\n", calls);
     return 0;

@@ -47,6 +47,56 @@ s  97 a
 stopped with 4 cells
 END
 
+# The place of a key m compared with that of a key =: above the forest, with itself, with the tree in its hole, of two leaves.
+shows samples/plan.bin '=m=am=fnn=f m n=m u u n=n=q' 0 <<'END'
+8 rules, start 7: 3 trees, 11 entries, 3 levels
+=  above the forest
+m  remembered
+=  above the forest
+a  99 c
+m  remembered
+=  the same, 9 in all
+f  97 a
+n  98 b
+n  99 c
+=  another at 4
+f  97 a
+m  remembered
+n  98 b
+=  another at 1
+m  remembered
+u  99 c
+u  99 c
+n  97 a
+=  another at 1
+n  98 b
+=  the same, 1 in all
+stopped with 3 cells
+END
+
+# Two nodes over one row of 2^20 leaves, doubled twenty times, which is more than the reader's budget.
+{
+    printf '\0\0\0\0\0\0\0\0\2\0a\0\0\0\0\0'
+    for rule in $(seq 1 20); do
+        octal=$(printf '%o' "$rule")
+        printf "\\1\\0\\$octal\\0\\$octal\\0\\0\\0"
+    done
+    printf '\2\0b\0\25\0\0\0\1\0\26\0\26\0\0\0\30\0\27\0\300\0\0\0mp'
+} >"$build/doubled"
+shows "$build/doubled" 'amn=f=mn=' 0 <<'END'
+24 rules, start 23: 2 trees, 2097154 entries, 2 levels
+a  98 b
+m  remembered
+n  98 b
+=  the same up to 100000
+f  97 a
+=  another at 1
+m  remembered
+n  97 a
+=  the same, 1 in all
+stopped with 7 cells
+END
+
 shows samples/wide.bin 'afnnfnnnnununnnq' 0 <<'END'
 8 wide rules, start 7: 3 trees, 11 entries, 3 levels
 a  16777215

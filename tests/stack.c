@@ -8,16 +8,16 @@
 #include <string.h>
 #include <ucontext.h>
 
-enum { MOST = MEALPLAN_MOST_RULES, LETTERS = 4096, TEXT = 1 << 20 };
+enum { MOST = MEALPLAN_MOST_RULES, LETTERS = 4096, TEXT = 1 << 20, BUDGET = 1 << 16, FUNCTIONS = 7 };
 
 static uint8_t words[MEALPLAN_WORDS_BYTES(MOST, MEALPLAN_WIDE)], plan[MEALPLAN_PLAN_BYTES(MOST, MEALPLAN_WIDE)];
-static uint8_t work[MEALPLAN_WORK_BYTES(MOST)], cursor[MEALPLAN_CURSOR_BYTES(MOST)];
+static uint8_t work[MEALPLAN_WORK_BYTES(MOST)], cursor[MEALPLAN_CURSOR_BYTES(MOST)], root[MEALPLAN_CURSOR_BYTES(MOST)];
 static uint8_t letters[LETTERS], answers[MEALPLAN_ANSWERS_BYTES(LETTERS)], out[TEXT];
 static uint16_t record, n, start;
 static uint16_t rules, format, first; /* of the plan that is tried: its rules, the record length, and the start that is lent to seal */
 static size_t words_len, plan_len;
 static uint64_t trees, entries, levels, written, position;
-static uint32_t result;
+static uint32_t verdict, pairs, result;
 
 /* The library's memset is this one, so that the figures are the library's own. */
 void *memset(void *s, int value, size_t length) {
@@ -46,6 +46,11 @@ static void walk(void) {
     CALL(plan_walk, plan, plan_len, work, sizeof work, cursor, sizeof cursor, letters, LETTERS, answers, sizeof answers, &position);
 }
 
+/* The place where the walk ended, and the first tree. */
+static void compare(void) {
+    CALL(plan_compare, plan, plan_len, work, sizeof work, cursor, sizeof cursor, root, sizeof root, BUDGET, &verdict, &pairs, &position);
+}
+
 /* The bytes of stack that a call used, the deeper of two stacks painted differently. */
 static size_t used(void (*call)(void)) {
     static uint8_t area[1 << 17] __attribute__((aligned(16)));
@@ -71,10 +76,11 @@ static struct function {
     const char *name;
     void (*call)(void);
     size_t bound, most;
-} functions[] = {
+} functions[FUNCTIONS] = {
     {"plan_seal", seal, MEALPLAN_STACK_SEAL, 0},          {"plan_check", check, MEALPLAN_STACK_CHECK, 0},
     {"plan_unseal", unseal, MEALPLAN_STACK_UNSEAL, 0},    {"plan_measure", measure, MEALPLAN_STACK_MEASURE, 0},
     {"plan_spread", spread, MEALPLAN_STACK_SPREAD, 0},    {"plan_walk", walk, MEALPLAN_STACK_WALK, 0},
+    {"plan_compare", compare, MEALPLAN_STACK_COMPARE, 0},
 };
 
 /* Any number below a bound: xorshift, the same at every run. */
@@ -193,6 +199,7 @@ static void build(const struct shape *s) {
     if (s->holed) rule(rules - 1, 3, rules - 2, 1, 0);
     for (size_t i = 0; i < LETTERS; i++) letters[i] = (uint8_t)"azfflnnnnppppus"[below(15)];
     memset(cursor, 0, sizeof cursor);
+    memset(root, 0, sizeof root);
 }
 
 static const struct format {
@@ -208,7 +215,8 @@ static int tried(const struct shape *s, const struct order *o, const struct form
     build(s);
     uint64_t lowest = renumber(o);
     lay_out();
-    for (struct function *f = functions; f < functions + 6; f++) {
+    plan_walk(plan, plan_len, work, sizeof work, root, sizeof root, (const uint8_t *)"a", 1, answers, sizeof answers, &position);
+    for (struct function *f = functions; f < functions + FUNCTIONS; f++) {
         size_t bytes = used(f->call);
         if (f->most < bytes) f->most = bytes;
         int large = (f->call == measure || f->call == spread) && result == MEALPLAN_ROOM;
@@ -228,13 +236,13 @@ static int tried(const struct shape *s, const struct order *o, const struct form
 static int measured(uint16_t count, size_t bound) {
     int failed = 0;
     rules = count;
-    for (struct function *f = functions; f < functions + 6; f++) f->most = 0;
+    for (struct function *f = functions; f < functions + FUNCTIONS; f++) f->most = 0;
     for (size_t s = 0; s < sizeof shapes / sizeof *shapes; s++)
         for (size_t o = 0; o < sizeof orders / sizeof *orders; o++)
             for (size_t f = 0; f < sizeof formats / sizeof *formats; f++)
                 if (rules <= MEALPLAN_FEW_RULES || !orders[o].cycle || (s == 0 && f == 0))
                     failed |= tried(&shapes[s], &orders[o], &formats[f]) != 0;
-    for (struct function *f = functions; f < functions + 6; f++) {
+    for (struct function *f = functions; f < functions + FUNCTIONS; f++) {
         size_t stated = bound ? bound : f->bound;
         int bad = stated < f->most || 2 * f->most < stated;
         printf("%s, painted, on plans of %u rules: %zu bytes of stack used, %zu stated%s\n", f->name, rules, f->most, stated,

@@ -12,7 +12,7 @@ build=$(mktemp -d)
 trap 'rm -rf "$build"' EXIT
 rt staticlib mealplan >"$build/log" 2>&1 || { cat "$build/log"; exit 1; }
 library=target/staticlib/libmealplan.a
-functions="check seal unseal measure spread walk"
+functions="check seal unseal measure spread walk compare"
 
 fail() {
     echo "stack: $1"
@@ -81,7 +81,7 @@ depths() {
 }
 depths "" >"$build/any"
 depths "$many" >"$build/few"
-for sums in any few; do [ "$(wc -l <"$build/$sums")" -eq 6 ] || fail "the chains of calls were not found"; done
+for sums in any few; do [ "$(wc -l <"$build/$sums")" -eq 7 ] || fail "the chains of calls were not found"; done
 while read -r f bytes; do within "stack of plan_$f along its calls, any plan" "$bytes" STACK_MANY; done <"$build/any"
 while read -r f bytes; do within "stack of plan_$f along its calls, without those through $many" "$bytes" "STACK_${f^^}"; done <"$build/few"
 

@@ -5,6 +5,7 @@ use Rattle.plan.specs.declared.Checked.{Checked}
 use Rattle.plan.specs.declared.Written.{Written}
 use Rattle.unseal.specs.declared.Unsealed.{Unsealed}
 use Rattle.refusal.specs.Refusal.{numberOf, positionOf}
+use Rattle.forest.specs.declared.Compared.{Compared}
 use Rattle.forest.specs.declared.Measured.{Measured}
 use Rattle.forest.specs.declared.Walked.{Walked}
 
@@ -29,6 +30,12 @@ unfoldable pub walkedResult : Walked → ℕ
 walkedResult Walked.Accepted = 0
 walkedResult (Walked.Refused r) = numberOf r
 
+unfoldable pub comparedResult : Compared → ℕ
+comparedResult (Compared.Same k) = 0
+comparedResult (Compared.Differ k) = 0
+comparedResult (Compared.Spent k) = 0
+comparedResult (Compared.Refused r) = numberOf r
+
 -- the position: 0 when accepted
 unfoldable pub checkedPosition : Checked → ℕ
 checkedPosition (Checked.Accepted n start) = 0
@@ -49,6 +56,12 @@ measuredPosition (Measured.Refused r) = positionOf r
 unfoldable pub walkedPosition : Walked → ℕ
 walkedPosition Walked.Accepted = 0
 walkedPosition (Walked.Refused r) = positionOf r
+
+unfoldable pub comparedPosition : Compared → ℕ
+comparedPosition (Compared.Same k) = 0
+comparedPosition (Compared.Differ k) = 0
+comparedPosition (Compared.Spent k) = 0
+comparedPosition (Compared.Refused r) = positionOf r
 
 -- the values, over what stood there
 unfoldable pub countAfter : Checked → ℕ → ℕ
@@ -86,3 +99,16 @@ entriesAfter (Measured.Refused r) old = old
 unfoldable pub levelsAfter : Measured → ℕ → ℕ
 levelsAfter (Measured.Counts t e l) old = l
 levelsAfter (Measured.Refused r) old = old
+
+-- document 02, Note 4: "same, differ or spent, and a count"
+unfoldable pub verdictAfter : Compared → ℕ → ℕ
+verdictAfter (Compared.Same k) old = 0
+verdictAfter (Compared.Differ k) old = 1
+verdictAfter (Compared.Spent k) old = 2
+verdictAfter (Compared.Refused r) old = old
+
+unfoldable pub pairsAfter : Compared → ℕ → ℕ
+pairsAfter (Compared.Same k) old = k
+pairsAfter (Compared.Differ k) old = k
+pairsAfter (Compared.Spent k) old = k
+pairsAfter (Compared.Refused r) old = old

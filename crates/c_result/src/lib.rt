@@ -1,4 +1,5 @@
 // Answers given as numbers: each function gives the result for an answer and writes behind pointers what belongs there.
+use forest::Compared;
 use forest::Measured;
 use forest::Walked;
 use plan::Checked;
@@ -7,6 +8,7 @@ use unseal::Unsealed;
 ghost use mathlib.Core.Path.{_≡_};
 ghost use Rattle.c_result.specs.Interface.{measuredResult, measuredPosition, treesAfter, entriesAfter, levelsAfter};
 ghost use Rattle.c_result.specs.Interface.{checkedResult, writtenResult, checkedPosition, writtenPosition, countAfter};
+ghost use Rattle.c_result.specs.Interface.{comparedResult, comparedPosition, verdictAfter, pairsAfter};
 ghost use Rattle.c_result.specs.Interface.{startAfter, lengthAfter, walkedResult, walkedPosition};
 ghost use Rattle.c_result.specs.Interface.{unsealedResult, unsealedPosition, unsealedLength, unsealedCount, unsealedStart};
 
@@ -152,6 +154,57 @@ pub fn give_walked(answer: Walked, position: &mut u64) -> u32
             0
         }
         Walked::Refused(refusal) => {
+            *position = refusal.position();
+            refusal.number()
+        }
+    }
+}
+
+// The numbers of the verdicts.
+const SAME: u32 = 0;
+
+const DIFFER: u32 = 1;
+
+const SPENT: u32 = 2;
+
+// What a compared answer leaves behind the pointers, and the result.
+pub fn give_compared(
+    answer: Compared,
+    verdict: &mut u32,
+    count: &mut u32,
+    position: &mut u64,
+) -> u32
+    ensures { λ r.
+        let verdict′ = now (verdict .exit) in
+        let count′ = now (count .exit) in
+        let position′ = now (position .exit) in
+        let verdict = now (verdict .entry) in
+        let count = now (count .entry) in
+        ⌜ (r ≡ comparedResult answer)
+        × (verdict′ ≡ verdictAfter answer verdict)
+        × (count′ ≡ pairsAfter answer count)
+        × (position′ ≡ comparedPosition answer) ⌝ }
+{
+    match answer {
+        Compared::Same(pairs) => {
+            *verdict = SAME;
+            *count = pairs;
+            *position = 0;
+            0
+        }
+        Compared::Differ(place) => {
+            *verdict = DIFFER;
+            *count = place;
+            *position = 0;
+            0
+        }
+        Compared::Spent(budget) => {
+            *verdict = SPENT;
+            *count = budget;
+            *position = 0;
+            0
+        }
+        Compared::Refused(refusal) => {
             *position = refusal.position();
             refusal.number()
         }

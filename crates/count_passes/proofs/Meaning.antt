@@ -3,39 +3,46 @@
 use Prim.Native.Nat.{ℕ, suc, _+_, _≤_, max}
 use native.Mathlib.Omega.{arith}
 use mathlib.Core.Path.{_≡_, refl, sym, _∙_, ap, ap₂}
-use mathlib.Core.List.{List, [], _∷_, _++_}
+use mathlib.Core.List.{List, _++_}
 use Rattle.record.specs.declared.Format.{Format}
 use Rattle.forest.specs.Expression.{Expression}
 use Rattle.forest.specs.Algebra.{value}
 use Rattle.forest.specs.Forest.{Forest, trees, count, weigh, one, levels, text}
+use Rattle.forest.specs.Spelling.{Spelling, spelled, inBytes}
 use Rattle.forest.specs.Outcome.{entry}
 use Rattle.forest.specs.Good.{Sort, Good}
-use Rattle.forest.proofs.Counts.{count-pair, weigh-pair, levels-pair, text-pair, weigh-node, levels-node, text-node, weigh-part, levels-part, holeDepth, holeDepth-part, holeDepth-join, weigh-fill, levels-fill, count-tree, count-spine, text-fill, before as textBefore, after as textAfter}
+use Rattle.forest.proofs.Counts.{count-pair, weigh-pair, levels-pair, weigh-node, levels-node, weigh-part, levels-part, holeDepth, holeDepth-part, holeDepth-join, weigh-fill, levels-fill, count-tree, count-spine}
+use Rattle.forest.proofs.Spelled.{text-spelled, spelled-pair, spelled-node, spelled-fill, before as spelledBefore, after as spelledAfter}
 use Rattle.count_passes.specs.Recurrence.{nodesIn, treesIn, depthIn, levelsIn}
-use Rattle.count_passes.specs.Says.{whole, before, after, opened, closing, says}
+use Rattle.count_passes.specs.Says.{whole, before, after, spoken, says}
 
--- what says is, by sort: a closed expression's text; of a holed one the texts on both sides of the hole
-module _ (f : Format) where
+-- what spoken is, by sort: a closed expression's forest, spelled; of a holed one what stands on both sides of the hole
+module _ (x : Spelling) where
   abbrev pub Told : Sort → Expression → Type 0
-  Told Sort.row e = says f e whole ≡ text f (trees (value e))
-  Told Sort.tree e = says f e whole ≡ text f (trees (value e))
-  Told Sort.spine e = (says f e before ≡ textBefore f e) × (says f e after ≡ textAfter f e)
+  Told Sort.row e = spoken x e whole ≡ spelled x (trees (value e))
+  Told Sort.tree e = spoken x e whole ≡ spelled x (trees (value e))
+  Told Sort.spine e = (spoken x e before ≡ spelledBefore x e) × (spoken x e after ≡ spelledAfter x e)
 
   told-fill : (r : ℕ) (b c : Expression) → Good Sort.spine b → Told Sort.spine b → Told Sort.tree c → Told Sort.tree (Expression.fill r b c)
-  unfolding says value
-  told-fill r b c g p q = rw (p .0, p .1, q) (sym (text-fill f g (value c)))
+  unfolding spoken value
+  told-fill r b c g p q = rw (p .0, p .1, q) (sym (spelled-fill x g (value c)))
 
-  pub told : {s : Sort} {e : Expression} → Good s e → Told s e
-  unfolding says value trees text textBefore textAfter
-  told Good.empty = refl
-  told (Good.pair {r = r} {b = b} {c = c} g h) = ap₂ _++_ (told g) (told h) ∙ sym (text-pair r b c f)
-  told (Good.grown g) = told g
-  told (Good.node {r = r} {a = a} {c = c} g) =
-      ap (λ (l : List ℕ). opened f a ++ (l ++ (closing ∷ []))) (told g) ∙ sym (text-node r a c f)
-  told (Good.fill {r = r} {b = b} {c = c} g h) = told-fill r b c g (told g) (told h)
-  told (Good.part {a = a} g h) =
-      (ap (λ (l : List ℕ). opened f a ++ l) (told g), ap (λ (l : List ℕ). l ++ (closing ∷ [])) (told h))
-  told (Good.join g h) = (ap₂ _++_ (told g .0) (told h .0), ap₂ _++_ (told h .1) (told g .1))
+  pub spoken-spelled : {s : Sort} {e : Expression} → Good s e → Told s e
+  unfolding spoken value trees spelled spelledBefore spelledAfter
+  spoken-spelled Good.empty = refl
+  spoken-spelled (Good.pair {r = r} {b = b} {c = c} g h) = ap₂ _++_ (spoken-spelled g) (spoken-spelled h) ∙ sym (spelled-pair x r b c)
+  spoken-spelled (Good.grown g) = spoken-spelled g
+  spoken-spelled (Good.node {r = r} {a = a} {c = c} g) =
+      ap (λ (l : List ℕ). x .opens a ++ (l ++ x .closes)) (spoken-spelled g) ∙ sym (spelled-node x r a c)
+  spoken-spelled (Good.fill {r = r} {b = b} {c = c} g h) = told-fill r b c g (spoken-spelled g) (spoken-spelled h)
+  spoken-spelled (Good.part {a = a} g h) =
+      (ap (λ (l : List ℕ). x .opens a ++ l) (spoken-spelled g), ap (λ (l : List ℕ). l ++ x .closes) (spoken-spelled h))
+  spoken-spelled (Good.join g h) =
+      (ap₂ _++_ (spoken-spelled g .0) (spoken-spelled h .0), ap₂ _++_ (spoken-spelled h .1) (spoken-spelled g .1))
+
+-- in bytes: the text
+pub told : (f : Format) {e : Expression} → Good Sort.row e → says f e whole ≡ text f (trees (value e))
+told f {e} g = spoken-spelled (inBytes f) g ∙ text-spelled f (trees (value e))
 
 -- the sum of a weight over all nodes
 pub nodes-value : (w : ℕ → ℕ) {s : Sort} {e : Expression} → Good s e → nodesIn w e ≡ weigh w (trees (value e))

@@ -8,6 +8,7 @@ use Rattle.words.specs.Number.{bytes}
 use Rattle.record.specs.declared.Format.{Format}
 use Rattle.record.specs.Format.{labelLength}
 use Rattle.forest.specs.Expression.{Expression}
+use Rattle.forest.specs.Spelling.{Spelling, inBytes}
 
 -- which part of the text
 abbrev pub whole : ℕ
@@ -30,10 +31,15 @@ closing = 41
 abbrev pub opened : Format → ℕ → List ℕ
 opened f a = opening ∷ bytes (labelLength f) a
 
-unfoldable pub says : Format → Expression → ℕ → List ℕ
-says f (Expression.empty r) p = []
-says f (Expression.pair r b c) p = says f b whole ++ says f c whole
-says f (Expression.node r a c) p = opened f a ++ (says f c whole ++ (closing ∷ []))
-says f (Expression.fill r b c) p = says f b before ++ (says f c whole ++ says f b after)
-says f (Expression.part r a b c) p = cond (eqb p before) (opened f a ++ says f b whole) (says f c whole ++ (closing ∷ []))
-says f (Expression.join r b c) p = cond (eqb p before) (says f b before ++ says f c before) (says f c after ++ says f b after)
+-- the same in any spelling: what opens a node, and what closes it
+unfoldable pub spoken : Spelling → Expression → ℕ → List ℕ
+spoken x (Expression.empty r) p = []
+spoken x (Expression.pair r b c) p = spoken x b whole ++ spoken x c whole
+spoken x (Expression.node r a c) p = x .opens a ++ (spoken x c whole ++ x .closes)
+spoken x (Expression.fill r b c) p = spoken x b before ++ (spoken x c whole ++ spoken x b after)
+spoken x (Expression.part r a b c) p = cond (eqb p before) (x .opens a ++ spoken x b whole) (spoken x c whole ++ x .closes)
+spoken x (Expression.join r b c) p = cond (eqb p before) (spoken x b before ++ spoken x c before) (spoken x c after ++ spoken x b after)
+
+-- in bytes
+abbrev pub says : Format → Expression → ℕ → List ℕ
+says f e p = spoken (inBytes f) e p

@@ -1,5 +1,5 @@
--- What counts and text do under append, relabel and substitution, and so what each right-hand side adds: the sums, the largest
--- and the text of both. A value with a hole is counted without its hole, and what is put into the hole is counted once, below
+-- What counts do under append, relabel and substitution, and so what each right-hand side adds: the sums and the largest of both. A
+-- value with a hole is counted without its hole, and what is put into the hole is counted once, below
 -- the nodes over the hole. Assumes nothing.
 use Prim.Native.Nat.{ℕ, suc, _+_, _*_, _/_, _%_, _≤_, _<_, max}
 use native.Mathlib.Nat.{zero-mul, one-mul, suc-mul, add-mul}
@@ -7,7 +7,7 @@ use native.Mathlib.Omega.{arith}
 use mathlib.Core.Logic.{_≢_}
 use mathlib.Core.Path.{_≡_, refl, sym, _∙_, ap, ap₂}
 use mathlib.Core.Bool.{Bool, true, false, cond}
-use mathlib.Core.List.{List, [], _∷_, _++_, append-assoc}
+use mathlib.Core.List.{_∷_, _++_}
 use lib.ListN.{length, length-append}
 use lib.Dec.{eqb}
 use borrow.Author.Tests.{eq-eqb, ne-eqb, eqb-true, eqb-false}
@@ -21,7 +21,7 @@ use Rattle.forest.specs.Sizes.{holes}
 use Rattle.forest.specs.Forest.{Forest, append, trees, relabel, count, weigh, one, levels, text}
 use Rattle.forest.specs.Outcome.{nodeLength}
 use Rattle.forest.specs.Good.{Sort, Good}
-use Rattle.forest.proofs.Values.{holes-concat, holes-⟨⟩, closed-⟨⟩, concat-⟨⟩, ⟨⟩-assoc, value-node, value-part, value-holes, OneTree, tree-value, spine-value}
+use Rattle.forest.proofs.Values.{holes-concat, holes-⟨⟩, closed-⟨⟩, value-node, value-part, value-holes, OneTree, tree-value, spine-value}
 use Rattle.forest.proofs.Forget.{trees-concat}
 
 module _ {A : Type 0} where
@@ -52,11 +52,6 @@ module _ {A : Type 0} where
   levels-nodes (Forest.tree a c f) = omega (arith, levels-nodes c, levels-nodes f)
 
 module _ (f : Format) where
-  pub text-append : (g h : Forest ℕ) → text f (append g h) ≡ text f g ++ text f h
-  unfolding append text
-  text-append Forest.none h = refl
-  text-append (Forest.tree a c g) h = rw (text-append g h) (simp append-assoc)
-
   -- the label's bytes and two more a node
   pub text-length : (g : Forest ℕ) → length (text f g) ≡ nodeLength f * weigh one g
   unfolding text weigh
@@ -172,7 +167,7 @@ holeDepth-⟨⟩ f g p q = depth-holed g (holed f p) q
 
 -- What each right-hand side adds: pairs first
 module _ (r : ℕ) (b c : Expression) where
-  pair-trees : trees (value (Expression.pair r b c)) ≡ append (trees (value b)) (trees (value c))
+  pub pair-trees : trees (value (Expression.pair r b c)) ≡ append (trees (value b)) (trees (value c))
   unfolding value
   pair-trees = trees-concat (value b) (value c)
 
@@ -185,12 +180,9 @@ module _ (r : ℕ) (b c : Expression) where
   pub levels-pair : levels (trees (value (Expression.pair r b c))) ≡ max (levels (trees (value b))) (levels (trees (value c)))
   levels-pair = ap levels pair-trees ∙ levels-append (trees (value b)) (trees (value c))
 
-  pub text-pair : (f : Format) → text f (trees (value (Expression.pair r b c))) ≡ text f (trees (value b)) ++ text f (trees (value c))
-  text-pair f = ap (text f) pair-trees ∙ text-append f (trees (value b)) (trees (value c))
-
 -- a node over C
 module _ (r a : ℕ) (c : Expression) where
-  node-trees : trees (value (Expression.node r a c)) ≡ Forest.tree a (trees (value c)) Forest.none
+  pub node-trees : trees (value (Expression.node r a c)) ≡ Forest.tree a (trees (value c)) Forest.none
   unfolding trees
   node-trees = ap trees (value-node r a c)
 
@@ -201,10 +193,6 @@ module _ (r a : ℕ) (c : Expression) where
   pub levels-node : levels (trees (value (Expression.node r a c))) ≡ suc (levels (trees (value c)))
   unfolding levels
   levels-node = ap levels node-trees ∙ omega arith
-
-  pub text-node : (f : Format) → text f (trees (value (Expression.node r a c))) ≡ 40 ∷ (bytes (labelLength f) a ++ (text f (trees (value c)) ++ (41 ∷ [])))
-  unfolding text
-  text-node f = ap (text f) node-trees
 
 -- a part, without its hole, and the depth of its hole
 module _ (r a : ℕ) (b c : Expression) where
@@ -249,35 +237,3 @@ count-tree g = one-tree-count (tree-value g)
 
 pub count-spine : {e : Expression} → Good Sort.spine e → count (trees (value e)) ≡ 1
 count-spine g = one-tree-count (spine-value g)
-
--- what a spine writes before its hole, and after it
-unfoldable pub before : Format → Expression → List ℕ
-before f (Expression.empty r) = []
-before f (Expression.pair r b c) = []
-before f (Expression.node r a c) = []
-before f (Expression.fill r b c) = []
-before f (Expression.part r a b c) = 40 ∷ (bytes (labelLength f) a ++ text f (trees (value b)))
-before f (Expression.join r b c) = before f b ++ before f c
-
-unfoldable pub after : Format → Expression → List ℕ
-after f (Expression.empty r) = []
-after f (Expression.pair r b c) = []
-after f (Expression.node r a c) = []
-after f (Expression.fill r b c) = []
-after f (Expression.part r a b c) = text f (trees (value c)) ++ (41 ∷ [])
-after f (Expression.join r b c) = after f c ++ after f b
-
-part-around : (r a : ℕ) (b c : Expression) → Good Sort.row b → Good Sort.row c → (g : Hedge) →
-    trees (value (Expression.part r a b c) ⟨ g ⟩) ≡ Forest.tree a (append (trees (value b)) (append (trees g) (trees (value c)))) Forest.none
-unfolding trees _⟨_⟩
-part-around r a b c β γ g =
-    rw (value-part r a b c, concat-⟨⟩ (value b) (Hedge.hole (value c)) g)
-    (rw (closed-⟨⟩ (value b) g (value-holes β), closed-⟨⟩ (value c) g (value-holes γ), trees-concat (value b) (g · value c), trees-concat g (value c)))
-
-pub text-fill : (f : Format) {e : Expression} → Good Sort.spine e → (g : Hedge)
-    → text f (trees (value e ⟨ g ⟩)) ≡ before f e ++ (text f (trees g) ++ after f e)
-unfolding before after text value
-text-fill f (Good.part {r} {a} {b} {c} β γ) g =
-    rw (part-around r a b c β γ g, text-append f (trees (value b)) (append (trees g) (trees (value c))), text-append f (trees g) (trees (value c)))
-    (simp append-assoc)
-text-fill f (Good.join {r} {b} {c} β γ) g = rw (⟨⟩-assoc (value b) (value c) g, text-fill f β (value c ⟨ g ⟩), text-fill f γ g) (simp append-assoc)

@@ -1,5 +1,5 @@
--- Every node of a forest satisfies P: by recursion over the forest, so that it passes through append and relabel, and holds of
--- whatever node a path leads to. Assumes nothing.
+-- Every node of a forest, or every node with its children, satisfies P: by recursion over the forest, so that it passes through append
+-- and relabel, and holds of whatever node a path leads to. Assumes nothing.
 use Prim.Native.Nat.{ℕ, zero, suc}
 use mathlib.Core.Path.{_≡_, subst}
 use mathlib.Core.List.{[], _∷_}
@@ -7,15 +7,51 @@ use mathlib.Core.Option.{Option, none, some}
 use Rattle.forest.specs.Forest.{Forest, append, relabel}
 use Rattle.forest.specs.Reference.{Path, later, from, below, top, childrenAt, nodeAt, labelAt}
 
+-- a condition on a node and its children, of every node of a forest
+abbrev pub EachTree : {A : Type 0} → (A → Forest A → Type 0) → Forest A → Type 0
+EachTree P Forest.none = Unit {0}
+EachTree P (Forest.tree a c f) = P a c × EachTree P c × EachTree P f
+
+-- one on a node alone
 abbrev pub Each : {A : Type 0} → (A → Type 0) → Forest A → Type 0
-Each P Forest.none = Unit {0}
-Each P (Forest.tree a c f) = P a × Each P c × Each P f
+Each P g = EachTree (λ a c. P a) g
+
+module _ {A : Type 0} (P : A → Forest A → Type 0) where
+  pub every-append : (f g : Forest A) → EachTree P f → EachTree P g → EachTree P (append f g)
+  unfolding append
+  every-append Forest.none g h k = k
+  every-append (Forest.tree a c f) g h k = (h .0, h .1, every-append f g (h .2) k)
+
+  -- the node at a path
+  every-later : (i : ℕ) (g : Forest A) → EachTree P g → EachTree P (later i g)
+  unfolding later
+  every-later zero g h = h
+  every-later (suc i) Forest.none h = tt
+  every-later (suc i) (Forest.tree a c f) h = every-later i f (h .2)
+
+  every-from : (i : ℕ) (g : Forest A) → EachTree P g → EachTree P (from i g)
+  unfolding from
+  every-from zero g h = tt
+  every-from (suc i) g h = every-later i g h
+
+  every-below : (g : Forest A) → EachTree P g → EachTree P (below g)
+  unfolding below
+  every-below Forest.none h = tt
+  every-below (Forest.tree a c f) h = h .1
+
+  pub every-childrenAt : (g : Forest A) (p : Path) → EachTree P g → EachTree P (childrenAt g p)
+  unfolding childrenAt
+  every-childrenAt g [] h = h
+  every-childrenAt g (i ∷ p) h = every-below (from i (childrenAt g p)) (every-from i (childrenAt g p) (every-childrenAt g p h))
+
+  pub every-nodeAt : (g : Forest A) (p : Path) → EachTree P g → EachTree P (nodeAt g p)
+  unfolding nodeAt
+  every-nodeAt g [] h = tt
+  every-nodeAt g (i ∷ p) h = every-from i (childrenAt g p) (every-childrenAt g p h)
 
 module _ {A : Type 0} (P : A → Type 0) where
   pub each-append : (f g : Forest A) → Each P f → Each P g → Each P (append f g)
-  unfolding append
-  each-append Forest.none g h k = k
-  each-append (Forest.tree a c f) g h k = (h .0, h .1, each-append f g (h .2) k)
+  each-append f g h k = every-append (λ a c. P a) f g h k
 
   pub each-left : (f g : Forest A) → Each P (append f g) → Each P f
   unfolding append
@@ -32,32 +68,11 @@ module _ {A : Type 0} (P : A → Type 0) where
   each-weaken Q w Forest.none h = tt
   each-weaken Q w (Forest.tree a c f) h = (w a (h .0), each-weaken Q w c (h .1), each-weaken Q w f (h .2))
 
-  -- the node at a path
-  each-later : (i : ℕ) (g : Forest A) → Each P g → Each P (later i g)
-  unfolding later
-  each-later zero g h = h
-  each-later (suc i) Forest.none h = tt
-  each-later (suc i) (Forest.tree a c f) h = each-later i f (h .2)
-
-  each-from : (i : ℕ) (g : Forest A) → Each P g → Each P (from i g)
-  unfolding from
-  each-from zero g h = tt
-  each-from (suc i) g h = each-later i g h
-
-  each-below : (g : Forest A) → Each P g → Each P (below g)
-  unfolding below
-  each-below Forest.none h = tt
-  each-below (Forest.tree a c f) h = h .1
-
   pub each-childrenAt : (g : Forest A) (p : Path) → Each P g → Each P (childrenAt g p)
-  unfolding childrenAt
-  each-childrenAt g [] h = h
-  each-childrenAt g (i ∷ p) h = each-below (from i (childrenAt g p)) (each-from i (childrenAt g p) (each-childrenAt g p h))
+  each-childrenAt g p h = every-childrenAt (λ a c. P a) g p h
 
   pub each-nodeAt : (g : Forest A) (p : Path) → Each P g → Each P (nodeAt g p)
-  unfolding nodeAt
-  each-nodeAt g [] h = tt
-  each-nodeAt g (i ∷ p) h = each-from i (childrenAt g p) (each-childrenAt g p h)
+  each-nodeAt g p h = every-nodeAt (λ a c. P a) g p h
 
   -- P of what is there, if anything is
   Here : Option A → Type 0

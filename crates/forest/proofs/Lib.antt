@@ -5,6 +5,7 @@ pub mod Each
 pub mod Forget
 pub mod Bound
 pub mod Counts
+pub mod Spelled
 pub mod Labels
 pub mod Sample
 pub mod Sides
@@ -23,8 +24,10 @@ pub mod Unique
 pub mod Nodes
 pub mod Inside
 pub mod Covered
+pub mod Subtrees
 pub mod Reasons
 pub mod Search
+pub mod Compare
 pub mod Starred
 pub mod Stored
 pub mod Fit

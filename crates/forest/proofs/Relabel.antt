@@ -8,7 +8,7 @@ use mathlib.Core.Option.{Option, Option·map}
 use Rattle.forest.specs.Forest.{Forest, relabel, count}
 use Rattle.forest.specs.Place.{Side}
 use Rattle.forest.specs.Letter.{Letter, isRoot}
-use Rattle.forest.specs.Reference.{Path, later, from, below, top, childrenAt, labelAt, endOf, tried, isAbove, answer, moved, answers, pathAfter}
+use Rattle.forest.specs.Reference.{Path, later, from, below, top, childrenAt, nodeAt, labelAt, endOf, tried, isAbove, answer, moved, answers, pathAfter}
 use Rattle.forest.proofs.Cases.{by-option}
 use Rattle.forest.proofs.Steps.{moved-nowhere, moved-node}
 
@@ -44,10 +44,14 @@ module _ {A B : Type 0} (h : A → B) where
   childrenAt-relabel g [] = refl
   childrenAt-relabel g (i ∷ p) = ap (λ x. below (from i x)) (childrenAt-relabel g p) ∙ ap below (from-relabel i (childrenAt g p)) ∙ below-relabel (from i (childrenAt g p))
 
+  pub nodeAt-relabel : (g : Forest A) (p : Path) → nodeAt (relabel h g) p ≡ relabel h (nodeAt g p)
+  unfolding nodeAt relabel
+  nodeAt-relabel g [] = refl
+  nodeAt-relabel g (i ∷ p) = ap (from i) (childrenAt-relabel g p) ∙ from-relabel i (childrenAt g p)
+
   pub labelAt-relabel : (g : Forest A) (p : Path) → labelAt (relabel h g) p ≡ Option·map h (labelAt g p)
   unfolding labelAt
-  labelAt-relabel g [] = refl
-  labelAt-relabel g (i ∷ p) = ap (λ x. top (from i x)) (childrenAt-relabel g p) ∙ ap top (from-relabel i (childrenAt g p)) ∙ top-relabel (from i (childrenAt g p))
+  labelAt-relabel g p = ap top (nodeAt-relabel g p) ∙ top-relabel (nodeAt g p)
 
   endOf-relabel : (s : Side) (g : Forest A) → endOf s (relabel h g) ≡ endOf s g
   unfolding endOf

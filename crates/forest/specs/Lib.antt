@@ -2,12 +2,14 @@ pub mod Expression
 pub mod Algebra
 pub mod Sizes
 pub mod Forest
+pub mod Spelling
 pub mod Place
 pub mod Letter
 pub mod Reference
 pub mod Reason
 pub mod Outcome
 pub mod Walk
+pub mod Compare
 pub mod Good
 pub mod Position
 pub mod Sample

@@ -16,3 +16,11 @@ pub enum Walked {
     Accepted,
     Refused(Refusal),
 }
+
+// What compare answers: the count of pairs of nodes that agree, the place of the first pair that differs, or the budget.
+pub enum Compared {
+    Same(u32),
+    Differ(u32),
+    Spent(u32),
+    Refused(Refusal),
+}

@@ -5,9 +5,11 @@ ghost use Rattle.plan.specs.Check.{checked};
 ghost use Rattle.seal.specs.Seal.{sealed, sealedOutput};
 ghost use Rattle.unseal.specs.Unseal.{unsealed, unsealedOutput};
 ghost use Rattle.forest.specs.Outcome.{measured, measuredWork, spread, spreadOutput};
+ghost use Rattle.forest.specs.Compare.{compare, comparedWork};
 ghost use Rattle.demand.specs.Calls.{walkOf, lends};
 ghost use Rattle.c_result.specs.Interface.{measuredResult, measuredPosition, treesAfter, entriesAfter, levelsAfter};
 ghost use Rattle.c_result.specs.Interface.{checkedResult, writtenResult, checkedPosition, writtenPosition, countAfter};
+ghost use Rattle.c_result.specs.Interface.{comparedResult, comparedPosition, verdictAfter, pairsAfter};
 ghost use Rattle.c_result.specs.Interface.{startAfter, lengthAfter, walkedResult, walkedPosition};
 ghost use Rattle.c_result.specs.Interface.{unsealedResult, unsealedPosition, unsealedLength, unsealedCount, unsealedStart};
 
@@ -183,4 +185,38 @@ pub extern "C" fn plan_walk(
         × (position′ ≡ walkedPosition (l .answer)) ⌝ }
 {
     c_result::give_walked(walk::walk(plan, work, cursor, letters, answers), position)
+}
+
+// Compare.
+#[no_mangle]
+pub extern "C" fn plan_compare(
+    plan: &[u8],
+    work: &mut [u8],
+    first: &[u8],
+    second: &[u8],
+    budget: u32,
+    verdict: &mut u32,
+    count: &mut u32,
+    position: &mut u64,
+) -> u32
+    ensures { λ r.
+        let work′ = now (work .exit) in
+        let verdict′ = now (verdict .exit) in
+        let count′ = now (count .exit) in
+        let position′ = now (position .exit) in
+        let plan = now (plan .entry) in
+        let work = now (work .entry) in
+        let first = now (first .entry) in
+        let second = now (second .entry) in
+        let verdict = now (verdict .entry) in
+        let count = now (count .entry) in
+        let x = compare plan work first second budget in
+        ⌜ (r ≡ comparedResult x)
+        × (work′ ≡ comparedWork plan work first second)
+        × (verdict′ ≡ verdictAfter x verdict)
+        × (count′ ≡ pairsAfter x count)
+        × (position′ ≡ comparedPosition x) ⌝ }
+{
+    let answer = compare::compare(plan, work, first, second, budget);
+    c_result::give_compared(answer, verdict, count, position)
 }

@@ -11,10 +11,11 @@ use Rattle.forest.specs.Sizes.{height}
 use Rattle.forest.proofs.Unfold.{height-expression}
 use Rattle.work_rows.specs.Rows.{Within, firstRules}
 use Rattle.work_rows.proofs.Rows.{within-both, within-wider}
+use Rattle.forest.specs.Spelling.{inBytes}
 use Rattle.count_passes.specs.Says.{whole, says}
 use Rattle.spread_step.specs.Task.{taskText, taskIn}
 use Rattle.spread_step.specs.Step.{tasksAt}
-use Rattle.spread_stack.specs.Stack.{tasksText, addTask, tasksIn, Pushed}
+use Rattle.spread_stack.specs.Stack.{tasksSpoken, addTask, tasksIn, Pushed}
 use Rattle.spread_stack.specs.Run.{meant, stackAt, workEnd, stackText, Fit, none, RowsTasked, Runnable, Ran, Spreadable}
 use Rattle.spread_step.proofs.Tasks.{Stands}
 use Rattle.spread_stack.proofs.Fits.{add-text, add-stacked, fit-whole}
@@ -22,19 +23,19 @@ use Rattle.spread_stack.proofs.Rows.{view, rule-kept, task-kept}
 use Rattle.work_rows.proofs.Kept.{first-length, first-same}
 
 -- the rows keep what they hold
-meant-kept : (s t : List ℕ) (n : ℕ) → Within (stackAt n) (workEnd n) s t → meant t n ≡ meant s n
-meant-kept s t n w = ap expression (first-same s t n (rule-kept n (workEnd n) w))
+pub meant-kept : (s t : List ℕ) (n e : ℕ) → Within (stackAt n) e s t → meant t n ≡ meant s n
+meant-kept s t n e w = ap expression (first-same s t n (rule-kept n e w))
 
-rows-tasked-kept : (s t : List ℕ) (n : ℕ) → Within (stackAt n) (workEnd n) s t → RowsTasked s n → RowsTasked t n
-rows-tasked-kept s t n w a =
+pub rows-tasked-kept : (s t : List ℕ) (n e : ℕ) → Within (stackAt n) e s t → RowsTasked s n → RowsTasked t n
+rows-tasked-kept s t n e w a =
     let long : length t ≡ length s = w .same-length in
     record {
       rank = a .rank;
-      sound = rw (first-same s t n (rule-kept n (workEnd n) w)) (a .sound);
+      sound = rw (first-same s t n (rule-kept n e w)) (a .sound);
       few = a .few;
       least = a .least;
       room = omega (arith, a .room);
-      tasks = λ k below. task-kept n (workEnd n) w k below ∙ a .tasks k below ∙ ap (λ (E : ℕ → Expression). taskIn (E k)) (sym (meant-kept s t n w));
+      tasks = λ k below. task-kept n e w k below ∙ a .tasks k below ∙ ap (λ (E : ℕ → Expression). taskIn (E k)) (sym (meant-kept s t n e w));
     }
 
 module _ {f : Format} {n r v k : ℕ} {s t out : List ℕ} (a : Spreadable f s out n r) (q : v ≡ tasksAt s r) (p : Pushed (stackAt n) 0 v k s t) where
@@ -42,7 +43,7 @@ module _ {f : Format} {n r v k : ℕ} {s t out : List ℕ} (a : Spreadable f s o
   changed = within-wider (stackAt n) (workEnd n) (omega arith) (omega (arith, a .rows-tasked .least)) (p .within)
 
   same : meant t n ≡ meant s n
-  same = meant-kept s t n changed
+  same = meant-kept s t n (workEnd n) changed
 
   stood : Stands (meant s n) n v (meant s n r)
   stood = rw q (view s n (a .rows-tasked) .stood r (a .below))
@@ -57,15 +58,15 @@ module _ {f : Format} {n r v k : ℕ} {s t out : List ℕ} (a : Spreadable f s o
       fit-whole (meant s n) n (2 * n) 0 v (meant s n r) stood (omega (arith, first-length s n))
 
   begun : stackText f t n k ≡ says f (meant s n r) whole
-  unfolding tasksText
+  unfolding tasksSpoken
   begun =
       rw (same, only)
-      (add-text f (meant s n) v [] ∙ append-nil (taskText f (meant s n) v) ∙ stood .text f)
+      (add-text (inBytes f) (meant s n) v [] ∙ append-nil (taskText f (meant s n) v) ∙ stood .text (inBytes f))
 
   pub runnable : Runnable f t out n k
   runnable =
       record {
-        rows-tasked = rows-tasked-kept s t n changed (a .rows-tasked);
+        rows-tasked = rows-tasked-kept s t n (workEnd n) changed (a .rows-tasked);
         stacked = rw (same, only) (add-stacked (meant s n) n (2 * n) v [] fits-first none);
         fits = rw begun (a .fits);
       }

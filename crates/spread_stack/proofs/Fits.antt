@@ -7,34 +7,34 @@ use mathlib.Core.List.{List, [], _++_, append-assoc}
 use lib.Dec.{eqb}
 use lib.ListN.{length}
 use borrow.Author.Tests.{eqb-true, eqb-false}
-use Rattle.record.specs.declared.Format.{Format}
 use Rattle.rule.specs.declared.Rule.{Rule}
 use Rattle.forest.specs.Expression.{Expression, rhs}
+use Rattle.forest.specs.Spelling.{Spelling}
 use Rattle.forest.specs.Sizes.{height}
 use Rattle.rule.specs.Names.{Names, pair-one, pair-two, node-one, fill-one, fill-two, part-one, part-two, join-one, join-two}
 use Rattle.count_passes.specs.Says.{before, after}
 use Rattle.spread_step.specs.declared.Step.{Step}
-use Rattle.spread_step.specs.Task.{closeTask, taskWord, noTask, taskText, taskTurns, taskHeight}
+use Rattle.spread_step.specs.Task.{closeTask, taskWord, noTask, taskSpoken, taskTurns, taskHeight}
 use Rattle.spread_step.specs.Step.{ruleStep}
-use Rattle.spread_stack.specs.Stack.{tasksText, tasksTurns, addTask, addTasks}
+use Rattle.spread_stack.specs.Stack.{tasksSpoken, tasksTurns, addTask, addTasks}
 use Rattle.spread_stack.specs.Run.{Fit, Stacked, on}
 use Rattle.spread_step.proofs.Tasks.{by-test, text-none, turns-none, height-part, height-close, Stands}
-use Rattle.spread_step.proofs.Steps.{stepText, stepTurns}
+use Rattle.spread_step.proofs.Steps.{stepSpoken, stepTurns}
 
--- a task more, and those of a step: the text in a format
-module _ (f : Format) (E : ℕ → Expression) where
-  no-text : (v : ℕ) → v ≡ noTask → taskText f E v ≡ []
-  no-text v q = ap (taskText f E) q ∙ text-none f E
+-- a task more, and those of a step: what they say in a spelling
+module _ (σ : Spelling) (E : ℕ → Expression) where
+  no-text : (v : ℕ) → v ≡ noTask → taskSpoken σ E v ≡ []
+  no-text v q = ap (taskSpoken σ E) q ∙ text-none σ E
 
-  pub add-text : (v : ℕ) (vs : List ℕ) → tasksText f E (addTask v vs) ≡ taskText f E v ++ tasksText f E vs
-  unfolding addTask tasksText
+  pub add-text : (v : ℕ) (vs : List ℕ) → tasksSpoken σ E (addTask v vs) ≡ taskSpoken σ E v ++ tasksSpoken σ E vs
+  unfolding addTask tasksSpoken
   add-text v vs =
       by-test (eqb v noTask)
-      (λ u. rw u (ap (λ (l : List ℕ). l ++ tasksText f E vs) (sym (no-text v (eqb-true v noTask u)))))
+      (λ u. rw u (ap (λ (l : List ℕ). l ++ tasksSpoken σ E vs) (sym (no-text v (eqb-true v noTask u)))))
       (λ u. rw u)
 
-  pub adds-text : (x : Step) (vs : List ℕ) → tasksText f E (addTasks x vs) ≡ stepText f E x ++ tasksText f E vs
-  unfolding addTasks stepText
+  pub adds-text : (x : Step) (vs : List ℕ) → tasksSpoken σ E (addTasks x vs) ≡ stepSpoken σ E x ++ tasksSpoken σ E vs
+  unfolding addTasks stepSpoken
   adds-text x vs =
       rw (add-text (x .high) (addTask (x .mid) (addTask (x .low) vs)), add-text (x .mid) (addTask (x .low) vs), add-text (x .low) vs) (simp append-assoc)
 
@@ -62,7 +62,7 @@ module _ (E : ℕ → Expression) (n H : ℕ) where
   fit-lower : (j k v : ℕ) → j ≤ k → Fit E n H k v → Fit E n H j v
   fit-lower j k v less a = record { reads = a .reads; low = λ x. let l : k + 2 * taskHeight E v ≤ H = a .low x in omega arith }
 
-  fit-part : (k b q : ℕ) → b < n → q ≤ after → k + 2 * height (E b) ≤ H → Fit E n H k (taskWord b q)
+  pub fit-part : (k b q : ℕ) → b < n → q ≤ after → k + 2 * height (E b) ≤ H → Fit E n H k (taskWord b q)
   fit-part k b q below small l = record { reads = λ x y. omega arith; low = λ x. omega (arith, height-part E b q small) }
 
   fit-close : (k : ℕ) → k ≤ H → Fit E n H k closeTask

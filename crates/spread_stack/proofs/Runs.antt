@@ -14,20 +14,21 @@ use Rattle.forest.specs.Expression.{Expression}
 use Rattle.work_rows.specs.Rows.{ruleIn, Within}
 use Rattle.work_rows.proofs.Rows.{within-none, within-both, within-wider}
 use Rattle.spread_stack.specs.declared.State.{State}
+use Rattle.forest.specs.Spelling.{inBytes}
 use Rattle.spread_step.specs.Task.{parts, closeTask, taskHeight}
 use Rattle.spread_step.specs.Step.{saidBytes, tasksAt, stepIn}
-use Rattle.spread_stack.specs.Stack.{tasksText, tasksTurns, addTasks, tasksIn, taskOver, written, Turnable, TurnMade}
+use Rattle.spread_stack.specs.Stack.{tasksSpoken, tasksText, tasksTurns, addTasks, tasksIn, taskOver, written, Turnable, TurnMade}
 use Rattle.spread_stack.specs.Run.{meant, stackAt, workEnd, stackText, Stacked, on, Runnable, Ran}
 use Rattle.spread_stack.proofs.Turns.{Turned, turn}
 use Rattle.spread_stack.proofs.Rows.{View, view, view-kept}
 
 -- the task on top
-tasks-top : (t : List ℕ) (from k : ℕ) → 0 < k → tasksIn t from k ≡ taskOver t from (k - 1) ∷ tasksIn t from (k - 1)
+pub tasks-top : (t : List ℕ) (from k : ℕ) → 0 < k → tasksIn t from k ≡ taskOver t from (k - 1) ∷ tasksIn t from (k - 1)
 unfolding tasksIn
 tasks-top t from zero l = absurd (omega arith)
 tasks-top t from (suc k) l = let e : suc k - 1 ≡ k = omega arith in rw e
 
-tasks-length : (t : List ℕ) (from k : ℕ) → length (tasksIn t from k) ≡ k
+pub tasks-length : (t : List ℕ) (from k : ℕ) → length (tasksIn t from k) ≡ k
 unfolding tasksIn
 tasks-length t from zero = refl
 tasks-length t from (suc k) = ap suc (tasks-length t from k)
@@ -53,7 +54,7 @@ running-start f n first s out a =
     }
 
 -- what a stack's top and the rest are known to be
-stacked-top : {E : ℕ → Expression} {n H v : ℕ} {vs : List ℕ} → Stacked E n H (v ∷ vs)
+pub stacked-top : {E : ℕ → Expression} {n H v : ℕ} {vs : List ℕ} → Stacked E n H (v ∷ vs)
     → ((v ≡ closeTask → ⊥) → v / parts < n) × (length vs ≤ H)
 stacked-top {E} {H = H} {v = v} {vs = vs} (on some a s) = (a .reads some, let l : length vs + 2 * taskHeight E v ≤ H = a .low some in omega arith)
 
@@ -72,9 +73,9 @@ module _ {f : Format} {n first : ℕ} {s out₀ t out : List ℕ} {k at : ℕ} (
   rows = view-kept n (workEnd n) (p .within) (view s n (a .rows-tasked))
 
   -- the turn that follows, on the model
-  turned : Turned f (meant s n) n (2 * n) top-task below-top (stepIn t top-task)
+  turned : Turned (inBytes f) (meant s n) n (2 * n) top-task below-top (stepIn t top-task)
   turned =
-      turn f (meant s n) n (2 * n) (tasksAt t) (ruleIn t) (rows .stood) (rows .unfolds) (rows .named) top-task below-top top-stacked
+      turn (inBytes f) (meant s n) n (2 * n) (tasksAt t) (ruleIn t) (rows .stood) (rows .unfolds) (rows .named) top-task below-top top-stacked
 
   top-text : take at out ++ (saidBytes f ((stepIn t top-task) .said) ++ tasksText f (meant s n) (addTasks (stepIn t top-task) below-top)) ≡ stackText f s n first
   unfolding top-task below-top
@@ -184,7 +185,7 @@ module _ {f : Format} {n first : ℕ} {s out₀ t out u out′ : List ℕ} {k at
 -- no task is left
 pub running-end : {f : Format} {n first : ℕ} {s out₀ t out : List ℕ} {k at : ℕ} → Running f n first s out₀ t out k at → k ≤ 0
     → Ran n (stackText f s n first) at s t out₀ out
-unfolding tasksIn tasksText inFront
+unfolding tasksIn tasksSpoken inFront
 running-end {f} {n} {first} {s} {out₀} {t} {out} {k} {at} p none =
     let z : k ≡ 0 = omega arith in
     let whole : take at out ≡ stackText f s n first = sym (append-nil (take at out)) ∙ (rw z at (p .text)) in

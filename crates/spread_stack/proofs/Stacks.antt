@@ -14,13 +14,14 @@ use Rattle.words.proofs.Laws.{length-bytes, length-put, put-same, put-other, pu
 use Rattle.record.specs.declared.Format.{Format}
 use Rattle.record.specs.Record.{wordLength}
 use Rattle.record.specs.Format.{highLength, labelLength}
+use Rattle.forest.specs.Spelling.{inBytes}
 use Rattle.work_rows.specs.Rows.{Within}
 use Rattle.work_rows.proofs.Rows.{within-none, within-both, within-wider}
 use Rattle.count_passes.specs.Says.{opening, opened}
 use Rattle.spread_step.specs.declared.Said.{Said}
 use Rattle.spread_step.specs.declared.Step.{Step}
 use Rattle.spread_step.specs.Task.{noTask}
-use Rattle.spread_step.specs.Step.{saidBytes, stepIn, Decidable}
+use Rattle.spread_step.specs.Step.{saidIn, saidBytes, stepIn, Decidable}
 use Rattle.spread_stack.specs.Stack.{addTask, addTasks, tasksIn, Pushed, AllPushed, written, taskOver, Turnable, TurnMade}
 
 -- tasks below a word that is written
@@ -86,13 +87,13 @@ opened-length f a = omega (arith, length-bytes (labelLength f) a)
 
 -- a node opened: its label's bytes fit behind the first byte, and the two together are what is said
 pub opening-fits : (f : Format) (at m : ℕ) {a : ℕ} {x : Said} → x ≡ Said.Opening a → at + length (saidBytes f x) ≤ m → at + 1 + labelLength f ≤ m
-unfolding saidBytes
+unfolding saidIn inBytes
 opening-fits f at m {a} q fits = let l : at + length (opened f a) ≤ m = rw q at fits in omega (arith, opened-length f a)
 
 pub opening-said : (f : Format) (at : ℕ) (out : List ℕ) {r a : ℕ} {out′ : List ℕ} {x : Said} → x ≡ Said.Opening a → at + length (saidBytes f x) ≤ length out
     → (r ≡ at + 1 + labelLength f) × (out′ ≡ put (labelLength f) (set out at opening) (at + 1) a)
     → (r ≡ at + length (saidBytes f x)) × (out′ ≡ written out at (saidBytes f x))
-unfolding saidBytes put
+unfolding saidIn inBytes put
 opening-said f at out {a = a} q fits p =
     rw q
     (omega (arith, p .0, opened-length f a), p .1 ∙ rw (add-one at) (says-all out at (opened f a) (rw q at fits)))

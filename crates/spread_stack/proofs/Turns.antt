@@ -4,40 +4,40 @@ use Prim.Native.Nat.{ℕ, suc, _+_, _*_, _/_, _%_, _≤_, _<_}
 use native.Mathlib.Omega.{arith}
 use mathlib.Core.Path.{_≡_, sym, ap, _∙_}
 use mathlib.Core.Bool.{true, false}
-use mathlib.Core.List.{List, [], _∷_, _++_, append-assoc}
+use mathlib.Core.List.{List, [], _∷_, _++_, append-assoc, append-nil}
 use lib.Dec.{eqb}
 use lib.ListN.{length}
 use borrow.Author.Tests.{ne-eqb, eqb-false}
-use Rattle.record.specs.declared.Format.{Format}
 use Rattle.rule.specs.declared.Rule.{Rule}
 use Rattle.forest.specs.Expression.{Expression, rhs}
+use Rattle.forest.specs.Spelling.{Spelling}
 use Rattle.forest.specs.Sizes.{height}
 use Rattle.rule.specs.Names.{Names}
-use Rattle.count_passes.specs.Says.{closing, says}
+use Rattle.count_passes.specs.Says.{spoken}
 use Rattle.spread_step.specs.declared.Said.{Said}
 use Rattle.spread_step.specs.declared.Step.{Step}
-use Rattle.spread_step.specs.Task.{parts, closeTask, noTask, taskBy, taskText, turnsIn, taskTurns, taskHeight}
-use Rattle.spread_step.specs.Step.{saidBytes, leaving, ruleStep, stepOf}
-use Rattle.spread_stack.specs.Stack.{tasksText, tasksTurns, addTasks}
+use Rattle.spread_step.specs.Task.{parts, closeTask, noTask, taskBy, taskSpoken, turnsIn, taskTurns, taskHeight}
+use Rattle.spread_step.specs.Step.{saidIn, leaving, ruleStep, stepOf}
+use Rattle.spread_stack.specs.Stack.{tasksSpoken, tasksTurns, addTasks}
 use Rattle.spread_stack.specs.Run.{Fit, Stacked, on}
 use Rattle.spread_step.proofs.Tasks.{by-test, Stands}
-use Rattle.spread_step.proofs.Steps.{stepText, stepTurns, rule-text, rule-turns}
+use Rattle.spread_step.proofs.Steps.{stepSpoken, stepTurns, rule-text, rule-turns}
 use Rattle.spread_stack.proofs.Fits.{adds-text, adds-turns, adds-stacked, rule-fits, Fits, fit-none}
 
 -- a word that is a task: a closing byte, or a part of a rule
 module _ {A : Type 0} (none closes : A) (part : ℕ → ℕ → A) (v : ℕ) (some : v ≡ noTask → ⊥) where
-  is-close : eqb v closeTask ≡ true → taskBy none closes part v ≡ closes
+  pub is-close : eqb v closeTask ≡ true → taskBy none closes part v ≡ closes
   unfolding taskBy
   is-close u = rw (ne-eqb v noTask some, u)
 
-  is-part : eqb v closeTask ≡ false → taskBy none closes part v ≡ part (v / parts) (v % parts)
+  pub is-part : eqb v closeTask ≡ false → taskBy none closes part v ≡ part (v / parts) (v % parts)
   unfolding taskBy
   is-part u = rw (ne-eqb v noTask some, u)
 
 module _ (E : ℕ → Expression) (v : ℕ) (some : v ≡ noTask → ⊥) (u : eqb v closeTask ≡ false) where
-  part-text : (φ : Format) → taskText φ E v ≡ says φ (E (v / parts)) (v % parts)
-  unfolding taskText
-  part-text φ = is-part [] (closing ∷ []) (λ r p. says φ (E r) p) v some u
+  part-text : (φ : Spelling) → taskSpoken φ E v ≡ spoken φ (E (v / parts)) (v % parts)
+  unfolding taskSpoken
+  part-text φ = is-part [] (φ .closes) (λ r p. spoken φ (E r) p) v some u
 
   part-turns : taskTurns E v ≡ turnsIn (E (v / parts))
   unfolding taskTurns
@@ -48,33 +48,33 @@ module _ (E : ℕ → Expression) (v : ℕ) (some : v ≡ noTask → ⊥) (u : e
   part-height = is-part 0 0 (λ r p. height (E r)) v some u
 
 -- what a turn leaves
-pub record Turned (φ : Format) (E : ℕ → Expression) (n H v : ℕ) (vs : List ℕ) (x : Step) : Type 0 where
-  pub text : tasksText φ E (v ∷ vs) ≡ saidBytes φ (x .said) ++ tasksText φ E (addTasks x vs)
+pub record Turned (φ : Spelling) (E : ℕ → Expression) (n H v : ℕ) (vs : List ℕ) (x : Step) : Type 0 where
+  pub text : tasksSpoken φ E (v ∷ vs) ≡ saidIn φ (x .said) ++ tasksSpoken φ E (addTasks x vs)
   pub turns : tasksTurns E (addTasks x vs) < tasksTurns E (v ∷ vs)
   pub stacked : Stacked E n H (addTasks x vs)
 
 -- from the step's own text, turns and places
-turned : (φ : Format) (E : ℕ → Expression) (n H v : ℕ) (vs : List ℕ) (x : Step) → taskText φ E v ≡ saidBytes φ (x .said) ++ stepText φ E x
+turned : (φ : Spelling) (E : ℕ → Expression) (n H v : ℕ) (vs : List ℕ) (x : Step) → taskSpoken φ E v ≡ saidIn φ (x .said) ++ stepSpoken φ E x
     → stepTurns E x < taskTurns E v → Fits E n H (length vs) x → Stacked E n H vs → Turned φ E n H v vs x
-unfolding tasksText tasksTurns
+unfolding tasksSpoken tasksTurns
 turned φ E n H v vs x q l f s =
     record {
       text =
-          ap (λ (t : List ℕ). t ++ tasksText φ E vs) q
-          ∙ append-assoc (saidBytes φ (x .said)) (stepText φ E x) (tasksText φ E vs)
-          ∙ ap (λ (t : List ℕ). saidBytes φ (x .said) ++ t) (sym (adds-text φ E x vs));
+          ap (λ (t : List ℕ). t ++ tasksSpoken φ E vs) q
+          ∙ append-assoc (saidIn φ (x .said)) (stepSpoken φ E x) (tasksSpoken φ E vs)
+          ∙ ap (λ (t : List ℕ). saidIn φ (x .said) ++ t) (sym (adds-text φ E x vs));
       turns = omega (arith, adds-turns E x vs);
       stacked = adds-stacked E n H x vs (f .at-low) (f .at-mid) (f .at-high) s;
     }
 
-module _ (φ : Format) (E : ℕ → Expression) (n H : ℕ) (f : ℕ → ℕ) (X : ℕ → Rule) (S : (k : ℕ) → k < n → Stands E n (f k) (E k))
+module _ (φ : Spelling) (E : ℕ → Expression) (n H : ℕ) (f : ℕ → ℕ) (X : ℕ → Rule) (S : (k : ℕ) → k < n → Stands E n (f k) (E k))
     (unfolds : (k : ℕ) → k < n → E k ≡ rhs k (X k) E) (names : (k : ℕ) → k < n → (j : ℕ) → Names (X k) j → j < n) where
   turned-close : (v : ℕ) (vs : List ℕ) → (v ≡ noTask → ⊥) → eqb v closeTask ≡ true → Stacked E n H vs
       → Turned φ E n H v vs (leaving Said.Closing noTask noTask noTask)
-  unfolding saidBytes stepText stepTurns taskText taskTurns
+  unfolding saidIn stepSpoken stepTurns taskSpoken taskTurns
   turned-close v vs some u s =
       turned φ E n H v vs (leaving Said.Closing noTask noTask noTask)
-      (is-close [] (closing ∷ []) (λ r p. says φ (E r) p) v some u)
+      (is-close [] (φ .closes) (λ r p. spoken φ (E r) p) v some u ∙ sym (append-nil (φ .closes)))
       (let t : taskTurns E v ≡ 1 = is-close 0 1 (λ r p. turnsIn (E r)) v some u in omega arith)
       (record { at-low = fit-none E n H (length vs); at-mid = fit-none E n H (suc (length vs)); at-high = fit-none E n H (suc (suc (length vs))) })
       s
@@ -91,7 +91,7 @@ module _ (φ : Format) (E : ℕ → Expression) (n H : ℕ) (f : ℕ → ℕ) (X
       let long : taskTurns E v ≡ turnsIn (rhs r (X r) E) = part-turns E v some u ∙ ap turnsIn e in
       turned φ E n H v vs (ruleStep f r p (X r))
       (part-text E v some u φ
-      ∙ ap (λ (d : Expression). says φ d p) e
+      ∙ ap (λ (d : Expression). spoken φ d p) e
       ∙ rule-text E n f S r p φ (X r) (names r below))
       (omega (arith, rule-turns E n f S r p (X r) (names r below)))
       (rule-fits E n f S r p H (length vs) (X r) (names r below) (omega arith))

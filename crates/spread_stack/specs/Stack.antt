@@ -10,16 +10,20 @@ use Rattle.words.specs.Number.{number}
 use Rattle.record.specs.declared.Format.{Format}
 use Rattle.record.specs.Record.{wordLength}
 use Rattle.forest.specs.Expression.{Expression}
+use Rattle.forest.specs.Spelling.{Spelling, inBytes}
 use Rattle.work_rows.specs.Rows.{Within}
 use Rattle.spread_step.specs.declared.Step.{Step}
 use Rattle.spread_stack.specs.declared.State.{State}
-use Rattle.spread_step.specs.Task.{noTask, taskText, taskTurns}
+use Rattle.spread_step.specs.Task.{noTask, taskSpoken, taskTurns}
 use Rattle.spread_step.specs.Step.{saidBytes, Decidable, stepIn}
 
--- the text of a stack, and how many tasks it comes to
-unfoldable pub tasksText : Format → (ℕ → Expression) → List ℕ → List ℕ
-tasksText f E [] = []
-tasksText f E (v ∷ vs) = taskText f E v ++ tasksText f E vs
+-- what a stack says, in a spelling, and in bytes: its text; and how many tasks it comes to
+unfoldable pub tasksSpoken : Spelling → (ℕ → Expression) → List ℕ → List ℕ
+tasksSpoken x E [] = []
+tasksSpoken x E (v ∷ vs) = taskSpoken x E v ++ tasksSpoken x E vs
+
+abbrev pub tasksText : Format → (ℕ → Expression) → List ℕ → List ℕ
+tasksText f E vs = tasksSpoken (inBytes f) E vs
 
 unfoldable pub tasksTurns : (ℕ → Expression) → List ℕ → ℕ
 tasksTurns E [] = 0

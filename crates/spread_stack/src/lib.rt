@@ -33,7 +33,7 @@ fn push(work: &mut [u8], from: usize, k: usize, task: u16) -> usize
 }
 
 // The tasks of a step put on k others.
-fn push_all(work: &mut [u8], from: usize, k: usize, step: Step) -> usize
+pub fn push_all(work: &mut [u8], from: usize, k: usize, step: Step) -> usize
     requires { ⌜ from + 2 * (k + 3) ≤ length (now work) ⌝ }
     ensures { λ j. ⌜ AllPushed from k step j (now (work .entry)) (now (work .exit)) ⌝ }
 {

@@ -5,29 +5,29 @@ use native.Mathlib.Omega.{arith}
 use mathlib.Core.Path.{_≡_}
 use mathlib.Core.List.{List, _++_}
 use lib.Dec.{eqb}
-use Rattle.record.specs.declared.Format.{Format}
 use Rattle.rule.specs.declared.Rule.{Rule}
 use Rattle.forest.specs.Expression.{Expression, rhs}
+use Rattle.forest.specs.Spelling.{Spelling}
 use Rattle.rule.specs.Names.{Names, pair-one, pair-two, node-one, fill-two, part-one, part-two}
-use Rattle.count_passes.specs.Says.{before, after, says}
+use Rattle.count_passes.specs.Says.{before, after, spoken}
 use Rattle.spread_step.specs.declared.Step.{Step}
-use Rattle.spread_step.specs.Task.{taskText, turnsIn, taskTurns}
-use Rattle.spread_step.specs.Step.{saidBytes, ruleStep}
+use Rattle.spread_step.specs.Task.{taskSpoken, turnsIn, taskTurns}
+use Rattle.spread_step.specs.Step.{saidIn, ruleStep}
 use Rattle.spread_step.proofs.Tasks.{by-test, text-part, text-close, text-none, turns-part, turns-close, turns-none, Stands}
 
 -- the tasks of a step
-unfoldable pub stepText : Format → (ℕ → Expression) → Step → List ℕ
-stepText f E x = taskText f E (x .high) ++ (taskText f E (x .mid) ++ taskText f E (x .low))
+unfoldable pub stepSpoken : Spelling → (ℕ → Expression) → Step → List ℕ
+stepSpoken s E x = taskSpoken s E (x .high) ++ (taskSpoken s E (x .mid) ++ taskSpoken s E (x .low))
 
 unfoldable pub stepTurns : (ℕ → Expression) → Step → ℕ
 stepTurns E x = taskTurns E (x .high) + taskTurns E (x .mid) + taskTurns E (x .low)
 
 -- the tasks of a right-hand side: f gives a task for each whole rule named
 module _ (E : ℕ → Expression) (n : ℕ) (f : ℕ → ℕ) (S : (k : ℕ) → k < n → Stands E n (f k) (E k)) (r p : ℕ) where
-  -- the text, in a format
-  pub rule-text : (φ : Format) (x : Rule) → ((k : ℕ) → Names x k → k < n)
-      → says φ (rhs r x E) p ≡ saidBytes φ ((ruleStep f r p x) .said) ++ stepText φ E (ruleStep f r p x)
-  unfolding says rhs ruleStep saidBytes stepText
+  -- what it says, in a spelling
+  pub rule-text : (φ : Spelling) (x : Rule) → ((k : ℕ) → Names x k → k < n)
+      → spoken φ (rhs r x E) p ≡ saidIn φ ((ruleStep f r p x) .said) ++ stepSpoken φ E (ruleStep f r p x)
+  unfolding spoken rhs ruleStep saidIn stepSpoken
   rule-text φ Rule.Empty h = rw (text-none φ E)
   rule-text φ (Rule.Pair b c) h = rw (text-none φ E, S b (h b pair-one) .text φ, S c (h c pair-two) .text φ)
   rule-text φ (Rule.Node a c) h = rw (text-none φ E, S c (h c node-one) .text φ, text-close φ E)

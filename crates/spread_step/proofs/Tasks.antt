@@ -4,19 +4,19 @@ use Prim.Native.Nat.{ℕ, _+_, _*_, _/_, _%_, _≤_, _<_}
 use native.Mathlib.Omega.{arith}
 use mathlib.Core.Path.{_≡_, refl, sym, ap, ap₂, subst, _∙_}
 use mathlib.Core.Bool.{Bool, true, false, cond}
-use mathlib.Core.List.{List, [], _∷_, append-nil}
+use mathlib.Core.List.{List, [], append-nil}
 use lib.Dec.{eqb}
 use lib.ListN.{length}
 use borrow.Author.Tests.{eqb-true, ne-eqb}
-use Rattle.record.specs.declared.Format.{Format}
 use Rattle.rule.specs.declared.Rule.{Rule}
 use Rattle.rule.specs.Sound.{rule, Sound}
 use Rattle.forest.specs.Expression.{Expression, rhs, expression}
+use Rattle.forest.specs.Spelling.{Spelling}
 use Rattle.forest.specs.Sizes.{height}
 use Rattle.forest.proofs.Unfold.{by-rank, unfolding-equation}
 use Rattle.rule.specs.Names.{Names, pair-one, pair-two}
-use Rattle.count_passes.specs.Says.{whole, after, closing, says}
-use Rattle.spread_step.specs.Task.{parts, closeTask, taskWord, noTask, taskBy, taskText, turnsIn, taskTurns, taskHeight, taskIn, taskOf}
+use Rattle.count_passes.specs.Says.{whole, after, spoken}
+use Rattle.spread_step.specs.Task.{parts, closeTask, taskWord, noTask, taskBy, taskSpoken, turnsIn, taskTurns, taskHeight, taskIn, taskOf}
 
 -- a case of a test
 pub by-test : {A : Type 0} (b : Bool) → (b ≡ true → A) → (b ≡ false → A) → A
@@ -32,17 +32,17 @@ module _ {A : Type 0} (none closes : A) (part : ℕ → ℕ → A) where
       let number : (parts * r + p) / parts ≡ r = omega arith in
       rw (ne-eqb (parts * r + p) noTask (λ e. omega arith), ne-eqb (parts * r + p) closeTask (λ e. omega arith), phase, number)
 
-module _ (f : Format) (E : ℕ → Expression) where
-  pub text-part : (r p : ℕ) → p ≤ after → taskText f E (taskWord r p) ≡ says f (E r) p
-  unfolding taskText
-  text-part r p small = by-part [] (closing ∷ []) (λ r p. says f (E r) p) r p small
+module _ (x : Spelling) (E : ℕ → Expression) where
+  pub text-part : (r p : ℕ) → p ≤ after → taskSpoken x E (taskWord r p) ≡ spoken x (E r) p
+  unfolding taskSpoken
+  text-part r p small = by-part [] (x .closes) (λ r p. spoken x (E r) p) r p small
 
-  pub text-close : taskText f E closeTask ≡ closing ∷ []
-  unfolding taskText
+  pub text-close : taskSpoken x E closeTask ≡ x .closes
+  unfolding taskSpoken
   text-close = refl
 
-  pub text-none : taskText f E noTask ≡ []
-  unfolding taskText
+  pub text-none : taskSpoken x E noTask ≡ []
+  unfolding taskSpoken
   text-none = refl
 
 module _ (E : ℕ → Expression) where
@@ -66,9 +66,9 @@ module _ (E : ℕ → Expression) where
   unfolding taskHeight
   height-close = refl
 
--- v is a task for the whole of e, in each format, whose rules are below n
+-- v is a task for the whole of e, in each spelling, whose rules are below n
 pub record Stands (E : ℕ → Expression) (n v : ℕ) (e : Expression) : Type 0 where
-  pub text : (f : Format) → taskText f E v ≡ says f e whole
+  pub text : (x : Spelling) → taskSpoken x E v ≡ spoken x e whole
   pub turns : taskTurns E v ≤ turnsIn e
   pub high : taskHeight E v ≤ height e
   pub below : (v ≡ noTask → ⊥) → v / parts < n
@@ -77,36 +77,36 @@ pub record Stands (E : ℕ → Expression) (n v : ℕ) (e : Expression) : Type 0
 stands-self : (E : ℕ → Expression) (n r : ℕ) (e : Expression) → r < n → E r ≡ e → Stands E n (taskWord r whole) e
 stands-self E n r e below q =
     record {
-      text = λ f. text-part f E r whole (omega arith) ∙ ap (λ (x : Expression). says f x whole) q;
+      text = λ x. text-part x E r whole (omega arith) ∙ ap (λ (d : Expression). spoken x d whole) q;
       turns = let t : taskTurns E (taskWord r whole) ≡ turnsIn e = turns-part E r whole (omega arith) ∙ ap turnsIn q in omega arith;
       high = let h : taskHeight E (taskWord r whole) ≡ height e = height-part E r whole (omega arith) ∙ ap height q in omega arith;
       below = λ v. omega arith;
     }
 
 stands-empty : (E : ℕ → Expression) (n r : ℕ) → Stands E n noTask (Expression.empty r)
-unfolding says turnsIn height taskText taskTurns taskHeight
-stands-empty E n r = record { text = λ f. refl; turns = omega arith; high = omega arith; below = λ v. absurd (v refl) }
+unfolding spoken turnsIn height taskSpoken taskTurns taskHeight
+stands-empty E n r = record { text = λ x. refl; turns = omega arith; high = omega arith; below = λ v. absurd (v refl) }
 
 -- no text where there is no task
-silent : {E : ℕ → Expression} {n v : ℕ} {e : Expression} → Stands E n v e → v ≡ noTask → (f : Format) → says f e whole ≡ []
-silent {E} s q f = sym (s .text f) ∙ ap (taskText f E) q ∙ text-none f E
+silent : {E : ℕ → Expression} {n v : ℕ} {e : Expression} → Stands E n v e → v ≡ noTask → (x : Spelling) → spoken x e whole ≡ []
+silent {E} s q x = sym (s .text x) ∙ ap (taskSpoken x E) q ∙ text-none x E
 
 -- one side of a pair
-stands-right : {E : ℕ → Expression} {n v r : ℕ} {b c : Expression} → ((f : Format) → says f b whole ≡ []) → Stands E n v c → Stands E n v (Expression.pair r b c)
-unfolding says turnsIn height
+stands-right : {E : ℕ → Expression} {n v r : ℕ} {b c : Expression} → ((x : Spelling) → spoken x b whole ≡ []) → Stands E n v c → Stands E n v (Expression.pair r b c)
+unfolding spoken turnsIn height
 stands-right q s =
     record {
-      text = λ f. s .text f ∙ rw (q f);
+      text = λ x. s .text x ∙ rw (q x);
       turns = let t : _ ≤ _ = s .turns in omega arith;
       high = let h : _ ≤ _ = s .high in omega arith;
       below = s .below;
     }
 
-stands-left : {E : ℕ → Expression} {n v r : ℕ} {b c : Expression} → ((f : Format) → says f c whole ≡ []) → Stands E n v b → Stands E n v (Expression.pair r b c)
-unfolding says turnsIn height
+stands-left : {E : ℕ → Expression} {n v r : ℕ} {b c : Expression} → ((x : Spelling) → spoken x c whole ≡ []) → Stands E n v b → Stands E n v (Expression.pair r b c)
+unfolding spoken turnsIn height
 stands-left {b = b} q s =
     record {
-      text = λ f. s .text f ∙ rw (q f, append-nil (says f b whole));
+      text = λ x. s .text x ∙ rw (q x, append-nil (spoken x b whole));
       turns = let t : _ ≤ _ = s .turns in omega arith;
       high = let h : _ ≤ _ = s .high in omega arith;
       below = s .below;

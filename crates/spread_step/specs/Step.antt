@@ -2,7 +2,7 @@
 use Prim.Native.Nat.{ℕ, _+_, _*_, _/_, _%_, _≤_, _<_}
 use mathlib.Core.Path.{_≡_}
 use mathlib.Core.Bool.{cond}
-use mathlib.Core.List.{List, [], _∷_}
+use mathlib.Core.List.{List, []}
 use lib.ListN.{length}
 use lib.Dec.{eqb}
 use Rattle.record.specs.declared.Format.{Format}
@@ -10,16 +10,20 @@ use Rattle.rule.specs.declared.Rule.{Rule}
 use Rattle.rule.specs.Names.{Names}
 use Rattle.record.specs.Record.{wordLength}
 use Rattle.work_rows.specs.Rows.{rowLength, field, ruleIn}
-use Rattle.count_passes.specs.Says.{before, after, opened, closing}
+use Rattle.forest.specs.Spelling.{Spelling, inBytes}
+use Rattle.count_passes.specs.Says.{before, after}
 use Rattle.spread_step.specs.declared.Said.{Said}
 use Rattle.spread_step.specs.declared.Step.{Step}
 use Rattle.spread_step.specs.Task.{parts, closeTask, noTask, taskLimit, taskWord}
 
--- the bytes that a step writes
-unfoldable pub saidBytes : Format → Said → List ℕ
-saidBytes f Said.Nothing = []
-saidBytes f (Said.Opening a) = opened f a
-saidBytes f Said.Closing = closing ∷ []
+-- what a step says, in a spelling, and the bytes that it writes
+unfoldable pub saidIn : Spelling → Said → List ℕ
+saidIn x Said.Nothing = []
+saidIn x (Said.Opening a) = x .opens a
+saidIn x Said.Closing = x .closes
+
+abbrev pub saidBytes : Format → Said → List ℕ
+saidBytes f y = saidIn (inBytes f) y
 
 -- a step that writes x and leaves three tasks, of which the last comes first
 abbrev pub leaving : Said → ℕ → ℕ → ℕ → Step

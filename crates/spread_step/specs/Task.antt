@@ -1,13 +1,14 @@
 -- Spread's tasks: one 16-bit word says what is still to be written, a rule and which part of its text (document 01, "Spread").
 use Prim.Native.Nat.{ℕ, suc, _+_, _*_, _/_, _%_}
 use mathlib.Core.Bool.{cond}
-use mathlib.Core.List.{List, [], _∷_}
+use mathlib.Core.List.{List, []}
 use lib.Dec.{eqb}
 use Rattle.record.specs.declared.Format.{Format}
 use Rattle.rule.specs.declared.Rule.{Rule}
 use Rattle.forest.specs.Expression.{Expression}
+use Rattle.forest.specs.Spelling.{Spelling, inBytes}
 use Rattle.forest.specs.Sizes.{height}
-use Rattle.count_passes.specs.Says.{whole, closing, says}
+use Rattle.count_passes.specs.Says.{whole, spoken}
 
 -- the word of a task is 4 × rule + part: whole, before or after (count_passes/specs/Says)
 abbrev pub parts : ℕ
@@ -32,10 +33,13 @@ taskLimit = 16384
 unfoldable pub taskBy : {A : Type 0} → A → A → (ℕ → ℕ → A) → ℕ → A
 taskBy none closes part v = cond (eqb v noTask) none (cond (eqb v closeTask) closes (part (v / parts) (v % parts)))
 
--- the text of a task
-unfoldable pub taskText : Format → (ℕ → Expression) → ℕ → List ℕ
+-- what a task says, in a spelling, and in bytes: its text
+unfoldable pub taskSpoken : Spelling → (ℕ → Expression) → ℕ → List ℕ
 unfolding taskBy
-taskText f E v = taskBy [] (closing ∷ []) (λ r p. says f (E r) p) v
+taskSpoken x E v = taskBy [] (x .closes) (λ r p. spoken x (E r) p) v
+
+abbrev pub taskText : Format → (ℕ → Expression) → ℕ → List ℕ
+taskText f E v = taskSpoken (inBytes f) E v
 
 -- how many tasks it comes to, itself included: whatever the part, no more than turnsIn
 unfoldable pub turnsIn : Expression → ℕ

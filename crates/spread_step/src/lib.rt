@@ -27,16 +27,16 @@ pub struct Step {
 
 impl Step {
     // A task's word is 4 × rule + part: the whole text, what stands before the hole, or after it.
-    const PARTS: u16 = 4;
+    pub const PARTS: u16 = 4;
 
-    const WHOLE: u16 = 0;
+    pub const WHOLE: u16 = 0;
 
-    const BEFORE: u16 = 1;
+    pub const BEFORE: u16 = 1;
 
-    const AFTER: u16 = 2;
+    pub const AFTER: u16 = 2;
 
     // Words of the fourth part are of no rule: the byte that closes a node, and no task, which is the whole text of an empty rule.
-    const CLOSE: u16 = 3;
+    pub const CLOSE: u16 = 3;
 
     pub const NONE: u16 = 65535;
 
@@ -50,7 +50,7 @@ impl Step {
     pub const CLOSING: u8 = 41;
 
     // The task of a part of rule r.
-    fn task(r: u16, p: u16) -> u16
+    pub fn task(r: u16, p: u16) -> u16
         requires { ⌜ (r < taskLimit) × (p < parts) ⌝ }
         ensures { λ v. ⌜ v ≡ taskWord r p ⌝ }
     {

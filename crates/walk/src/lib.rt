@@ -4,29 +4,15 @@ use plan::Checked;
 use refusal::Refusal;
 use work_rows::Row;
 ghost use mathlib.Core.Path.{_≡_};
-ghost use Prim.Native.Nat.{_*_, _≤_};
-ghost use lib.ListN.{length, take};
+ghost use Prim.Native.Nat.{_*_};
 ghost use Rattle.plan.specs.declared.Checked.{Checked};
 ghost use Rattle.plan.specs.Check.{checked, rulesOf};
 ghost use Rattle.forest.specs.Walk.{firstOther, placeJudged, lettersJudged};
 ghost use Rattle.demand.specs.Calls.{walkOf, lends, leaves};
-ghost use Rattle.work_rows.specs.Rows.{workLength, rowLength, Within};
-ghost use Rattle.work_load.specs.Prepared.{Arrangeable};
-ghost use Rattle.walk.specs.Calls.{Filled, Lendable};
+ghost use Rattle.work_rows.specs.Rows.{workLength, Within};
+ghost use Rattle.walk.specs.Calls.{Lendable};
 ghost use Rattle.walk_place.specs.Travel.{Walks};
 use walk_lent::Found;
-
-// The table of an accepted plan's rules, in the first rows of the work, made in an order in which each comes after those that it names.
-fn fill(plan: &[u8], work: &mut [u8], n: u16)
-    requires { ⌜ Arrangeable (now plan) n (now work) ⌝ }
-    ensures { λ x.
-        let work′ = now (work .exit) in
-        ⌜ Filled (rulesOf (now (plan .entry))) (take (rowLength * n) work′)
-        × Within 0 (workLength * n) (now (work .entry)) work′ ⌝ }
-{
-    work_load::arrange(plan, work, n);
-    facts_build::build(work, n);
-}
 
 // Letters on an accepted plan, past 8 and 9.
 fn walk_letters(
@@ -51,7 +37,7 @@ fn walk_letters(
         ⌜ Walks (rulesOf plan) (placeJudged (rulesOf plan) n start cursor) letters cursor cursor′ answers answers′ x
         × Within 0 (workLength * n) work work′ ⌝ }
 {
-    fill(plan, work, n);
+    facts_load::load(plan, work, n);
     let rows = &work[..Row::LENGTH * (n as usize)];
     walk_place::travel(rows, cursor, letters, answers, n, start)
 }

@@ -61,4 +61,19 @@ unsafe extern "C" {
         answers_len: usize,
         position: *mut u64,
     ) -> u32;
+
+    pub fn plan_compare(
+        plan: *const u8,
+        plan_len: usize,
+        work: *mut u8,
+        work_len: usize,
+        first: *const u8,
+        first_len: usize,
+        second: *const u8,
+        second_len: usize,
+        budget: u32,
+        verdict: *mut u32,
+        count: *mut u32,
+        position: *mut u64,
+    ) -> u32;
 }

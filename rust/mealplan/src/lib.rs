@@ -38,6 +38,17 @@ pub struct Measured {
     pub levels: u64,
 }
 
+/// What [`compare`] finds of two subtrees, with a count of pairs of nodes.
+#[derive(Clone, Copy, PartialEq, Eq, Debug)]
+pub enum Compared {
+    /// They are the same: the number of nodes of either.
+    Same(u32),
+    /// They differ: the place, from 1, of the first pair that does, where a node against an ended list is one too.
+    Differ(u32),
+    /// That number, of the same or of the first pair that differs, is above the budget: the budget.
+    Spent(u32),
+}
+
 /// The record length of a narrow plan, in bytes: rules of four words, labels 0 to 255.
 pub const NARROW: u16 = 8;
 
@@ -50,7 +61,7 @@ pub const MOST_RULES: usize = 16_384;
 /// The most rules of a plan that takes 64 bytes of work a rule; one of more rules takes 80.
 pub const FEW_RULES: usize = 1_024;
 
-/// Bytes of work that [`measure`], [`spread`] and [`walk`] need for a plan of so many rules.
+/// Bytes of work that [`measure`], [`spread`], [`walk`] and [`compare`] need for a plan of so many rules.
 pub const fn work_bytes(rules: usize) -> usize {
     if rules > FEW_RULES { 80 * rules } else { 64 * rules }
 }
@@ -182,4 +193,33 @@ pub fn walk(
         )
     };
     answer(number, position, ())
+}
+
+/// Compares the subtrees at the places stored in two cursors, as lists of their nodes in reading order with label and level. The count is
+/// never above the budget, and a larger budget changes no [`Compared::Same`] and no [`Compared::Differ`]. `work` needs [`work_bytes`].
+pub fn compare(plan: &[u8], work: &mut [u8], first: &[u8], second: &[u8], budget: u32) -> Result<Compared, Refused> {
+    let (mut verdict, mut count, mut position) = (0, 0, 0);
+    // SAFETY: as in `spread`; the cursors are only read.
+    let number = unsafe {
+        c::plan_compare(
+            plan.as_ptr(),
+            plan.len(),
+            work.as_mut_ptr(),
+            work.len(),
+            first.as_ptr(),
+            first.len(),
+            second.as_ptr(),
+            second.len(),
+            budget,
+            &mut verdict,
+            &mut count,
+            &mut position,
+        )
+    };
+    let compared = match verdict {
+        0 => Compared::Same(count),
+        1 => Compared::Differ(count),
+        _ => Compared::Spent(count),
+    };
+    answer(number, position, compared)
 }

@@ -1,4 +1,4 @@
-//! The six operations on meal plans, written from documents 01 and 02 and Reh and Sieber's paper alone, so that the proved library has
+//! The seven operations on meal plans, written from documents 01 and 02 and Reh and Sieber's paper alone, so that the proved library has
 //! something to be compared with. It is written twice over the same format ([`plan`]):
 //!
 //! - [`unfolded`] unfolds the forest into memory, gives every node its place and walks with a finger, word for word as document 01
@@ -9,6 +9,7 @@
 #![forbid(unsafe_code)]
 
 pub mod answers;
+pub mod compare;
 pub mod format;
 pub mod place;
 pub mod plan;
@@ -19,6 +20,7 @@ pub mod unfolded;
 pub mod words;
 
 pub use answers::NOWHERE;
+pub use compare::Compared;
 pub use format::Format;
 pub use refusal::{Refused, Why};
 

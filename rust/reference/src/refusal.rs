@@ -24,11 +24,11 @@ pub enum Why {
     Sort = 6,
     /// The start isn't below n or isn't closed.
     Start = 7,
-    /// Work, cursor or answers are too short.
+    /// Work, a cursor or answers are too short.
     Lent = 8,
     /// A byte that is no letter.
     Letter = 9,
-    /// The stored cells aren't a place of this forest.
+    /// The stored cells aren't a place of this forest; for compare, not a node's place.
     Place = 10,
     /// Output too short, or more than 2^64 − 1 nodes.
     Output = 11,

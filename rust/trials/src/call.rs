@@ -1,6 +1,6 @@
 //! A call with the slices that it is lent, and what an implementation makes of it.
 use crate::draft::Draft;
-use reference::{Checked, Format, Measured, Refused, Unsealed, answers, rules, unfolded::Unfolded};
+use reference::{Checked, Compared, Format, Measured, Refused, Unsealed, answers, rules, unfolded::Unfolded};
 use reference::{plan, plan::cursor_bytes, plan::work_bytes};
 
 #[derive(Clone, Copy, PartialEq, Eq, PartialOrd, Ord, Debug)]
@@ -11,15 +11,30 @@ pub enum Operation {
     Measure,
     Spread,
     Walk,
+    Compare,
 }
 
 impl Operation {
-    pub const ALL: [Operation; 6] =
-        [Operation::Check, Operation::Seal, Operation::Unseal, Operation::Measure, Operation::Spread, Operation::Walk];
+    pub const ALL: [Operation; 7] = [
+        Operation::Check,
+        Operation::Seal,
+        Operation::Unseal,
+        Operation::Measure,
+        Operation::Spread,
+        Operation::Walk,
+        Operation::Compare,
+    ];
 
-    /// Whether the operation is lent work.
+    /// Those that are lent work.
+    pub const WORKING: [Operation; 4] = [Operation::Measure, Operation::Spread, Operation::Walk, Operation::Compare];
+
     pub fn works(self) -> bool {
-        matches!(self, Operation::Measure | Operation::Spread | Operation::Walk)
+        Operation::WORKING.contains(&self)
+    }
+
+    /// Whether the operation is lent a cursor; compare is lent two.
+    pub fn has_place(self) -> bool {
+        matches!(self, Operation::Walk | Operation::Compare)
     }
 }
 
@@ -33,10 +48,14 @@ pub struct Call {
     pub record_length: u16,
     pub start: u16,
     pub work: Vec<u8>,
+    /// Walk's cursor, or compare's first.
     pub cursor: Vec<u8>,
     pub letters: Vec<u8>,
     pub answers: Vec<u8>,
     pub out: Vec<u8>,
+    /// Compare's second cursor, and its budget.
+    pub second: Vec<u8>,
+    pub budget: u32,
 }
 
 impl Call {
@@ -52,14 +71,24 @@ impl Call {
             letters: Vec::new(),
             answers: Vec::new(),
             out: Vec::new(),
+            second: Vec::new(),
+            budget: 0,
         };
         if operation.works() {
             call.work = vec![0x5A; work_bytes(n)];
         }
-        if operation == Operation::Walk {
+        if operation.has_place() {
             call.cursor = vec![0; cursor_bytes(n)];
         }
+        if operation == Operation::Compare {
+            call.second = vec![0; cursor_bytes(n)];
+        }
         call
+    }
+
+    /// The comparison of two stored places of a plan.
+    pub fn compare(draft: &Draft, cursor: Vec<u8>, second: Vec<u8>, budget: u32) -> Call {
+        Call { cursor, second, budget, ..Call::new(Operation::Compare, draft.plan(), draft.n()) }
     }
 
     /// The seal of a draft's rules, without output.
@@ -86,6 +115,8 @@ pub struct Slices<'a> {
     pub letters: &'a [u8],
     pub answers: &'a mut [u8],
     pub out: &'a mut [u8],
+    pub second: &'a [u8],
+    pub budget: u32,
 }
 
 /// The values that an accepted call gives.
@@ -96,11 +127,12 @@ pub enum Values {
     Length(u64),
     Measured(Measured),
     Walked,
+    Compared(Compared),
 }
 
 pub type Outcome = Result<Values, Refused>;
 
-/// An implementation of the six operations. One that can't take a call on says so by `None`.
+/// An implementation of the seven operations. One that can't take a call on says so by `None`.
 pub trait Implementation {
     fn name(&self) -> &'static str;
     fn run(&mut self, operation: Operation, lent: Slices) -> Option<Outcome>;
@@ -124,6 +156,10 @@ impl Implementation for ByRules {
             Operation::Walk => {
                 let walked = rules::walk(lent.plan, lent.work, lent.cursor, lent.letters, lent.answers);
                 walked.map(|()| Values::Walked)
+            }
+            Operation::Compare => {
+                let compared = rules::compare(lent.plan, lent.work, lent.cursor, lent.second, lent.budget);
+                compared.map(Values::Compared)
             }
         })
     }
@@ -163,6 +199,9 @@ impl Implementation for OnForest {
         Some(match operation {
             Operation::Measure => unfolded.measure(lent.work).map(Values::Measured),
             Operation::Spread => unfolded.spread(lent.work, lent.out).map(Values::Length),
+            Operation::Compare => {
+                unfolded.compare(lent.work, lent.cursor, lent.second, lent.budget).map(Values::Compared)
+            }
             _ => unfolded.walk(lent.work, lent.cursor, lent.letters, lent.answers).map(|()| Values::Walked),
         })
     }

@@ -72,6 +72,27 @@ impl Draft {
         Draft { format: self.format, records, start: of(self.start), prefix: self.prefix.clone() }
     }
 
+    /// The same rules twice, so that neither names one of the other's; and the start of either.
+    pub fn twice(&self) -> (Draft, [u16; 2]) {
+        let n = self.n() as u16;
+        let mut twice = self.clone();
+        twice.records.extend(self.records.iter().map(|record| {
+            let mut copy = *record;
+            names_of(record[0]).for_each(|(word, _)| copy[word] += n);
+            copy
+        }));
+        (twice, [self.start, self.start + n])
+    }
+
+    /// The same plan with rules that nothing names behind its own, so that it has so many.
+    pub fn padded(mut self, n: usize) -> Draft {
+        while self.n() < n {
+            let own = self.start;
+            self.records.push(if self.n().is_multiple_of(2) { Rule::Pair(own, 0) } else { Rule::Empty }.words());
+        }
+        self
+    }
+
     /// The same rules in a plan of a format; a narrow one has no labels above 255.
     pub fn in_format(self, format: Format) -> Draft {
         Draft { format, ..self }

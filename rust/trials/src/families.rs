@@ -186,6 +186,63 @@ pub fn leaves(count: u128) -> Draft {
     draft
 }
 
+/// How the two trees of a forest stand to each other, which share most of their rules.
+#[derive(Clone, Copy, PartialEq, Eq, Debug)]
+pub enum Twins {
+    /// They are one rule.
+    OneRule,
+    /// They are the same by rules of their own over shared ones.
+    OwnTops,
+    /// They differ in one entry, the last that both have in common.
+    OneEntry,
+}
+
+/// Two trees, each a node over a row doubled so often; and the number of their comparison. Where they differ it is in the last leaf, so that
+/// each half of the row that has this leaf is a rule of its own.
+pub fn twin_rows(twins: Twins, doublings: u32) -> (Draft, u128) {
+    let mut draft = Draft::default();
+    let (empty, mut row) = ground(&mut draft);
+    let mut other = draft.add(Rule::Node(u32::from(b'b'), empty));
+    for _ in 0..doublings {
+        other = draft.add(Rule::Pair(row, other));
+        row = draft.add(Rule::Pair(row, row));
+    }
+    let first = draft.add(Rule::Node(u32::from(b'c'), row));
+    let second = match twins {
+        Twins::OneRule => first,
+        Twins::OwnTops => draft.add(Rule::Node(u32::from(b'c'), row)),
+        Twins::OneEntry => draft.add(Rule::Node(u32::from(b'c'), other)),
+    };
+    draft.add(Rule::Pair(first, second));
+    (draft, 1 + (1 << doublings))
+}
+
+/// Two spines of parts, doubled so often and at least once, with a leaf on either side of each hole; and the number of their comparison. Where
+/// they differ it is in the leaf in the last hole.
+pub fn twin_spines(twins: Twins, doublings: u32) -> (Draft, u128) {
+    let mut draft = Draft::default();
+    let (empty, leaf) = ground(&mut draft);
+    let other = draft.add(Rule::Node(u32::from(b'b'), empty));
+    let mut spine = draft.add(Rule::Part(u32::from(b'c'), leaf, leaf));
+    for _ in 1..doublings {
+        spine = draft.add(Rule::Join(spine, spine));
+    }
+    let mut tree = |content: u16| {
+        let joined = draft.add(Rule::Join(spine, spine));
+        draft.add(Rule::Fill(joined, content))
+    };
+    let first = tree(leaf);
+    let second = match twins {
+        Twins::OneRule => first,
+        Twins::OwnTops => tree(leaf),
+        Twins::OneEntry => tree(other),
+    };
+    draft.add(Rule::Pair(first, second));
+    // Of each part it and a leaf stand before its hole, and a leaf behind it.
+    let parts = 1 << doublings.max(1);
+    (draft, if twins == Twins::OneEntry { 2 * parts + 1 } else { 3 * parts + 1 })
+}
+
 /// Any of the families, of at most this many rules.
 pub fn any(random: &mut Random, most: usize) -> Draft {
     let n = random.between(8, most.clamp(8, MAX_RULES));

@@ -1,11 +1,15 @@
 //! What documents 01 and 02 say of the lent slices, asked of every call whatever the implementations agree on.
 use crate::call::{Call, Operation, Outcome, Values};
 use reference::plan::{TRAILER, cursor_bytes, work_bytes};
-use reference::{Format, Why, answers, words};
+use reference::{Compared, Format, Why, answers, words};
 
 /// Asks the laws of a call and of the slices after it.
 pub fn ask(before: &Call, outcome: &Outcome, after: &Call) {
     assert!(before.plan == after.plan && before.letters == after.letters, "no call writes its plan or letters");
+    if before.operation != Operation::Walk {
+        assert!(before.cursor == after.cursor && before.second == after.second, "only walk writes a cursor");
+        assert!(before.answers == after.answers, "only walk writes answers");
+    }
     if before.operation == Operation::Seal {
         let neither = Format::of_record_length(before.record_length).is_none();
         assert_eq!(*outcome == Err(Why::Mark.here()), neither, "seal's 1 is a record length that is neither");
@@ -24,6 +28,7 @@ pub fn ask(before: &Call, outcome: &Outcome, after: &Call) {
     }
     match before.operation {
         Operation::Walk => ask_walk(before, outcome, after, n),
+        Operation::Compare => ask_compare(before, outcome, n),
         _ => ask_front(&before.out, outcome, &after.out),
     }
 }
@@ -65,6 +70,19 @@ fn ask_walk(before: &Call, outcome: &Outcome, after: &Call, n: usize) {
         let same = 8 * (k.min(k_before).saturating_sub(16) + 1);
         assert!(after.cursor[8..same] == before.cursor[8..same], "a letter changes the last sixteen cells at most");
     }
+}
+
+fn ask_compare(call: &Call, outcome: &Outcome, n: usize) {
+    let Ok(Values::Compared(compared)) = *outcome else { return };
+    match compared {
+        Compared::Same(count) | Compared::Differ(count) => {
+            assert!((1..=call.budget).contains(&count), "a node has a pair, and the count is no larger than the budget")
+        }
+        Compared::Spent(count) => assert_eq!(count, call.budget, "spent, the count is the budget"),
+    }
+    let one_place = call.cursor[..8 * (cells(&call.cursor) + 1)] == call.second[..8 * (cells(&call.second) + 1)];
+    assert!(!one_place || !matches!(compared, Compared::Differ(_)), "a place doesn't differ from itself");
+    assert!([&call.cursor, &call.second].iter().all(|cursor| (1..=3 * n).contains(&cells(cursor))), "both are nodes");
 }
 
 fn cells(cursor: &[u8]) -> usize {

@@ -30,6 +30,7 @@ pub fn try_all(trial: &mut Trial, effort: usize) {
     rounds::sizes::agree(trial, 20 * effort);
     rounds::orders::agree(trial, 10 * effort);
     rounds::formats::agree(trial, 10 * effort);
+    rounds::compares::agree(trial, 12 * effort);
     rounds::wards::agree(trial, effort.div_ceil(5));
 }
 

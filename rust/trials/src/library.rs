@@ -1,7 +1,7 @@
 //! The proved library as an implementation: by the safe functions, and by the C functions themselves.
 use crate::call::{Implementation, Operation, Outcome, Slices, Values};
 use mealplan::c;
-use reference::{Checked, Measured, Refused, Unsealed};
+use reference::{Checked, Compared, Measured, Refused, Unsealed};
 
 /// The library by the safe functions of crate `mealplan`.
 pub struct Library;
@@ -17,6 +17,14 @@ fn unsealed(unsealed: mealplan::Unsealed) -> Values {
 
 fn measured(counts: mealplan::Measured) -> Values {
     Values::Measured(Measured { trees: counts.trees, entries: counts.entries, levels: counts.levels })
+}
+
+fn compared(compared: mealplan::Compared) -> Values {
+    Values::Compared(match compared {
+        mealplan::Compared::Same(count) => Compared::Same(count),
+        mealplan::Compared::Differ(count) => Compared::Differ(count),
+        mealplan::Compared::Spent(count) => Compared::Spent(count),
+    })
 }
 
 impl Implementation for Library {
@@ -35,6 +43,9 @@ impl Implementation for Library {
                 let walked = mealplan::walk(lent.plan, lent.work, lent.cursor, lent.letters, lent.answers);
                 walked.map(|()| Values::Walked)
             }
+            Operation::Compare => {
+                mealplan::compare(lent.plan, lent.work, lent.cursor, lent.second, lent.budget).map(compared)
+            }
         };
         Some(answer.map_err(|refused| Refused { number: refused.number, position: refused.position }))
     }
@@ -45,6 +56,7 @@ impl Implementation for Library {
 pub struct Interface;
 
 const SMALL: u16 = 0xBEEF;
+const MIDDLE: u32 = 0xDEAD_BEEF;
 const LARGE: u64 = 0xFEED_FACE_CAFE_BEEF;
 
 impl Implementation for Interface {
@@ -53,11 +65,13 @@ impl Implementation for Interface {
     }
 
     fn run(&mut self, operation: Operation, lent: Slices) -> Option<Outcome> {
-        let Slices { plan, record_length, start, work, cursor, letters, answers, out } = lent;
+        let Slices { plan, record_length, start, work, cursor, letters, answers, out, second, budget } = lent;
         let mut small = [SMALL; 3];
+        let mut middle = [MIDDLE; 2];
         let mut large = [LARGE; 3];
         let mut position = LARGE;
         let [length, n, first] = &mut small;
+        let [verdict, count] = &mut middle;
         let [trees, entries, levels] = &mut large;
         let (plan, plan_len) = (plan.as_ptr(), plan.len());
         let (to, to_len) = (out.as_mut_ptr(), out.len());
@@ -85,10 +99,25 @@ impl Implementation for Interface {
                     answers.len(),
                     &mut position,
                 ),
+                Operation::Compare => c::plan_compare(
+                    plan,
+                    plan_len,
+                    room,
+                    room_len,
+                    cursor.as_ptr(),
+                    cursor.len(),
+                    second.as_ptr(),
+                    second.len(),
+                    budget,
+                    verdict,
+                    count,
+                    &mut position,
+                ),
             }
         };
         if number != 0 {
-            assert!(small == [SMALL; 3] && large == [LARGE; 3], "a number was written though {number} refused");
+            let untouched = small == [SMALL; 3] && middle == [MIDDLE; 2] && large == [LARGE; 3];
+            assert!(untouched, "a number was written though {number} refused");
             return Some(Err(Refused { number, position }));
         }
         assert_eq!(position, 0, "the position of an accepted call");
@@ -100,6 +129,12 @@ impl Implementation for Interface {
             Operation::Seal | Operation::Spread => Values::Length(trees),
             Operation::Measure => Values::Measured(Measured { trees, entries, levels }),
             Operation::Walk => Values::Walked,
+            Operation::Compare => Values::Compared(match middle {
+                [0, count] => Compared::Same(count),
+                [1, count] => Compared::Differ(count),
+                [2, count] => Compared::Spent(count),
+                [verdict, _] => panic!("{verdict} is no verdict"),
+            }),
         }))
     }
 }

@@ -1,8 +1,8 @@
 //! What has been tried, and whether it was enough.
-use crate::call::{Call, Operation, Outcome};
+use crate::call::{Call, Operation, Outcome, Values};
 use crate::laws;
 use reference::plan::FEW_RULES;
-use reference::{NOWHERE, Why, answers, words};
+use reference::{Compared, NOWHERE, Why, answers, words};
 use std::collections::BTreeMap;
 use std::fmt;
 
@@ -17,6 +17,11 @@ pub const LEAST_WIDENED: u64 = 1_000;
 pub const LEAST_CALLS_OF_WARDS: u64 = 2_000;
 pub const LEAST_LETTERS_OF_WARDS: u64 = 100_000;
 pub const LEAST_CELLS: usize = 32_766;
+/// How often each verdict of compare must have come; how often on subtrees of which it was known beforehand, since nobody lists them; and how
+/// often with a count above 2^31.
+pub const LEAST_EACH_VERDICT: u64 = 5_000;
+pub const LEAST_TOLD: u64 = 5_000;
+pub const LEAST_FAR: u64 = 500;
 /// The last refusal.
 const LAST: u32 = Why::Cycle as u32;
 
@@ -36,6 +41,10 @@ pub struct Tally {
     pub calls_of_wards: u64,
     pub letters_of_wards: u64,
     pub most_cells: usize,
+    /// How often compare said same, differ and spent; with a count above 2^31; and how often what it was to say was known beforehand.
+    pub verdicts: [u64; 3],
+    pub far: u64,
+    pub told: u64,
     /// How often a refusal came up: by its number, the way to it, and the operation.
     ways: BTreeMap<(u32, String, Operation), u64>,
 }
@@ -55,6 +64,20 @@ impl Tally {
             self.moves += (0..call.letters.len()).filter(|index| moved(*index)).count() as u64;
             self.most_cells = self.most_cells.max(words::get(&after.cursor, 0).into());
         }
+        if let Ok(Values::Compared(compared)) = outcome {
+            self.count_verdict(*compared);
+        }
+    }
+
+    fn count_verdict(&mut self, compared: Compared) {
+        let (verdict, count) = match compared {
+            Compared::Same(count) => (0, count),
+            Compared::Differ(count) => (1, count),
+            // What was found is the budget, however far that is.
+            Compared::Spent(_) => (2, 0),
+        };
+        self.verdicts[verdict] += 1;
+        self.far += u64::from(count > 1 << 31);
     }
 
     /// Notes that a way is to be tried, and whether it came up now.
@@ -85,6 +108,11 @@ impl Tally {
         }
         if self.most_cells < LEAST_CELLS {
             missing.push(format!("{} cells", self.most_cells));
+        }
+        if self.verdicts.iter().any(|came| *came < LEAST_EACH_VERDICT) || self.told < LEAST_TOLD || self.far < LEAST_FAR
+        {
+            let Tally { verdicts, told, far, .. } = self;
+            missing.push(format!("verdicts {verdicts:?}, {told} known beforehand, {far} above 2^31"));
         }
         if 3 * self.moves < self.letters {
             missing.push(format!("{} moves of {} letters", self.moves, self.letters));
@@ -121,6 +149,12 @@ impl fmt::Display for Tally {
             f,
             "more than 1,024 rules: {} calls, {} letters; the most cells of a place are {}",
             self.calls_of_wards, self.letters_of_wards, self.most_cells
+        )?;
+        let [same, differ, spent] = self.verdicts;
+        writeln!(
+            f,
+            "compared: {same} same, {differ} differ, {spent} spent; {} known beforehand, {} with a count above 2^31",
+            self.told, self.far
         )?;
         for number in 1..=LAST {
             let of_number = self.ways.iter().filter(|(key, _)| key.0 == number);

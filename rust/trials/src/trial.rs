@@ -50,6 +50,20 @@ impl Trial {
         Judged { outcome, after }
     }
 
+    /// A call that would take the references too long: the library must give what is known of it from how it was made.
+    pub fn told(&mut self, call: &Call, outcome: &Outcome, why: &str) {
+        let _told = Told { call, seed: self.seed };
+        let odd = self.random.once_in(2);
+        let others: [&mut dyn Implementation; 2] = [&mut Library, &mut Interface];
+        for other in others {
+            let answer = self.rooms.run(other, call, odd).expect("it takes on every call");
+            assert_eq!(answer, *outcome, "{} answers otherwise (left) than is known (right): {why}", other.name());
+            laws::ask(call, outcome, &self.rooms.taken_back(call));
+        }
+        self.tally.count(call, outcome, call);
+        self.tally.told += 1;
+    }
+
     /// A call that must be accepted; gives the slices after it.
     pub fn accepted(&mut self, call: &Call, why: &str) -> Call {
         let Judged { outcome, after } = self.judge(call);
@@ -83,6 +97,7 @@ struct Rooms {
     letters: Room,
     answers: Room,
     out: Room,
+    second: Room,
 }
 
 impl Rooms {
@@ -93,6 +108,7 @@ impl Rooms {
         self.letters.fill(&call.letters, odd);
         self.answers.fill(&call.answers, odd);
         self.out.fill(&call.out, odd);
+        self.second.fill(&call.second, odd);
         let lent = Slices {
             plan: self.plan.lend(),
             record_length: call.record_length,
@@ -102,6 +118,8 @@ impl Rooms {
             letters: self.letters.lend(),
             answers: self.answers.lend(),
             out: self.out.lend(),
+            second: self.second.lend(),
+            budget: call.budget,
         };
         let outcome = implementation.run(call.operation, lent);
         for (name, room) in self.named() {
@@ -110,7 +128,7 @@ impl Rooms {
         outcome
     }
 
-    fn named(&self) -> [(&'static str, &Room); 6] {
+    fn named(&self) -> [(&'static str, &Room); 7] {
         [
             ("plan", &self.plan),
             ("work", &self.work),
@@ -118,18 +136,20 @@ impl Rooms {
             ("letters", &self.letters),
             ("answers", &self.answers),
             ("output", &self.out),
+            ("second cursor", &self.second),
         ]
     }
 
     /// The slices as the last call left them.
     fn taken_back(&self, call: &Call) -> Call {
-        let [plan, work, cursor, letters, answers, out] = self.named().map(|(_, room)| room.content().to_vec());
-        let Call { operation, record_length, start, .. } = *call;
-        Call { operation, record_length, start, plan, work, cursor, letters, answers, out }
+        let [plan, work, cursor, letters, answers, out, second] = self.named().map(|(_, room)| room.content().to_vec());
+        let Call { operation, record_length, start, budget, .. } = *call;
+        Call { operation, record_length, start, plan, work, cursor, letters, answers, out, second, budget }
     }
 
     fn compare(&self, name: &str, after: &Call) {
-        let wanted = [&after.plan, &after.work, &after.cursor, &after.letters, &after.answers, &after.out];
+        let Call { plan, work, cursor, letters, answers, out, second, .. } = after;
+        let wanted = [plan, work, cursor, letters, answers, out, second];
         for ((slice, room), wanted) in self.named().into_iter().zip(wanted) {
             let differs = room.content().iter().zip(wanted).position(|(got, want)| got != want);
             if let Some(byte) = differs {
@@ -156,10 +176,12 @@ impl Drop for Told<'_> {
         if !std::thread::panicking() {
             return;
         }
-        let Call { operation, plan, record_length, start, work, cursor, letters, answers, out } = self.call;
+        let Call { operation, plan, record_length, start, work, cursor, letters, answers, out, second, budget } =
+            self.call;
         eprintln!("TRIALS_SEED={}: {operation:?}, seal's record length {record_length} and start {start}", self.seed);
         eprintln!("  plan ({} bytes) {}", plan.len(), hex(plan, 600));
         eprintln!("  cursor ({} bytes) {}", cursor.len(), hex(cursor, 200));
+        eprintln!("  second cursor ({} bytes) {}, budget {budget}", second.len(), hex(second, 200));
         eprintln!("  letters ({}) {}", letters.len(), String::from_utf8_lossy(&letters[..letters.len().min(200)]));
         eprintln!("  bytes of work {}, answers {}, output {}", work.len(), answers.len(), out.len());
     }

@@ -1,5 +1,5 @@
 //! The cases of document 01, as document 02 leaves them, by the safe functions.
-use mealplan::{Checked, Measured, NARROW, NOWHERE, Refused, Unsealed, WIDE};
+use mealplan::{Checked, Compared, Measured, NARROW, NOWHERE, Refused, Unsealed, WIDE};
 use reference::Format;
 use reference::plan::{Rule, WORDS};
 use trials::draft::Draft;
@@ -185,4 +185,32 @@ fn plans_for_a_whole_ward() {
         assert_eq!(mealplan::seal(&many(16_384).words(), format.record_length(), 0, &mut []), Err(refused(11, 0)));
     }
     assert_eq!((mealplan::FEW_RULES, mealplan::MOST_RULES), (1_024, 16_384));
+}
+
+#[test]
+fn two_places_of_the_sample_plan() {
+    for draft in [families::sample(), wide_sample()] {
+        let [tree, hole, child, leaf, last] = ["a", "afnn", "af", "an", "z"].map(|letters| {
+            let mut reader = Reader::new(&draft);
+            reader.walk(letters).expect("from above");
+            reader.cursor
+        });
+        let (plan, mut work) = (draft.plan(), vec![9; mealplan::work_bytes(draft.n())]);
+        let mut compare =
+            |first: &[u8], second: &[u8], budget| mealplan::compare(&plan, &mut work, first, second, budget);
+        for budget in [9, 10, u32::MAX] {
+            assert_eq!(compare(&tree, &tree, budget), Ok(Compared::Same(9)));
+            assert_eq!(compare(&hole, &hole, budget), Ok(Compared::Same(5)));
+            assert_eq!(compare(&tree, &hole, budget), Ok(Compared::Differ(4)));
+            assert_eq!(compare(&child, &leaf, budget), Ok(Compared::Same(1)));
+            assert_eq!(compare(&leaf, &last, budget), Ok(Compared::Differ(1)));
+        }
+        assert_eq!(compare(&tree, &tree, 8), Ok(Compared::Spent(8)));
+        assert_eq!(compare(&tree, &hole, 3), Ok(Compared::Spent(3)));
+        assert_eq!(compare(&leaf, &leaf, 0), Ok(Compared::Spent(0)));
+        let above = vec![0; tree.len()];
+        assert_eq!(compare(&above, &tree, 9), Err(refused(10, 0)));
+        assert_eq!(compare(&tree, &above, 9), Err(refused(10, 0)));
+        assert_eq!(compare(&above, &tree[..tree.len() - 1], 9), Err(refused(8, 0)));
+    }
 }

@@ -5,8 +5,9 @@ use mathlib.Core.Path.{ap, _∙_}
 use lib.ListN.{length, length-set}
 use Rattle.words.proofs.Laws.{length-put}
 use Rattle.record.specs.Format.{labelLength}
+use Rattle.forest.specs.Spelling.{inBytes}
 use Rattle.count_passes.specs.Says.{opening}
-use Rattle.spread_step.specs.Step.{saidBytes}
+use Rattle.spread_step.specs.Step.{saidIn}
 use Rattle.spread_stack.proofs.Stacks.{says-nothing, says-one, opening-fits, opening-said}
 use native.Mathlib.Omega.{arith}
 use Rattle.spread_stack.proofs.say.Statement.{statement}
@@ -34,7 +35,7 @@ enum-told-2 : tie.Need-enum-told-2
 enum-told-2 c = search needs
 
 one : (c : tie.After-enum-told2) → c .before .before .before .args .at + 1 ≤ length (c .before .before .before .args .out .now)
-unfolding saidBytes
+unfolding saidIn inBytes
 one c = rw (c .enum-told2 .given .1) at (c .before .before .before .pre)
 
 slice-write-out-2 : tie.Need-slice-write-out-2
@@ -44,7 +45,7 @@ add-result : tie.Need-add-result
 add-result c = search needs
 
 returns : tie.Need-returns
-unfolding saidBytes
+unfolding saidIn inBytes
 returns c = rw (c .enum-told .given .1) (omega arith, says-nothing _ (c .before .before .before .args .at))
 
 same-length : tie.Need-same-length
@@ -60,7 +61,7 @@ same-length-2 : tie.Need-same-length-2
 same-length-2 c = search needs
 
 returns-3 : tie.Need-returns-3
-unfolding saidBytes
+unfolding saidIn inBytes
 returns-3 c = rw (c .enum-told2 .given .1) (omega arith, says-one _ _ _ (one c))
 
 pub say-spec : {M : Type 1} → statement M

@@ -1,16 +1,18 @@
 //! The operations by rules alone: tables of rules in the lent work, nothing unfolded, and nothing allocated where rules name only
-//! lower ones; else the order of the rules is.
+//! lower ones; else the order of the rules is. Compare has two walkers, and allocates what the second one needs and copies of both cursors.
 //!
 //! A good walker without proofs, for plans of any size: it serves as the second opinion and as the benchmark's other side.
 mod counts;
 mod moves;
 mod stored;
+mod subtree;
 mod table;
 mod text;
 
 use crate::plan::{self, Plan, cursor_bytes, work_bytes};
-use crate::{Measured, Refused, Why, answers, first_stranger};
+use crate::{Compared, Measured, Refused, Why, answers, compare::pair_by_pair, first_stranger};
 use moves::Walker;
+use subtree::Subtree;
 use table::Table;
 
 /// Runs a use of the words of work that a plan needs, and clears them; 8 if there are fewer.
@@ -53,5 +55,20 @@ pub fn walk(plan: &[u8], work: &mut [u8], cursor: &mut [u8], letters: &[u8], out
         }
         walker.store();
         Ok(())
+    })
+}
+
+pub fn compare(plan: &[u8], work: &mut [u8], first: &[u8], second: &[u8], budget: u32) -> Result<Compared, Refused> {
+    let plan = plan::read(plan)?;
+    let needed = cursor_bytes(plan.rules.count());
+    if first.len() < needed || second.len() < needed {
+        return Err(Why::Lent.here());
+    }
+    with_work(&plan, work, |work| {
+        let mut more_work = vec![0; work.len()];
+        let [mut one, mut other] = [first, second].map(|cursor| cursor[..needed].to_vec());
+        let first = Subtree::at(&plan, work, &mut one).ok_or(Why::Place.here())?;
+        let second = Subtree::at(&plan, &mut more_work, &mut other).ok_or(Why::Place.here())?;
+        Ok(pair_by_pair(first, second, budget))
     })
 }

@@ -1,4 +1,5 @@
 //! A forest in memory, every node of which carries its place.
+use crate::compare::Listed;
 use crate::place::Cell;
 use crate::{Format, Measured};
 use std::collections::HashMap;
@@ -8,6 +9,18 @@ pub struct Tree {
     pub label: u32,
     pub place: Vec<Cell>,
     pub children: Vec<Tree>,
+}
+
+impl Tree {
+    /// All nodes in reading order, each with its level below the root.
+    pub fn listed(&self) -> impl Iterator<Item = Listed> {
+        let mut waiting = vec![(self, 0)];
+        std::iter::from_fn(move || {
+            let (tree, level) = waiting.pop()?;
+            waiting.extend(tree.children.iter().rev().map(|child| (child, level + 1)));
+            Some(Listed { label: tree.label, level })
+        })
+    }
 }
 
 /// A list of trees, and the path to each place.

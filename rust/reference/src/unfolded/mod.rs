@@ -1,13 +1,13 @@
-//! The operations on the forest unfolded into memory, word for word as document 01 says them.
+//! The operations on the forest unfolded into memory, word for word as documents 01 and 02 say them.
 pub mod finger;
 pub mod forest;
 pub mod places;
 
 use crate::place;
 use crate::plan::{self, Plan, cursor_bytes, work_bytes};
-use crate::{Format, Measured, Refused, Why, answers, first_stranger};
+use crate::{Compared, Format, Measured, Refused, Why, answers, compare::pair_by_pair, first_stranger};
 use finger::Finger;
-use forest::Forest;
+use forest::{Forest, Tree};
 
 /// A plan, its forest in memory, and the operations on it.
 pub struct Unfolded {
@@ -56,6 +56,22 @@ impl Unfolded {
         }
         place::store(self.forest.place_at(&finger.path), cursor);
         Ok(())
+    }
+
+    pub fn compare(&self, work: &mut [u8], first: &[u8], second: &[u8], budget: u32) -> Result<Compared, Refused> {
+        let needed = cursor_bytes(self.n);
+        if first.len() < needed || second.len() < needed {
+            return Err(Why::Lent.here());
+        }
+        self.take_work(work)?;
+        let (first, second) = (self.subtree(&first[..needed])?, self.subtree(&second[..needed])?);
+        Ok(pair_by_pair(first.listed(), second.listed(), budget))
+    }
+
+    /// The subtree at a stored place; above the forest there is none.
+    fn subtree(&self, cursor: &[u8]) -> Result<&Tree, Refused> {
+        let path = self.forest.path_of(&place::used(cursor)?).ok_or(Why::Place.here())?;
+        self.forest.node_at(&path).ok_or(Why::Place.here())
     }
 }
 

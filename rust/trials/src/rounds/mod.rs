@@ -1,4 +1,5 @@
 //! The rounds of a trial. Each tries one subject as often as it is told.
+pub mod compares;
 pub mod formats;
 pub mod orders;
 pub mod places;

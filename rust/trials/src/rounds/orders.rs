@@ -49,6 +49,7 @@ fn same_walks(trial: &mut Trial, both: [&Draft; 2], number: &[u16]) {
     for _ in 0..4 {
         let letters = rounds::letters(&mut trial.random, 100);
         let letters = walks::mostly_moving(trial, &calls[0], letters);
+        let before = calls.clone().map(|call| call.cursor);
         let walk =
             |call: Call| trial.accepted(&call.with_letters(&letters), "a walk from above or from where one ended");
         calls = calls.map(walk);
@@ -58,5 +59,11 @@ fn same_walks(trial: &mut Trial, both: [&Draft; 2], number: &[u16]) {
         let cells: Vec<Cell> = cells.into_iter().map(|cell| cell.renumbered(number)).collect();
         assert_eq!(cells, others, "renumbered, a plan has the same places");
         trial.tally.letters_on_both += letters.len() as u64;
+        let budget = trial.random.below(200) as u32;
+        let [compared, renumbered] = [0, 1].map(|which| {
+            let (from, to) = (before[which].clone(), calls[which].cursor.clone());
+            trial.judge(&Call::compare(both[which], from, to, budget)).outcome
+        });
+        assert_eq!(compared, renumbered, "renumbered, two places of a plan compare the same");
     }
 }

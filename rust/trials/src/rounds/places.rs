@@ -1,4 +1,4 @@
-//! Refusal 10, and walks from every place of small forests.
+//! Refusal 10 of walk and of compare, and walks from every place of small forests.
 use crate::call::{Call, Operation};
 use crate::cursors::{self, Known, Stored};
 use crate::draft::Draft;
@@ -20,11 +20,14 @@ pub fn refuse(trial: &mut Trial, rounds: usize) {
             let place = trial.random.pick(&places);
             let mut stored = Stored::of(&place);
             let applied = (damage.apply)(&mut stored, &known, &mut trial.random).is_some();
-            let call = call_from(trial, &known.draft, &stored);
-            if applied {
-                trial.perhaps_refused(&call, &damage.way, Why::Place as u32);
-            } else {
-                trial.tally.way(Operation::Walk, Why::Place as u32, &damage.way, false);
+            let walk = call_from(trial, &known.draft, &stored);
+            let other = trial.random.pick(&places);
+            for call in [compared_with(trial, &walk, &other), walk] {
+                if applied {
+                    trial.perhaps_refused(&call, &damage.way, Why::Place as u32);
+                } else {
+                    trial.tally.way(call.operation, Why::Place as u32, &damage.way, false);
+                }
             }
         }
         empty_forest(trial);
@@ -77,7 +80,7 @@ fn from_place(mut call: Call, stored: &Stored) -> Call {
 }
 
 /// The places of a plan's nodes, and that above the forest; none if the forest is too large or has no node.
-fn places_of(trial: &mut Trial, draft: &Draft) -> Option<Vec<Vec<Cell>>> {
+pub(super) fn places_of(trial: &mut Trial, draft: &Draft) -> Option<Vec<Vec<Cell>>> {
     let unfolded = trial.forest.unfold(&draft.plan())?;
     let mut places: Vec<Vec<Cell>> = unfolded.forest.places().cloned().collect();
     // A table's order isn't the same from run to run.
@@ -111,6 +114,19 @@ fn call_from(trial: &mut Trial, draft: &Draft, stored: &Stored) -> Call {
     call
 }
 
+/// The place that a walk begins at compared with another, in either sequence.
+fn compared_with(trial: &mut Trial, walk: &Call, other: &[Cell]) -> Call {
+    let mut second = walk.cursor.clone();
+    Stored::of(other).write(&mut second);
+    let mut cursor = walk.cursor.clone();
+    if trial.random.once_in(2) {
+        std::mem::swap(&mut cursor, &mut second);
+    }
+    let budget = trial.random.pick(&[0, 1, 10, u32::MAX]);
+    let (plan, work) = (walk.plan.clone(), walk.work.clone());
+    Call { work, cursor, second, budget, ..Call::new(Operation::Compare, plan, 0) }
+}
+
 /// An empty forest has no place but the one above it.
 fn empty_forest(trial: &mut Trial) {
     let mut draft = Draft::default();
@@ -123,6 +139,8 @@ fn empty_forest(trial: &mut Trial) {
         ("empty forest: a row over no rule", vec![Cell([Cell::ROW, 0, u16::MAX, 0]), Cell::spine(u16::MAX)]),
     ] {
         let call = call_from(trial, &draft, &Stored::of(&cells));
+        trial.refused(&call, way, Why::Place.here());
+        let call = compared_with(trial, &call, &cells);
         trial.refused(&call, way, Why::Place.here());
     }
     let call = call_from(trial, &draft, &Stored::of(&[]));

@@ -93,21 +93,28 @@ fn seal_words(trial: &mut Trial, format: Format) {
     trial.accepted(&call, "an odd last byte isn't counted");
 }
 
-/// 8: work, cursor and answers; a rest of answers isn't counted.
+/// 8: work, cursors and answers; a rest of answers isn't counted.
 fn lent(trial: &mut Trial, format: Format) {
     let draft = all_kinds(trial, format);
     let letters = rounds::letters(&mut trial.random, 9);
-    for operation in [Operation::Measure, Operation::Spread, Operation::Walk] {
+    for operation in Operation::WORKING {
         let mut call = Call::new(operation, draft.plan(), draft.n()).with_letters(&letters);
         call.work = trial.random.leftovers(call.work.len());
         for (way, length) in SHORT {
             let mut short = call.clone();
             short.work.truncate(length(call.work.len()));
             trial.refused(&short, &format!("{format:?} plan, work short {way}"), Why::Lent.here());
-            if operation == Operation::Walk {
+            if operation.has_place() {
                 let mut short = call.clone();
                 short.cursor.truncate(length(call.cursor.len()));
                 trial.refused(&short, &format!("{format:?} plan, cursor short {way}"), Why::Lent.here());
+            }
+            if operation == Operation::Compare {
+                let mut short = call.clone();
+                short.second.truncate(length(call.second.len()));
+                trial.refused(&short, &format!("{format:?} plan, second cursor short {way}"), Why::Lent.here());
+            }
+            if operation == Operation::Walk {
                 let mut short = call.clone();
                 short.answers.truncate(length(call.answers.len()));
                 trial.refused(&short, &format!("{format:?} plan, answers short {way}"), Why::Lent.here());

@@ -4,10 +4,10 @@ use crate::call::{Call, Operation};
 use crate::cursors::{self, Known, Stored};
 use crate::draft::Draft;
 use crate::families::{self, Growth};
-use crate::rounds::{self, plans, sizes, walks};
+use crate::rounds::{self, compares, plans, sizes, walks};
 use crate::trial::Trial;
 use crate::{cycles, random_plans};
-use reference::plan::{FEW_RULES, MAX_RULES, Rule};
+use reference::plan::{FEW_RULES, MAX_RULES};
 use reference::{Format, LETTERS, Refused, Why, place};
 
 /// The sizes: on both sides of where a rule's work grows, between, and on both sides of the limit.
@@ -48,16 +48,7 @@ fn shaped(trial: &mut Trial, turn: usize, n: usize) -> Draft {
         6 => families::towers(n),
         _ => random_plans::any(&mut trial.random, n),
     };
-    padded(draft, n)
-}
-
-/// The same plan with rules that nothing names behind its own, so that it has so many.
-fn padded(mut draft: Draft, n: usize) -> Draft {
-    while draft.n() < n {
-        let own = draft.start;
-        draft.records.push(if draft.n() % 2 == 0 { Rule::Pair(own, 0) } else { Rule::Empty }.words());
-    }
-    draft
+    draft.padded(n)
 }
 
 fn in_format(trial: &mut Trial, format: Format, draft: Draft) -> Draft {
@@ -73,6 +64,7 @@ fn every_operation(trial: &mut Trial, draft: &Draft) {
     works(trial, draft);
     walks::list(trial, draft, 3);
     places(trial, draft);
+    compares::compare_far(trial, draft);
 }
 
 /// A call that must be refused so.
@@ -98,7 +90,7 @@ fn too_many(trial: &mut Trial, draft: &Draft) {
 /// Work of every length around 32 words a rule and 40, for one of the operations that take it.
 fn works(trial: &mut Trial, draft: &Draft) {
     let n = draft.n();
-    let operation = trial.random.pick(&[Operation::Measure, Operation::Spread, Operation::Walk]);
+    let operation = trial.random.pick(&Operation::WORKING);
     let call = Call::new(operation, draft.plan(), n).with_letters(b"az");
     let between = trial.random.between(64 * n, 80 * n);
     for bytes in [64 * n - 1, 64 * n, 64 * n + 1, between, 80 * n - 1, 80 * n, 80 * n + 1] {
@@ -107,9 +99,10 @@ fn works(trial: &mut Trial, draft: &Draft) {
         let outcome = trial.judge(&call).outcome;
         assert_eq!(outcome == Err(Why::Lent.here()), short, "{operation:?} of {n} rules with {bytes} bytes of work");
     }
-    if operation == Operation::Walk {
+    if operation.has_place() {
         let mut call = call;
-        call.cursor.pop();
+        let second = operation == Operation::Compare && trial.random.once_in(2);
+        if second { &mut call.second } else { &mut call.cursor }.pop();
         comes(trial, &call, "the cursor needs 16 × (n + 1) words, as before", Why::Lent.here());
     }
 }
@@ -147,7 +140,7 @@ fn beside_larger(trial: &mut Trial) {
     let draft = families::any(&mut trial.random, FEW_RULES);
     let draft = rounds::in_any_format(&mut trial.random, draft);
     let n = trial.random.pick(&[1_025, 2_000]);
-    let both = [padded(draft.clone(), n), draft];
+    let both = [draft.clone().padded(n), draft];
     let [counts, of_few] =
         [0, 1].map(|which| trial.judge(&Call::new(Operation::Measure, both[which].plan(), both[which].n())).outcome);
     assert_eq!(counts, of_few, "with more rules that nothing names, a plan has the same counts");

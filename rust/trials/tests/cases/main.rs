@@ -49,11 +49,12 @@ struct Lent {
     plan: Vec<u8>,
     length: usize,
     cursor: Vec<u8>,
+    second: Vec<u8>,
 }
 
 impl Lent {
     fn nothing(sample: Vec<u8>, wide: Vec<u8>) -> Lent {
-        Lent { sample, wide, plan: vec![0; MOST], length: 0, cursor: vec![0; MOST] }
+        Lent { sample, wide, plan: vec![0; MOST], length: 0, cursor: vec![0; MOST], second: vec![0; MOST] }
     }
 
     /// A line that lends.
@@ -74,6 +75,11 @@ impl Lent {
                 self.cursor.fill(FILL);
                 put(&bytes(words)?, &mut self.cursor, 0)?;
             }
+            ("second", words) => {
+                self.second.fill(FILL);
+                put(&bytes(words)?, &mut self.second, 0)?;
+            }
+            ("keep", []) => self.second.copy_from_slice(&self.cursor),
             _ => return Err("no such line".to_string()),
         }
         Ok(())
@@ -84,9 +90,10 @@ impl Lent {
         let fields: Vec<&str> = case.splitn(3, '|').collect();
         let [text, _, expected] = fields[..] else { return Err("a case has three fields".to_string()) };
         let mut call = self.call(text)?;
+        let before = call.clone();
         let outcome = made(&mut call);
         self.cursor[..call.cursor.len()].copy_from_slice(&call.cursor);
-        let came = told::line(&call, &outcome);
+        let came = told::line(&before, &call, &outcome);
         if came == expected { Ok(()) } else { Err(format!("expected: {expected}\n  came:     {came}")) }
     }
 
@@ -101,7 +108,7 @@ impl Lent {
         };
         let [work, cursor, out] = lengths.map(number);
         let (work, out) = (vec![FILL; work?], vec![FILL; out?]);
-        let cursor = self.cursor.get(..cursor?).ok_or("no room for such a cursor")?.to_vec();
+        let cursor = lent(&self.cursor, cursor?)?;
         let plan = self.plan[..self.length].to_vec();
         let operation = operation(name)?;
         let mut call = Call { work, cursor, ..Call::new(operation, plan, 0) };
@@ -110,12 +117,17 @@ impl Lent {
                 call.letters = letters.as_bytes().to_vec();
                 call.answers = out;
             }
+            (Operation::Compare, Some(budget)) => {
+                call.second = lent(&self.second, out.len())?;
+                call.budget = budget.parse().map_err(|_| format!("'{budget}' is no budget"))?;
+            }
             (Operation::Seal, Some(told)) => {
                 let (record_length, start) = told.split_once(' ').ok_or("seal needs a record length and a start")?;
                 call.record_length = word(record_length)?;
                 call.start = word(start)?;
                 call.out = out;
             }
+            (Operation::Compare, None) => return Err("compare needs a budget".to_string()),
             (Operation::Walk, None) => return Err("walk needs letters".to_string()),
             (Operation::Seal, None) => return Err("seal needs a record length and a start".to_string()),
             (_, Some(tail)) => return Err(format!("{name} doesn't take {tail}")),
@@ -123,6 +135,11 @@ impl Lent {
         }
         Ok(call)
     }
+}
+
+/// So many bytes of a cursor.
+fn lent(cursor: &[u8], length: usize) -> Result<Vec<u8>, String> {
+    Ok(cursor.get(..length).ok_or("no room for such a cursor")?.to_vec())
 }
 
 /// What the library makes of a call, which then has the slices as they are left.
@@ -136,6 +153,8 @@ fn made(call: &mut Call) -> Outcome {
         letters: &call.letters,
         answers: &mut call.answers,
         out: &mut call.out,
+        second: &call.second,
+        budget: call.budget,
     };
     Library.run(call.operation, lent).expect("it takes on every call")
 }
@@ -148,6 +167,7 @@ fn operation(name: &str) -> Result<Operation, String> {
         "measure" => Operation::Measure,
         "spread" => Operation::Spread,
         "walk" => Operation::Walk,
+        "compare" => Operation::Compare,
         _ => return Err(format!("{name} is no operation")),
     })
 }

@@ -1,10 +1,10 @@
 //! What came of a call, told in a line.
 use crate::FILL;
-use reference::{NOWHERE, answers, words};
+use reference::{Compared, NOWHERE, answers, words};
 use trials::call::{Call, Operation, Outcome, Values};
 
 /// The answer, then what the call left in the slices that its operation writes.
-pub fn line(after: &Call, outcome: &Outcome) -> String {
+pub fn line(before: &Call, after: &Call, outcome: &Outcome) -> String {
     let work = rest(", work", &after.work, 0);
     let left = match after.operation {
         Operation::Check => String::new(),
@@ -12,6 +12,8 @@ pub fn line(after: &Call, outcome: &Outcome) -> String {
         Operation::Measure => work,
         Operation::Spread => format!(" {}{work}", text(&after.out)),
         Operation::Walk => all_answers(&after.answers) + &cells(&after.cursor) + &work,
+        Operation::Compare if before.cursor != after.cursor => ", cursor changed".to_string(),
+        Operation::Compare => work,
     };
     answer(outcome) + &left
 }
@@ -25,6 +27,9 @@ fn answer(outcome: &Outcome) -> String {
         Ok(Values::Length(length)) => format!("accepted {length}"),
         Ok(Values::Measured(size)) => format!("accepted {} {} {}", size.trees, size.entries, size.levels),
         Ok(Values::Walked) => "accepted".to_string(),
+        Ok(Values::Compared(Compared::Same(count))) => format!("same {count}"),
+        Ok(Values::Compared(Compared::Differ(count))) => format!("differ {count}"),
+        Ok(Values::Compared(Compared::Spent(count))) => format!("spent {count}"),
         Err(refused) => format!("refused {} at {}", refused.number, refused.position),
     }
 }

@@ -1,5 +1,6 @@
 //! Measures the proved library against the reference by rules, in one run and on the same buffers; prints the tables and writes them to
-//! docs/bench.md, with a plot in docs/bench.svg. `bench check` only prints the times of check by the order of the rules.
+//! docs/bench.md, with a plot in docs/bench.svg. `bench check` only prints the times of check by the order of the rules, `bench compare` those of compare.
+mod compares;
 mod plot;
 mod report;
 mod timing;
@@ -34,8 +35,12 @@ const FAMILIES: [(&str, Family); 4] = [
 
 fn main() -> io::Result<()> {
     let mut report = Report::new();
-    if std::env::args().nth(1).is_some_and(|part| part == "check") {
-        orders(&mut report);
+    if let Some(part) = std::env::args().nth(1) {
+        match part.as_str() {
+            "check" => orders(&mut report),
+            "compare" => compares::all(&mut report),
+            _ => return Err(io::Error::other("bench [check | compare]")),
+        }
         print!("{}", report.text());
         return Ok(());
     }
@@ -46,6 +51,7 @@ fn main() -> io::Result<()> {
     orders(&mut report);
     formats(&mut report);
     texts(&mut report);
+    compares::all(&mut report);
     print!("{}", report.text());
     let docs: PathBuf = [env!("CARGO_MANIFEST_DIR"), "..", "..", "docs"].iter().collect();
     fs::write(docs.join("bench.svg"), plot::by_entries(&by_entries))?;

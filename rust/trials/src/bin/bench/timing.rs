@@ -2,7 +2,7 @@
 use reference::Refused;
 use std::ops::{Div, Sub};
 use std::time::Instant;
-use trials::call::{ByRules, Call, Implementation, Operation, Slices};
+use trials::call::{ByRules, Call, Implementation, Operation, Outcome, Slices, Values};
 use trials::draft::Draft;
 use trials::library::Library;
 
@@ -24,6 +24,10 @@ impl Times {
 
     pub fn shown(self) -> String {
         let Times { library, reference } = self;
+        if reference.is_infinite() {
+            let digits = if library < 10.0 { 2 } else { 1 };
+            return format!("{library:.digits$} / –");
+        }
         let digits = if library.max(reference) < 10.0 { 2 } else { 1 };
         format!("{library:.digits$} / {reference:.digits$} ({:.2})", library / reference)
     }
@@ -66,10 +70,23 @@ impl Desk {
         Desk { refused: Some(refused), ..Desk::new(draft) }
     }
 
+    /// Two places to compare, each by letters from above the forest.
+    pub fn between(draft: &Draft, first: &[u8], second: &[u8]) -> Desk {
+        let mut desk = Desk::new(draft);
+        desk.go(second);
+        desk.call.second = desk.place.clone();
+        desk.go(first);
+        desk
+    }
+
+    pub fn budget(&mut self, budget: u32) {
+        self.call.budget = budget;
+    }
+
     /// Goes to a place by letters.
     pub fn go(&mut self, letters: &[u8]) {
         self.letters(letters);
-        self.run(&mut ByRules, Operation::Walk);
+        self.run(&mut ByRules, Operation::Walk).expect("a walk in a valid plan");
         self.place.copy_from_slice(&self.call.cursor);
         self.letters(&[]);
     }
@@ -83,7 +100,7 @@ impl Desk {
         self.call.out = vec![1; bytes];
     }
 
-    fn run(&mut self, implementation: &mut dyn Implementation, operation: Operation) {
+    fn run(&mut self, implementation: &mut dyn Implementation, operation: Operation) -> Outcome {
         let call = &mut self.call;
         let lent = Slices {
             plan: &call.plan,
@@ -94,30 +111,47 @@ impl Desk {
             letters: &call.letters,
             answers: &mut call.answers,
             out: &mut call.out,
+            second: &call.second,
+            budget: call.budget,
         };
         let outcome = implementation.run(operation, lent).expect("it takes on every call");
         assert_eq!(outcome.err(), self.refused, "what is measured is accepted, or refused as it is to be");
+        outcome
     }
 
     /// The time of one call: the best of many rounds of `times` calls, library and reference by turns.
     pub fn time(&mut self, operation: Operation, times: usize) -> Times {
         let mut best = Times::WORST;
         for _ in 0..self.rounds {
-            let library = self.round(&mut Library, operation, times);
+            let (library, outcome) = self.round(&mut Library, operation, times);
             let (answers, cursor) = (self.call.answers.clone(), self.call.cursor.clone());
-            let reference = self.round(&mut ByRules, operation, times);
-            assert!(answers == self.call.answers && cursor == self.call.cursor, "both do the same");
+            let (reference, expected) = self.round(&mut ByRules, operation, times);
+            let same = answers == self.call.answers && cursor == self.call.cursor && outcome == expected;
+            assert!(same, "both do the same");
             best = best.min(Times { library, reference });
         }
         best
     }
 
-    fn round(&mut self, implementation: &mut dyn Implementation, operation: Operation, times: usize) -> f64 {
+    /// The same by the library alone, where the reference would take too long; what comes of it is given.
+    pub fn time_library(&mut self, operation: Operation, times: usize, expected: Values) -> Times {
+        let mut best = Times::WORST;
+        for _ in 0..self.rounds {
+            let (library, outcome) = self.round(&mut Library, operation, times);
+            assert_eq!(outcome, Ok(expected), "what is known of it");
+            best = best.min(Times { library, ..Times::WORST });
+        }
+        best
+    }
+
+    /// The time of one of `times` calls, and what came of the last.
+    fn round(&mut self, implementation: &mut dyn Implementation, operation: Operation, times: usize) -> (f64, Outcome) {
         self.call.cursor.copy_from_slice(&self.place);
         let began = Instant::now();
-        for _ in 0..times {
-            self.run(implementation, operation);
+        let mut last = self.run(implementation, operation);
+        for _ in 1..times {
+            last = self.run(implementation, operation);
         }
-        began.elapsed().as_nanos() as f64 / times as f64
+        (began.elapsed().as_nanos() as f64 / times as f64, last)
     }
 }

@@ -1,8 +1,8 @@
 -- The rules are arranged in the work, and the rows are filled in their order. Assumes nothing.
-use Rattle.walk.proofs.Filling.{builds, filled}
+use Rattle.facts_load.proofs.Filling.{builds, filled}
 use borrow.Author.Needs.{needs}
-use Rattle.walk.proofs.fill.Statement.{statement}
-use Rattle.walk.proofs.fill.Tie as tie
+use Rattle.facts_load.proofs.load.Statement.{statement}
+use Rattle.facts_load.proofs.load.Tie as tie
 
 arrange-requires : tie.Need-arrange-requires
 arrange-requires c κs = search needs
@@ -16,5 +16,5 @@ same-length c = search needs
 returns : tie.Need-returns
 returns c = filled (c .before .before .before .before .before .before .before .before .before .before .pre) (c .before .before .before .before .before .before .arrange .ensures) (c .before .before .build .ensures)
 
-pub fill-spec : {M : Type 1} → statement M
-fill-spec = tie.close (tie.spec arrange-requires build-requires same-length returns)
+pub load-spec : {M : Type 1} → statement M
+load-spec = tie.close (tie.spec arrange-requires build-requires same-length returns)

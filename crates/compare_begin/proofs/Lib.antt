@@ -1,0 +1,4 @@
+pub mod Stacks
+pub mod Runs
+pub mod Holes
+pub mod Begins

@@ -1,0 +1,4 @@
+pub mod Crumbs
+pub mod Cells
+pub mod Heights
+pub mod Places

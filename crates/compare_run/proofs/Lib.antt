@@ -1,0 +1,5 @@
+pub mod Tokens
+pub mod Tops
+pub mod Made
+pub mod Turns
+pub mod Runs

@@ -1,0 +1,5 @@
+pub mod Difference
+pub mod Skips
+pub mod Nodes
+pub mod Stacks
+pub mod Parts

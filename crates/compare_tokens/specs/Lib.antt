@@ -1,0 +1,4 @@
+pub mod Tokens
+pub mod Nodes
+pub mod Stacks
+pub mod Parts
