@@ -1,13 +1,14 @@
 /* The meal plan walker, for C.
 
-   Slices. Every slice is a pointer and a length in bytes. A pointer is never null,
-   also where the length is 0. A slice that is written (out, work, cursor, answers)
-   lies apart from every other slice of the call, and until the call returns nobody
-   else reads or writes it. Slices that are only read (plan, words, letters, first,
-   second) may overlap each other or be one, and until the call returns nobody writes
-   them either. Words of 16 bits are two bytes, low first; an odd last byte isn't
-   counted. Answers are words of 32 bits, four bytes, low first; a rest of one to three
-   isn't counted.
+   Slices. Every slice is a pointer and a length in bytes; that of rows is a pointer to
+   the first and their number. A pointer is never null, also where the length is 0. A
+   slice that is written (out, work, cursor, answers) lies apart from every other slice
+   of the call, and until the call returns nobody else reads or writes it. Slices that
+   are only read (plan, words, letters, first, second, rows) may overlap each other or
+   be one, and until the call returns nobody writes them either. Rows are aligned as C
+   has it. Words of 16 bits are two bytes, low first; an odd last byte isn't counted.
+   Answers are words of 32 bits, four bytes, low first; a rest of one to three isn't
+   counted.
 
    Formats. A plan is narrow or wide, as its mark says; plan_seal is told which by the
    record length, and plan_unseal gives that. In a narrow plan a rule is four words, 8
@@ -26,8 +27,8 @@
    Results. Each function returns 0 when it accepts, else the refusal's number, and
    tests in the order in which the refusals stand in its comment: 12 after 6, before
    7. *position is the rule for 4 to 6, the lowest rule that reaches itself for 12, the
-   letter's place for 9, and else 0; it is 0 when accepted. The other numbers are
-   written only when accepted.
+   letter's place for 9, the row for 13 to 15, and else 0; it is 0 when accepted. The
+   other numbers are written only when accepted.
 
    The library is for x86-64, where size_t has 64 bits. What it takes of a device is
    at the end of this file. */
@@ -108,7 +109,8 @@ enum mealplan_refusal {
                                 back before the first byte */
     MEALPLAN_MALFORMED = 4,  /* kind above 5, unused word not 0; in a narrow plan label
                                 above 255; in a wide plan fifth word above 255, or not 0
-                                in a kind without a label */
+                                in a kind without a label; of plan_class, a label above
+                                16,777,215, at 0 */
     MEALPLAN_NOT_BELOW = 5,  /* names a rule not below n */
     MEALPLAN_WRONG_SORT = 6, /* names one of the wrong sort, as one of kind above 5 is */
     MEALPLAN_START = 7,      /* start isn't below n or isn't closed */
@@ -118,7 +120,12 @@ enum mealplan_refusal {
                                 used cells, or cell 0 has a nonzero later word; where
                                 places are compared, one above the forest */
     MEALPLAN_ROOM = 11,      /* output too short; over 2^64 - 1 nodes */
-    MEALPLAN_CYCLE = 12      /* some rule reaches itself through the rules it names */
+    MEALPLAN_CYCLE = 12,     /* some rule reaches itself through the rules it names */
+    MEALPLAN_ROW = 13,       /* a row's lowest label is above its highest, its highest above
+                                16,777,215, or its class above 3 */
+    MEALPLAN_GAP = 14,       /* labels that no row covers, at the row after them or at the
+                                number of rows */
+    MEALPLAN_OVERLAP = 15    /* a row covers labels that are already covered */
 };
 
 /* Check a plan: 1 to 6, 12, 7. Accepted: *n is the number of rules, *start the start
@@ -195,9 +202,28 @@ uint32_t plan_compare(const uint8_t *plan, size_t plan_len,
                       uint32_t budget, uint32_t *verdict, uint32_t *count,
                       uint64_t *position);
 
+/* A row of a list of who may read which label: the labels from lowest to highest have
+   the class. The last field isn't looked at. */
+struct plan_row {
+    uint32_t lowest, highest;
+    uint16_t class_;
+    uint16_t reserved;
+};
+
+/* Limits of a row. */
+#define MEALPLAN_LAST_LABEL 16777215u
+#define MEALPLAN_LAST_CLASS 3u
+
+/* The class of a label by a list of rows in label order, which together cover 0 to
+   MEALPLAN_LAST_LABEL once: 13 to 15 at the first row at fault, 13 first in each row,
+   then 4 at 0 for a label above MEALPLAN_LAST_LABEL. Accepted: *class_ is the class of
+   the row that covers the label. */
+uint32_t plan_class(const struct plan_row *rows, size_t rows_len, uint32_t label,
+                    uint16_t *class_, uint64_t *position);
+
 /* What the library takes of a device, in bytes, at most; tests/stack.sh measures it.
 
-   Code with its constants, of all seven functions, and of plan_check and plan_walk
+   Code with its constants, of all eight functions, and of plan_check and plan_walk
    alone where the linker drops what isn't used (--gc-sections). There are no data and
    no bss, and the one function that the library calls is memset. */
 #define MEALPLAN_CODE_BYTES 22528
@@ -207,8 +233,8 @@ uint32_t plan_compare(const uint8_t *plan, size_t plan_len,
    without the arguments that the caller puts on the stack and without what memset takes
    beyond its own return address. The code uses the red zone of the x86-64 ABI: an
    interrupt on the same stack leaves 128 bytes below the stack pointer alone. Most of
-   it is the room in which each function orders a plan's rules, to see that none reaches
-   itself: four bytes a rule, for MEALPLAN_FEW_RULES or for MEALPLAN_MOST_RULES.
+   it is the room in which a plan's rules are ordered, to see that none reaches itself:
+   four bytes a rule, for MEALPLAN_FEW_RULES or for MEALPLAN_MOST_RULES.
 
    By the function, for plans that aren't MEALPLAN_MARKED or whose MEALPLAN_RULES are at
    most MEALPLAN_FEW_RULES, and for the words of so many rules, accepted or refused: */
@@ -220,8 +246,11 @@ uint32_t plan_compare(const uint8_t *plan, size_t plan_len,
 #define MEALPLAN_STACK_WALK 5120
 #define MEALPLAN_STACK_COMPARE 5120
 
-/* For each function, whatever the plan or the words: */
+/* For each of these, whatever the plan or the words: */
 #define MEALPLAN_STACK_MANY 73728
+
+/* Of plan_class, whatever the rows: */
+#define MEALPLAN_STACK_CLASS 64
 
 #ifdef __cplusplus
 }

@@ -376,6 +376,41 @@ static void compared(void) {
     memset(cursor, 0, sizeof cursor);
 }
 
+/* The class of a label by so many rows; refused, the class is left alone. */
+static uint32_t class_of(const struct plan_row *rows, size_t count, uint32_t label, unsigned expected) {
+    uint16_t class_ = 999;
+    uint32_t result = plan_class(rows, count, label, &class_, &position);
+    want("the class", class_, result == MEALPLAN_ACCEPTED ? expected : 999);
+    return result;
+}
+
+/* Lists of rows: the classes at the ends of rows, each refusal, and rows as C lays them out. */
+static void classes(void) {
+    enum { LAST = MEALPLAN_LAST_LABEL, CLASS = MEALPLAN_LAST_CLASS };
+    want("bytes of a row", sizeof(struct plan_row), 12);
+    struct plan_row rows[] = {{0, 99, 0, 1}, {100, 100, 1, 2}, {101, 65535, 2, 65535}, {65536, LAST, CLASS, 0}};
+    gives("the first label", class_of(rows, 4, 0, 0), MEALPLAN_ACCEPTED, 0);
+    gives("the last of row 0", class_of(rows, 4, 99, 0), MEALPLAN_ACCEPTED, 0);
+    gives("a row of one label", class_of(rows, 4, 100, 1), MEALPLAN_ACCEPTED, 0);
+    gives("the first of row 2", class_of(rows, 4, 101, 2), MEALPLAN_ACCEPTED, 0);
+    gives("the last of row 2", class_of(rows, 4, 65535, 2), MEALPLAN_ACCEPTED, 0);
+    gives("the last label", class_of(rows, 4, LAST, CLASS), MEALPLAN_ACCEPTED, 0);
+    gives("a label above it", class_of(rows, 4, LAST + 1, 0), MEALPLAN_MALFORMED, 0);
+    gives("no rows", class_of(rows, 0, 0, 0), MEALPLAN_GAP, 0);
+    gives("a row missing at the end", class_of(rows, 3, 0, 0), MEALPLAN_GAP, 3);
+    gives("a row missing at the front", class_of(rows + 1, 3, 0, 0), MEALPLAN_GAP, 0);
+    rows[3].class_ = CLASS + 1;
+    gives("class above MEALPLAN_LAST_CLASS", class_of(rows, 4, LAST + 1, 0), MEALPLAN_ROW, 3);
+    rows[3].class_ = CLASS, rows[3].highest = LAST + 1;
+    gives("highest above MEALPLAN_LAST_LABEL", class_of(rows, 4, 0, 0), MEALPLAN_ROW, 3);
+    rows[3].highest = LAST, rows[2].lowest = 65536;
+    gives("lowest above highest", class_of(rows, 4, 0, 0), MEALPLAN_ROW, 2);
+    rows[2].lowest = 102;
+    gives("a gap", class_of(rows, 4, 0, 0), MEALPLAN_GAP, 2);
+    rows[2].lowest = 100;
+    gives("an overlap", class_of(rows, 4, 0, 0), MEALPLAN_OVERLAP, 2);
+}
+
 /* Reads a plan of so many bytes from a file; says whether it is there. */
 static int read_plan(const char *name, uint8_t *bytes, size_t length) {
     FILE *file = fopen(name, "rb");
@@ -397,7 +432,8 @@ int main(int argc, char **argv) {
     sampled();
     places();
     compared();
-    want("0 and every refusal came, as bits", seen, (1u << (MEALPLAN_CYCLE + 1)) - 1);
+    classes();
+    want("0 and every refusal came, as bits", seen, (1u << (MEALPLAN_OVERLAP + 1)) - 1);
     printf("interface: %u calls as the header and documents 01 and 02 say\n", calls);
     return 0;
 }

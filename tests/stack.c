@@ -1,5 +1,6 @@
 /* How much stack each function of the library takes on plans of several shapes, in several orders and in both formats, held to the bounds of
-   include/mealplan.h: those for few rules on plans of 1,024 rules, that for any plan on plans of 16,384.
+   include/mealplan.h: those for few rules on plans of 1,024 rules, that for any plan on plans of 16,384, and that of plan_class on lists of
+   rows, accepted and refused.
    Each call runs on a stack of its own that was painted before: what is no longer paint, below where the function was called, was used.
    A bound that is exceeded, or that is more than twice what was used, ends the run with status 1. */
 #include "mealplan.h"
@@ -8,7 +9,7 @@
 #include <string.h>
 #include <ucontext.h>
 
-enum { MOST = MEALPLAN_MOST_RULES, LETTERS = 4096, TEXT = 1 << 20, BUDGET = 1 << 16, FUNCTIONS = 7 };
+enum { MOST = MEALPLAN_MOST_RULES, LETTERS = 4096, TEXT = 1 << 20, BUDGET = 1 << 16, ROWS = 1 << 16, FUNCTIONS = 7 };
 
 static uint8_t words[MEALPLAN_WORDS_BYTES(MOST, MEALPLAN_WIDE)], plan[MEALPLAN_PLAN_BYTES(MOST, MEALPLAN_WIDE)];
 static uint8_t work[MEALPLAN_WORK_BYTES(MOST)], cursor[MEALPLAN_CURSOR_BYTES(MOST)], root[MEALPLAN_CURSOR_BYTES(MOST)];
@@ -50,6 +51,13 @@ static void walk(void) {
 static void compare(void) {
     CALL(plan_compare, plan, plan_len, work, sizeof work, cursor, sizeof cursor, root, sizeof root, BUDGET, &verdict, &pairs, &position);
 }
+
+/* A list of rows of 256 labels each, of which so many are lent, and the label asked for. */
+static struct plan_row rows[ROWS];
+static size_t rows_len;
+static uint32_t label;
+static uint16_t class_;
+static void classed(void) { CALL(plan_class, rows, rows_len, label, &class_, &position); }
 
 /* The bytes of stack that a call used, the deeper of two stacks painted differently. */
 static size_t used(void (*call)(void)) {
@@ -252,7 +260,27 @@ static int measured(uint16_t count, size_t bound) {
     return failed;
 }
 
+/* plan_class on the whole list, at labels of several rows and above all, and on lists with a fault; gives whether anything failed. */
+static int on_rows(void) {
+    size_t most = 0;
+    int failed = 0;
+    for (uint32_t i = 0; i < ROWS; i++) rows[i] = (struct plan_row){256 * i, 256 * i + 255, i % 4, 0};
+    for (unsigned way = 0; way < 8; way++) {
+        static const uint32_t wanted[] = {0, 0, 0, 0, MEALPLAN_MALFORMED, MEALPLAN_GAP, MEALPLAN_OVERLAP, MEALPLAN_ROW};
+        static const uint32_t labels[] = {0, 255, 256 * 12345, MEALPLAN_LAST_LABEL, MEALPLAN_LAST_LABEL + 1, 7, 7, 7};
+        label = labels[way], rows_len = way == 5 ? ROWS - 1 : ROWS;
+        if (way == 6) rows[40000].lowest--;
+        if (way == 7) rows[30000].class_ = 4;
+        size_t bytes = used(classed);
+        if (most < bytes) most = bytes;
+        if (result != wanted[way] || (!result && class_ != label / 256 % 4)) printf("plan_class, way %u: %u\n", way, result), failed = 1;
+    }
+    int bad = MEALPLAN_STACK_CLASS < most || 2 * most < MEALPLAN_STACK_CLASS;
+    printf("plan_class, painted: %zu bytes of stack used, %d stated%s\n", most, MEALPLAN_STACK_CLASS, bad ? ": FAILED" : "");
+    return failed | bad;
+}
+
 int main(void) {
     int few = measured(MEALPLAN_FEW_RULES, 0), many = measured(MEALPLAN_MOST_RULES, MEALPLAN_STACK_MANY);
-    return few | many;
+    return few | many | on_rows();
 }

@@ -8,6 +8,7 @@ use Rattle.refusal.specs.Refusal.{numberOf, positionOf}
 use Rattle.forest.specs.declared.Compared.{Compared}
 use Rattle.forest.specs.declared.Measured.{Measured}
 use Rattle.forest.specs.declared.Walked.{Walked}
+use Rattle.label_rows.specs.declared.Classed.{Classed}
 
 -- the result
 unfoldable pub checkedResult : Checked → ℕ
@@ -36,6 +37,10 @@ comparedResult (Compared.Differ k) = 0
 comparedResult (Compared.Spent k) = 0
 comparedResult (Compared.Refused r) = numberOf r
 
+unfoldable pub classedResult : Classed → ℕ
+classedResult (Classed.Class c) = 0
+classedResult (Classed.Refused r) = numberOf r
+
 -- the position: 0 when accepted
 unfoldable pub checkedPosition : Checked → ℕ
 checkedPosition (Checked.Accepted n start) = 0
@@ -62,6 +67,10 @@ comparedPosition (Compared.Same k) = 0
 comparedPosition (Compared.Differ k) = 0
 comparedPosition (Compared.Spent k) = 0
 comparedPosition (Compared.Refused r) = positionOf r
+
+unfoldable pub classedPosition : Classed → ℕ
+classedPosition (Classed.Class c) = 0
+classedPosition (Classed.Refused r) = positionOf r
 
 -- the values, over what stood there
 unfoldable pub countAfter : Checked → ℕ → ℕ
@@ -112,3 +121,7 @@ pairsAfter (Compared.Same k) old = k
 pairsAfter (Compared.Differ k) old = k
 pairsAfter (Compared.Spent k) old = k
 pairsAfter (Compared.Refused r) old = old
+
+unfoldable pub classAfter : Classed → ℕ → ℕ
+classAfter (Classed.Class c) old = c
+classAfter (Classed.Refused r) old = old

@@ -2,6 +2,7 @@
 use forest::Compared;
 use forest::Measured;
 use forest::Walked;
+use label_rows::Classed;
 use plan::Checked;
 use plan::Written;
 use unseal::Unsealed;
@@ -11,6 +12,7 @@ ghost use Rattle.c_result.specs.Interface.{checkedResult, writtenResult,
 ghost use Rattle.c_result.specs.Interface.{comparedResult, comparedPosition, verdictAfter, pairsAfter};
 ghost use Rattle.c_result.specs.Interface.{startAfter, lengthAfter, walkedResult, walkedPosition};
 ghost use Rattle.c_result.specs.Interface.{unsealedResult, unsealedPosition, unsealedLength, unsealedCount, unsealedStart};
+ghost use Rattle.c_result.specs.Interface.{classedResult, classedPosition, classAfter};
 
 // What a checked answer leaves behind the pointers, and the result.
 pub fn give_checked(answer: Checked, n: &mut u16, start: &mut u16, position: &mut u64) -> u32
@@ -207,6 +209,26 @@ pub fn give_compared(
         Compared::Refused(refusal) => {
             *position = refusal.position();
             refusal.number()
+        }
+    }
+}
+
+// What the answer for a label leaves behind the pointers, and the result.
+pub fn give_classed(answer: Classed, class: &mut u16, position: &mut u64) -> u32
+    ensures { λ r.
+        ⌜ (r ≡ classedResult answer)
+        × (now (class .exit) ≡ classAfter answer (now (class .entry)))
+        × (now (position .exit) ≡ classedPosition answer) ⌝ }
+{
+    match answer {
+        Classed::Class(c) => {
+            *class = c;
+            *position = 0;
+            0
+        }
+        Classed::Refused(why) => {
+            *position = why.position();
+            why.number()
         }
     }
 }

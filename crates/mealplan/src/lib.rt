@@ -1,5 +1,6 @@
 // The C interface: each function takes byte slices and numbers apart for one of the operations and gives its answer as numbers.
 // include/mealplan.h says the same to a C programmer.
+use label_rows::LabelRow;
 ghost use mathlib.Core.Path.{_≡_};
 ghost use Rattle.plan.specs.Check.{checked};
 ghost use Rattle.seal.specs.Seal.{sealed, sealedOutput};
@@ -7,11 +8,13 @@ ghost use Rattle.unseal.specs.Unseal.{unsealed, unsealedOutput};
 ghost use Rattle.forest.specs.Outcome.{measured, measuredWork, spread, spreadOutput};
 ghost use Rattle.forest.specs.Compare.{compare, comparedWork};
 ghost use Rattle.demand.specs.Calls.{walkOf, lends};
+ghost use Rattle.label_rows.specs.Class.{classed};
 ghost use Rattle.c_result.specs.Interface.{measuredResult, measuredPosition, treesAfter, entriesAfter, levelsAfter};
 ghost use Rattle.c_result.specs.Interface.{checkedResult, writtenResult, checkedPosition, writtenPosition, countAfter};
 ghost use Rattle.c_result.specs.Interface.{comparedResult, comparedPosition, verdictAfter, pairsAfter};
 ghost use Rattle.c_result.specs.Interface.{startAfter, lengthAfter, walkedResult, walkedPosition};
 ghost use Rattle.c_result.specs.Interface.{unsealedResult, unsealedPosition, unsealedLength, unsealedCount, unsealedStart};
+ghost use Rattle.c_result.specs.Interface.{classedResult, classedPosition, classAfter};
 
 // Check.
 #[no_mangle]
@@ -219,4 +222,25 @@ pub extern "C" fn plan_compare(
 {
     let answer = compare::compare(plan, work, first, second, budget);
     c_result::give_compared(answer, verdict, count, position)
+}
+
+// The class of a label by a list of rows.
+#[no_mangle]
+pub extern "C" fn plan_class(
+    rows: &[LabelRow],
+    label: u32,
+    class: &mut u16,
+    position: &mut u64,
+) -> u32
+    ensures { λ r.
+        let class′ = now (class .exit) in
+        let position′ = now (position .exit) in
+        let rows = now (rows .entry) in
+        let class = now (class .entry) in
+        let c = classed rows label in
+        ⌜ (r ≡ classedResult c)
+        × (class′ ≡ classAfter c class)
+        × (position′ ≡ classedPosition c) ⌝ }
+{
+    c_result::give_classed(label_rows::class_of(rows, label), class, position)
 }

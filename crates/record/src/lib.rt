@@ -29,7 +29,7 @@ impl Format {
     // The largest labels.
     const NARROW_LABEL: u32 = 255;
 
-    const WIDE_LABEL: u32 = 16777215;
+    pub const WIDE_LABEL: u32 = 16777215;
 
     // The largest label.
     pub fn most_label(self) -> u32

@@ -16,9 +16,13 @@ numberOf (Refusal.Letter at) = 9
 numberOf Refusal.Place = 10
 numberOf Refusal.Room = 11
 numberOf (Refusal.Cycle r) = 12
+numberOf (Refusal.Row i) = 13
+numberOf (Refusal.Gap i) = 14
+numberOf (Refusal.Overlap i) = 15
 
 -- "The position is the rule for 4 to 6, the byte's place counted from 0 for 9, and 0 otherwise"; Note 1: "12, some rule reaches itself;
--- position the lowest such rule"
+-- position the lowest such rule"; Note 5: "The check names the first row at fault, counted from 0", "14, a gap, at the row after it or at
+-- the number of rows"
 abbrev pub positionOf : Refusal → ℕ
 positionOf Refusal.Magic = 0
 positionOf Refusal.Count = 0
@@ -32,3 +36,6 @@ positionOf (Refusal.Letter at) = at
 positionOf Refusal.Place = 0
 positionOf Refusal.Room = 0
 positionOf (Refusal.Cycle r) = r
+positionOf (Refusal.Row i) = i
+positionOf (Refusal.Gap i) = i
+positionOf (Refusal.Overlap i) = i

@@ -16,6 +16,9 @@ pub enum Refusal {
     Place,
     Room,
     Cycle(usize),
+    Row(usize),
+    Gap(usize),
+    Overlap(usize),
 }
 
 impl Refusal {
@@ -36,6 +39,9 @@ impl Refusal {
             Refusal::Place => 10,
             Refusal::Room => 11,
             Refusal::Cycle(_) => 12,
+            Refusal::Row(_) => 13,
+            Refusal::Gap(_) => 14,
+            Refusal::Overlap(_) => 15,
         }
     }
 
@@ -49,6 +55,9 @@ impl Refusal {
             Refusal::WrongSort(rule) => rule as u64,
             Refusal::Letter(at) => at as u64,
             Refusal::Cycle(rule) => rule as u64,
+            Refusal::Row(row) => row as u64,
+            Refusal::Gap(row) => row as u64,
+            Refusal::Overlap(row) => row as u64,
             Refusal::Magic => 0,
             Refusal::Count => 0,
             Refusal::Distance => 0,

@@ -1,6 +1,8 @@
 //! The C interface as include/mealplan.h declares it. Every pointer is valid for its length and never null, also where the length
 //! is 0; what is written lies apart from everything else in the call.
 
+use crate::LabelRow;
+
 unsafe extern "C" {
     pub fn plan_check(plan: *const u8, plan_len: usize, n: *mut u16, start: *mut u16, position: *mut u64) -> u32;
 
@@ -76,4 +78,6 @@ unsafe extern "C" {
         count: *mut u32,
         position: *mut u64,
     ) -> u32;
+
+    pub fn plan_class(rows: *const LabelRow, rows_len: usize, label: u32, class: *mut u16, position: *mut u64) -> u32;
 }

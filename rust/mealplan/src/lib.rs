@@ -7,8 +7,8 @@
 
 pub mod c;
 
-/// A call turned down: the documents' number, 1 to 12, and the position (the rule for 4 to 6, the lowest rule that reaches itself for 12, the
-/// letter's place for 9, else 0).
+/// A call turned down: the documents' number, 1 to 15, and the position (the rule for 4 to 6, the lowest rule that reaches itself for 12, the
+/// letter's place for 9, the row for 13 to 15, else 0).
 #[derive(Clone, Copy, PartialEq, Eq, Debug)]
 pub struct Refused {
     pub number: u32,
@@ -48,6 +48,20 @@ pub enum Compared {
     /// That number, of the same or of the first pair that differs, is above the budget: the budget.
     Spent(u32),
 }
+
+/// A row of a list of who may read which label: the labels from the lowest to the highest have the class. The last field isn't looked at.
+#[repr(C)]
+#[derive(Clone, Copy, PartialEq, Eq, Debug, Default)]
+pub struct LabelRow {
+    pub lowest: u32,
+    pub highest: u32,
+    pub class: u16,
+    pub reserved: u16,
+}
+
+/// The largest label that the rows of a list cover, and the largest class.
+pub const LAST_LABEL: u32 = 16_777_215;
+pub const LAST_CLASS: u16 = 3;
 
 /// The record length of a narrow plan, in bytes: rules of four words, labels 0 to 255.
 pub const NARROW: u16 = 8;
@@ -222,4 +236,12 @@ pub fn compare(plan: &[u8], work: &mut [u8], first: &[u8], second: &[u8], budget
         _ => Compared::Spent(count),
     };
     answer(number, position, compared)
+}
+
+/// The class of a label by a list of rows in label order, which together cover 0 to [`LAST_LABEL`] once.
+pub fn class(rows: &[LabelRow], label: u32) -> Result<u16, Refused> {
+    let (mut class, mut position) = (0, 0);
+    // SAFETY: as in `check`; a row is laid out as C has it.
+    let number = unsafe { c::plan_class(rows.as_ptr(), rows.len(), label, &mut class, &mut position) };
+    answer(number, position, class)
 }

@@ -5,7 +5,8 @@
 //!   says it. It needs small forests.
 //! - [`rules`] never unfolds: tables of rules, O(log n) a letter. It walks forests of any size, and the benchmark compares with it.
 //!
-//! Every operation takes the same lent slices as the C interface and leaves the same bytes in them.
+//! Every operation takes the same lent slices as the C interface and leaves the same bytes in them. The classes of labels ([`rows`]) are written
+//! twice too: by counting, and in order.
 #![forbid(unsafe_code)]
 
 pub mod answers;
@@ -15,6 +16,7 @@ pub mod place;
 pub mod plan;
 mod reach;
 pub mod refusal;
+pub mod rows;
 pub mod rules;
 pub mod unfolded;
 pub mod words;

@@ -1,6 +1,7 @@
 //! The refusals of documents 01 and 02.
 
-/// A call turned down: the refusal's number, and the position (the rule for 4 to 6 and 12, the letter's place for 9, else 0).
+/// A call turned down: the refusal's number, and the position (the rule for 4 to 6 and 12, the letter's place for 9, the row for 13 to 15,
+/// else 0).
 #[derive(Clone, Copy, PartialEq, Eq, Debug)]
 pub struct Refused {
     pub number: u32,
@@ -34,6 +35,12 @@ pub enum Why {
     Output = 11,
     /// Some rule reaches itself; tested after 4 to 6 and before 7.
     Cycle = 12,
+    /// A row's lowest label is above its highest, its highest above 16,777,215, or its class above 3.
+    Row = 13,
+    /// Labels that no row covers, at the row after them or at the number of rows.
+    Gap = 14,
+    /// A row covers labels that are already covered.
+    Overlap = 15,
 }
 
 impl Why {

@@ -22,8 +22,11 @@ pub const LEAST_CELLS: usize = 32_766;
 pub const LEAST_EACH_VERDICT: u64 = 5_000;
 pub const LEAST_TOLD: u64 = 5_000;
 pub const LEAST_FAR: u64 = 500;
+/// How many lists of rows must have been tried, and how often each class must have come.
+pub const LEAST_LISTS: u64 = 200;
+pub const LEAST_EACH_CLASS: u64 = 100;
 /// The last refusal.
-const LAST: u32 = Why::Cycle as u32;
+const LAST: u32 = Why::Overlap as u32;
 
 #[derive(Default)]
 pub struct Tally {
@@ -45,8 +48,12 @@ pub struct Tally {
     pub verdicts: [u64; 3],
     pub far: u64,
     pub told: u64,
-    /// How often a refusal came up: by its number, the way to it, and the operation.
-    ways: BTreeMap<(u32, String, Operation), u64>,
+    /// Lists of rows, calls on them, and how often each class came.
+    pub lists: u64,
+    pub asked: u64,
+    pub classes: [u64; 4],
+    /// How often a refusal came up: by its number, the way to it, and the operation's name.
+    ways: BTreeMap<(u32, String, String), u64>,
 }
 
 impl Tally {
@@ -81,15 +88,15 @@ impl Tally {
     }
 
     /// Notes that a way is to be tried, and whether it came up now.
-    pub fn way(&mut self, operation: Operation, number: u32, way: &str, came_up: bool) {
-        *self.ways.entry((number, way.to_string(), operation)).or_default() += u64::from(came_up);
+    pub fn way(&mut self, operation: impl fmt::Debug, number: u32, way: &str, came_up: bool) {
+        *self.ways.entry((number, way.to_string(), format!("{operation:?}"))).or_default() += u64::from(came_up);
     }
 
     /// What is still missing; nothing if all was tried often enough.
     pub fn missing(&self) -> Vec<String> {
         let rare = self.ways.iter().filter(|(_, count)| **count < LEAST_EACH_WAY);
         let mut missing: Vec<String> =
-            rare.map(|((number, way, operation), count)| format!("{operation:?} {number}, {way}: {count}")).collect();
+            rare.map(|((number, way, operation), count)| format!("{operation} {number}, {way}: {count}")).collect();
         missing.extend(
             (1..=LAST).filter(|number| !self.ways.keys().any(|key| key.0 == *number)).map(|number| format!("{number}")),
         );
@@ -113,6 +120,9 @@ impl Tally {
         {
             let Tally { verdicts, told, far, .. } = self;
             missing.push(format!("verdicts {verdicts:?}, {told} known beforehand, {far} above 2^31"));
+        }
+        if self.lists < LEAST_LISTS || self.classes.iter().any(|count| *count < LEAST_EACH_CLASS) {
+            missing.push(format!("{} lists of rows, classes {:?}", self.lists, self.classes));
         }
         if 3 * self.moves < self.letters {
             missing.push(format!("{} moves of {} letters", self.moves, self.letters));
@@ -156,6 +166,7 @@ impl fmt::Display for Tally {
             "compared: {same} same, {differ} differ, {spent} spent; {} known beforehand, {} with a count above 2^31",
             self.told, self.far
         )?;
+        writeln!(f, "rows: {} lists, {} calls, classes {:?}", self.lists, self.asked, self.classes)?;
         for number in 1..=LAST {
             let of_number = self.ways.iter().filter(|(key, _)| key.0 == number);
             let counts: Vec<u64> = of_number.map(|(_, count)| *count).collect();

@@ -4,6 +4,7 @@ pub mod formats;
 pub mod orders;
 pub mod places;
 pub mod plans;
+pub mod rows;
 pub mod sizes;
 pub mod slices;
 pub mod walks;

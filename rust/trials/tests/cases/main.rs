@@ -2,6 +2,7 @@
 //! the text that its line gives.
 mod told;
 
+use mealplan::LabelRow;
 use std::fs;
 use std::path::PathBuf;
 use trials::call::{Call, Implementation, Operation, Outcome, Slices};
@@ -50,11 +51,20 @@ struct Lent {
     length: usize,
     cursor: Vec<u8>,
     second: Vec<u8>,
+    rows: Vec<LabelRow>,
 }
 
 impl Lent {
     fn nothing(sample: Vec<u8>, wide: Vec<u8>) -> Lent {
-        Lent { sample, wide, plan: vec![0; MOST], length: 0, cursor: vec![0; MOST], second: vec![0; MOST] }
+        Lent {
+            sample,
+            wide,
+            plan: vec![0; MOST],
+            length: 0,
+            cursor: vec![0; MOST],
+            second: vec![0; MOST],
+            rows: Vec::new(),
+        }
     }
 
     /// A line that lends.
@@ -80,6 +90,10 @@ impl Lent {
                 put(&bytes(words)?, &mut self.second, 0)?;
             }
             ("keep", []) => self.second.copy_from_slice(&self.cursor),
+            ("rows", numbers) => {
+                let rows: &[[usize; 3]] = numbers.as_chunks().0;
+                self.rows = rows.iter().map(row).collect::<Result<Vec<LabelRow>, String>>()?;
+            }
             _ => return Err("no such line".to_string()),
         }
         Ok(())
@@ -89,6 +103,10 @@ impl Lent {
     fn run(&mut self, case: &str) -> Result<(), String> {
         let fields: Vec<&str> = case.splitn(3, '|').collect();
         let [text, _, expected] = fields[..] else { return Err("a case has three fields".to_string()) };
+        if let Some(label) = text.strip_prefix("class ") {
+            let came = told::class(mealplan::class(&self.rows, long(label)?));
+            return if came == expected { Ok(()) } else { Err(format!("expected: {expected}\n  came:     {came}")) };
+        }
         let mut call = self.call(text)?;
         let before = call.clone();
         let outcome = made(&mut call);
@@ -178,6 +196,17 @@ fn number(text: &str) -> Result<usize, String> {
 
 fn word(text: &str) -> Result<u16, String> {
     text.parse().map_err(|_| format!("'{text}' is no word"))
+}
+
+fn long(text: &str) -> Result<u32, String> {
+    text.parse().map_err(|_| format!("'{text}' is no label"))
+}
+
+/// A row of three numbers; its last field isn't looked at.
+fn row([lowest, highest, class]: &[usize; 3]) -> Result<LabelRow, String> {
+    let told = |number: &usize| u32::try_from(*number).map_err(|_| format!("{number} is no label"));
+    let class = u16::try_from(*class).map_err(|_| format!("{class} is no word"))?;
+    Ok(LabelRow { lowest: told(lowest)?, highest: told(highest)?, class, reserved: 65_535 })
 }
 
 /// Numbers as 16-bit words.

@@ -34,6 +34,14 @@ fn answer(outcome: &Outcome) -> String {
     }
 }
 
+/// The class of a label, or the refusal.
+pub fn class(outcome: Result<u16, mealplan::Refused>) -> String {
+    match outcome {
+        Ok(class) => format!("class {class}"),
+        Err(refused) => format!("refused {} at {}", refused.number, refused.position),
+    }
+}
+
 /// The words of a slice: one that is as it was is a full stop.
 fn all_words(slice: &[u8]) -> String {
     const FILLED: u16 = u16::from_le_bytes([FILL; 2]);

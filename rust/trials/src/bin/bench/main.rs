@@ -1,5 +1,6 @@
 //! Measures the proved library against the reference by rules, in one run and on the same buffers; prints the tables and writes them to
-//! docs/bench.md, with a plot in docs/bench.svg. `bench check` only prints the times of check by the order of the rules, `bench compare` those of compare.
+//! docs/bench.md, with a plot in docs/bench.svg. `bench check` only prints the times of check by the order of the rules, `bench compare` those
+//! of compare, `bench rows` those of the class of a label.
 mod compares;
 mod plot;
 mod report;
@@ -39,7 +40,8 @@ fn main() -> io::Result<()> {
         match part.as_str() {
             "check" => orders(&mut report),
             "compare" => compares::all(&mut report),
-            _ => return Err(io::Error::other("bench [check | compare]")),
+            "rows" => classes(&mut report),
+            _ => return Err(io::Error::other("bench [check | compare | rows]")),
         }
         print!("{}", report.text());
         return Ok(());
@@ -52,6 +54,7 @@ fn main() -> io::Result<()> {
     formats(&mut report);
     texts(&mut report);
     compares::all(&mut report);
+    classes(&mut report);
     print!("{}", report.text());
     let docs: PathBuf = [env!("CARGO_MANIFEST_DIR"), "..", "..", "docs"].iter().collect();
     fs::write(docs.join("bench.svg"), plot::by_entries(&by_entries))?;
@@ -222,5 +225,18 @@ fn texts(report: &mut Report) {
             let spread = desk.time(Operation::Spread, 1) / bytes as f64;
             report.row(&format!("{name}, {format}"), bytes, &[spread.shown()]);
         }
+    }
+}
+
+/// The class of a label, by the number of rows.
+fn classes(report: &mut Report) {
+    report.section(
+        "The class of a label",
+        "Microseconds a call, as above, on sound lists of rows of as many labels each, for a label of the last row. The list is checked in every \
+         call; the reference is one pass over the rows too, and the standard library's binary search.",
+    );
+    report.header(&["list", "rows", "class"]);
+    for rows in [10, 1_000, 100_000] {
+        report.row("sound", rows, &[(timing::class(rows) / 1000.0).shown()]);
     }
 }

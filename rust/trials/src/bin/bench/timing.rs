@@ -1,5 +1,8 @@
 //! The clock: both implementations in turn on the same buffers, the best of many rounds.
+use mealplan::LabelRow;
 use reference::Refused;
+use reference::rows::{LAST_LABEL, Row, in_order};
+use std::hint::black_box;
 use std::ops::{Div, Sub};
 use std::time::Instant;
 use trials::call::{ByRules, Call, Implementation, Operation, Outcome, Slices, Values};
@@ -154,4 +157,32 @@ impl Desk {
         }
         (began.elapsed().as_nanos() as f64 / times as f64, last)
     }
+}
+
+/// The time of one call for the class of the last label, on a sound list of so many rows: the best of many rounds, by turns.
+pub fn class(count: usize) -> Times {
+    let width = (LAST_LABEL + 1) / count as u32;
+    let highest = |i: u32| if i as usize + 1 == count { LAST_LABEL } else { width * (i + 1) - 1 };
+    let row = |i: u32| Row { lowest: width * i, highest: highest(i), class: (i % 4) as u16 };
+    let rows: Vec<Row> = (0..count as u32).map(row).collect();
+    let lent = |row: &Row| LabelRow { lowest: row.lowest, highest: row.highest, class: row.class, reserved: 0 };
+    let lent: Vec<LabelRow> = rows.iter().map(lent).collect();
+    let expected = Some(rows[count - 1].class);
+    let times = 100_000 / count + 1;
+    let mut best = Times::WORST;
+    for _ in 0..ROUNDS {
+        let library = timed(times, || mealplan::class(black_box(&lent), LAST_LABEL).ok() == expected);
+        let reference = timed(times, || in_order(black_box(&rows), LAST_LABEL).ok() == expected);
+        best = best.min(Times { library, reference });
+    }
+    best
+}
+
+/// Nanoseconds of one of so many calls, each of which must come out right.
+fn timed(times: usize, call: impl Fn() -> bool) -> f64 {
+    let began = Instant::now();
+    let right = (0..times).all(|_| call());
+    let spent = began.elapsed().as_nanos() as f64 / times as f64;
+    assert!(right, "what is measured comes out right");
+    spent
 }

@@ -1,0 +1,3 @@
+pub mod Coverage
+pub mod Class
+pub mod Once
