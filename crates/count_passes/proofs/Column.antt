@@ -7,8 +7,8 @@ use mathlib.Core.Path.{_≡_, refl, _∙_}
 use mathlib.Core.List.{List}
 use lib.ListN.{length}
 use Rattle.words.specs.Number.{base}
-use Rattle.work_rows.specs.Rows.{rowLength, ownEnd, field, putField, atKind, atLabel, atOne, atTwo, rowIn, ruleIn}
-use Rattle.work_rows.proofs.Rows.{field-same, field-other, within-none, within-both, beyond-put}
+use Rattle.work_rows.specs.Rows.{rowLength, ownEnd, field, putField, ruleAt, ruleIn, Within}
+use Rattle.work_rows.proofs.Rows.{field-same, field-other, within-none, within-both, within-wider, within-field, rule-same, beyond-put}
 use Rattle.count_capped.specs.Count.{capped, countLength}
 use Rattle.count_passes.specs.Tally.{Besides, Column}
 
@@ -43,12 +43,24 @@ besides-put w t r o v n below fits =
       beyond = beyond-put w t r o v n (omega arith);
     }
 
--- the rules stay
+-- bytes of one row are written, whatever they are
+pub besides-within : {o w n r : ℕ} {s t : List ℕ} → r < n → o + w ≤ rowLength → Within (rowLength * r + o) (rowLength * r + o + w) s t
+    → Besides o w n s t
+besides-within {o} {w} {n} {r} below fits p =
+    record {
+      fields = λ v q k f a. within-field p v k q (apart o w v q r k fits f a);
+      beyond = within-wider 0 (rowLength * n) (omega arith) (omega arith) p;
+    }
+
+-- rules in other places stay, and so do the rows' own
+pub besides-ruleAt : {o w n : ℕ} {s t : List ℕ} → Besides o w n s t → (k q : ℕ) → q + ownEnd ≤ rowLength → (o < q + ownEnd → o + w ≤ q)
+    → ruleAt t k q ≡ ruleAt s k q
+besides-ruleAt {o} {w} {n} {s} {t} p k q fits a =
+    rule-same s t k q (λ v x f. p .fields v (q + x) k (omega arith) (λ h. let e : o + w ≤ q = a (omega arith) in omega arith))
+
 pub besides-rule : {o w n : ℕ} {s t : List ℕ} → Besides o w n s t → ownEnd ≤ o → (k : ℕ) → ruleIn t k ≡ ruleIn s k
-unfolding ruleIn rowIn
-besides-rule {o} {w} {n} {s} {t} p past k =
-    let same : (v x : ℕ) → x + v ≤ ownEnd → field v t k x ≡ field v s k x = λ v x f. p .fields v x k (omega arith) (λ h. absurd (omega arith)) in
-    rw (same 2 atKind (omega arith), same 4 atLabel (omega arith), same 2 atOne (omega arith), same 2 atTwo (omega arith))
+unfolding ruleIn
+besides-rule p past k = besides-ruleAt p k 0 (omega arith) (λ h. absurd (omega arith))
 
 -- a column in another place stays
 pub column-kept : {o w n : ℕ} {s t : List ℕ} (p i : ℕ) (f : ℕ → ℕ) → Besides o w n s t → p + countLength ≤ rowLength

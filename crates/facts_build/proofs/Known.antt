@@ -16,7 +16,7 @@ use Rattle.forest.specs.Expression.{Expression, rhs, unfolded, expression}
 use Rattle.forest.specs.Place.{Side, isEmpty, representative}
 use Rattle.forest.proofs.Unfold.{named-below}
 use Rattle.model.specs.Facts.{factsOf, toward, last, depth}
-use Rattle.work_rows.specs.Rows.{rowLength, field, atKind, atLabel, atOne, atTwo, rowIn, ruleIn, Holds}
+use Rattle.work_rows.specs.Rows.{rowLength, field, atKind, atLabel, atOne, atTwo, rowAt, ruleAt, ruleIn, Holds}
 use Rattle.facts.specs.Facts.{atRepresentative, atEmptiness, atLink, factsEnd, atToward, atLast, atDepth, atJump, linkLength, linkIn, In, rowOr, factsIn, FactsHeld, Below, Built, Climbs}
 use Rattle.facts_build.specs.RuleFacts.{ruleFactsIn}
 use Rattle.facts.proofs.Words.{factsIn-rule}
@@ -46,7 +46,7 @@ module _ (m : ℕ) (t : List ℕ) (r : ℕ) (fits : rowLength * r + rowLength �
   facts-take = rw (field-take 2 atRepresentative (omega arith), field-take 2 atEmptiness (omega arith), link-take Side.left, link-take Side.right)
 
   rule-take : ruleIn (take m t) r ≡ ruleIn t r
-  unfolding ruleIn rowIn
+  unfolding ruleIn ruleAt rowAt
   rule-take =
       rw (field-take 2 atKind (omega arith), field-take 4 atLabel (omega arith), field-take 2 atOne (omega arith), field-take 2 atTwo (omega arith))
 

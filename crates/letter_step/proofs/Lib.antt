@@ -1,4 +1,3 @@
-pub mod Lent
 pub mod Thin
 pub mod Walks
 pub mod Walked

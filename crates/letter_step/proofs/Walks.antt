@@ -70,7 +70,7 @@ use Rattle.letter_step.specs.Landed.{landed}
 use Rattle.letter_arrival.proofs.Standing as T
 use Rattle.letter_arrival.proofs.Standing.Laws as T′
 use Rattle.letter_moves.proofs.Stands.{move-fitting, stepped-node, stepped-nowhere}
-use Rattle.letter_step.proofs.Lent.{LentMut, LentShared, lends-mut, mut-back, lends-shared, shared-back}
+use Rattle.lending.proofs.Lent.{LentMut, LentShared, lends-mut, mut-back, lends-shared, shared-back}
 use Rattle.letter_step.proofs.Thin.{function, decided, at-node, nowhere-else, taking, lead-clauses, thin-clauses, Leads, Arrives}
 use Rattle.letter_moves.proofs.to_first_root as lead
 use Rattle.letter_step.proofs.first_root as thin

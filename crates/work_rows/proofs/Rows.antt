@@ -16,7 +16,7 @@ use Rattle.rule.specs.declared.Rule.{Rule}
 use Rattle.rule.specs.Rule.{kindEmpty, every}
 use Rattle.rule.specs.Sound.{rule}
 use Rattle.work_rows.specs.declared.Row.{Row}
-use Rattle.work_rows.specs.Rows.{rowLength, field, putField, ownEnd, atKind, atLabel, atOne, atTwo, rowOf, ruleFrom, rowIn, putRow, ruleIn, Holds, Within, Beyond, Stored, Loaded}
+use Rattle.work_rows.specs.Rows.{rowLength, field, putField, ownEnd, atKind, atLabel, atOne, atTwo, rowOf, ruleFrom, rowAt, putRow, ruleAt, ruleIn, Holds, Within, Beyond, Stored, Loaded}
 
 pub length-putField : (w : ℕ) (t : List ℕ) (r o v : ℕ) → length (putField w t r o v) ≡ length t
 unfolding putField
@@ -44,13 +44,21 @@ pub within-field : {a e : ℕ} {s t : List ℕ} → Within a e s t → (w r o : 
 unfolding field
 within-field p w r o apart = within-number p w (rowLength * r + o) apart
 
--- a rule outside a frame stays
-pub within-rule : {a e : ℕ} {s t : List ℕ} → Within a e s t → (r : ℕ) → (a < rowLength * r + ownEnd → e ≤ rowLength * r) → ruleIn t r ≡ ruleIn s r
-unfolding ruleIn rowIn
-within-rule {a} {e} {s} {t} p r apart =
-    let same : (w o : ℕ) → o + w ≤ ownEnd → field w t r o ≡ field w s r o
-    = λ w o fits. within-field p w r o (λ h. let f : e ≤ rowLength * r = apart (omega arith) in omega arith) in
+-- a rule stays where its four fields do
+pub rule-same : (s t : List ℕ) (r o : ℕ) → ((w p : ℕ) → p + w ≤ ownEnd → field w t r (o + p) ≡ field w s r (o + p)) → ruleAt t r o ≡ ruleAt s r o
+unfolding ruleAt rowAt
+rule-same s t r o same =
     rw (same 2 atKind (omega arith), same 4 atLabel (omega arith), same 2 atOne (omega arith), same 2 atTwo (omega arith))
+
+-- a rule outside a frame stays
+pub within-ruleAt : {a e : ℕ} {s t : List ℕ} → Within a e s t → (r o : ℕ) → (a < rowLength * r + o + ownEnd → e ≤ rowLength * r + o)
+    → ruleAt t r o ≡ ruleAt s r o
+within-ruleAt {a} {e} {s} {t} p r o apart =
+    rule-same s t r o (λ w q fits. within-field p w r (o + q) (λ h. let f : e ≤ rowLength * r + o = apart (omega arith) in omega arith))
+
+pub within-rule : {a e : ℕ} {s t : List ℕ} → Within a e s t → (r : ℕ) → (a < rowLength * r + ownEnd → e ≤ rowLength * r) → ruleIn t r ≡ ruleIn s r
+unfolding ruleIn
+within-rule {a} {e} p r apart = within-ruleAt p r 0 (λ h. let f : e ≤ rowLength * r = apart (omega arith) in omega arith)
 
 -- a write to a row below i
 pub beyond-put : (w : ℕ) (t : List ℕ) (r o v i : ℕ) → rowLength * r + o + w ≤ rowLength * i → Beyond i t (putField w t r o v)
@@ -74,75 +82,76 @@ pub record Small (w : Row) : Type 0 where
   pub two : w .two < base ^ 2
 
 -- the four fields after a row is written: each is written once, and lies apart from those written after it
-module _ (t : List ℕ) (r : ℕ) (w : Row) (fits : rowLength * r + ownEnd ≤ length t) (small : Small w) where
+module _ (t : List ℕ) (r o : ℕ) (w : Row) (fits : rowLength * r + o + ownEnd ≤ length t) (small : Small w) where
   first : List ℕ
-  first = putField 2 t r atKind (w .kind)
+  first = putField 2 t r (o + atKind) (w .kind)
 
   second : List ℕ
-  second = putField 4 first r atLabel (w .label)
+  second = putField 4 first r (o + atLabel) (w .label)
 
   third : List ℕ
-  third = putField 2 second r atOne (w .one)
+  third = putField 2 second r (o + atOne) (w .one)
 
   long-first : length first ≡ length t
   unfolding first
-  long-first = length-putField 2 t r atKind (w .kind)
+  long-first = length-putField 2 t r (o + atKind) (w .kind)
 
   long-second : length second ≡ length t
   unfolding second
-  long-second = length-putField 4 first r atLabel (w .label) ∙ long-first
+  long-second = length-putField 4 first r (o + atLabel) (w .label) ∙ long-first
 
   long-third : length third ≡ length t
   unfolding third
-  long-third = length-putField 2 second r atOne (w .one) ∙ long-second
+  long-third = length-putField 2 second r (o + atOne) (w .one) ∙ long-second
 
-  kind-kept : field 2 (putRow t r w) r atKind ≡ w .kind
+  kind-kept : field 2 (putRow t r o w) r (o + atKind) ≡ w .kind
   unfolding putRow first second third
   kind-kept =
-      field-other 2 2 third r atTwo (w .two) r atKind (λ h. omega arith)
-      ∙ field-other 2 2 second r atOne (w .one) r atKind (λ h. omega arith)
-      ∙ field-other 4 2 first r atLabel (w .label) r atKind (λ h. omega arith)
-      ∙ field-same 2 t r atKind (w .kind) (omega arith) (small .kind)
+      field-other 2 2 third r (o + atTwo) (w .two) r (o + atKind) (λ h. omega arith)
+      ∙ field-other 2 2 second r (o + atOne) (w .one) r (o + atKind) (λ h. omega arith)
+      ∙ field-other 4 2 first r (o + atLabel) (w .label) r (o + atKind) (λ h. omega arith)
+      ∙ field-same 2 t r (o + atKind) (w .kind) (omega arith) (small .kind)
 
-  label-kept : field 4 (putRow t r w) r atLabel ≡ w .label
+  label-kept : field 4 (putRow t r o w) r (o + atLabel) ≡ w .label
   unfolding putRow first second third
   label-kept =
-      field-other 2 4 third r atTwo (w .two) r atLabel (λ h. omega arith)
-      ∙ field-other 2 4 second r atOne (w .one) r atLabel (λ h. omega arith)
-      ∙ field-same 4 first r atLabel (w .label) (omega (arith, long-first)) (small .label)
+      field-other 2 4 third r (o + atTwo) (w .two) r (o + atLabel) (λ h. omega arith)
+      ∙ field-other 2 4 second r (o + atOne) (w .one) r (o + atLabel) (λ h. omega arith)
+      ∙ field-same 4 first r (o + atLabel) (w .label) (omega (arith, long-first)) (small .label)
 
-  one-kept : field 2 (putRow t r w) r atOne ≡ w .one
+  one-kept : field 2 (putRow t r o w) r (o + atOne) ≡ w .one
   unfolding putRow first second third
   one-kept =
-      field-other 2 2 third r atTwo (w .two) r atOne (λ h. omega arith)
-      ∙ field-same 2 second r atOne (w .one) (omega (arith, long-second)) (small .one)
+      field-other 2 2 third r (o + atTwo) (w .two) r (o + atOne) (λ h. omega arith)
+      ∙ field-same 2 second r (o + atOne) (w .one) (omega (arith, long-second)) (small .one)
 
-  two-kept : field 2 (putRow t r w) r atTwo ≡ w .two
+  two-kept : field 2 (putRow t r o w) r (o + atTwo) ≡ w .two
   unfolding putRow first second third
-  two-kept = field-same 2 third r atTwo (w .two) (omega (arith, long-third)) (small .two)
+  two-kept = field-same 2 third r (o + atTwo) (w .two) (omega (arith, long-third)) (small .two)
 
-  pub rowIn-putRow : rowIn (putRow t r w) r ≡ w
-  unfolding rowIn
-  rowIn-putRow = λ i. record { kind = kind-kept i; label = label-kept i; one = one-kept i; two = two-kept i }
+  pub rowAt-putRow : rowAt (putRow t r o w) r o ≡ w
+  unfolding rowAt
+  rowAt-putRow = λ i. record { kind = kind-kept i; label = label-kept i; one = one-kept i; two = two-kept i }
 
-  pub within-putRow : Within (rowLength * r) (rowLength * r + ownEnd) t (putRow t r w)
+  pub within-putRow : Within (rowLength * r + o) (rowLength * r + o + ownEnd) t (putRow t r o w)
   unfolding putRow
   within-putRow =
-      let a : ℕ = rowLength * r in
-      let e : ℕ = rowLength * r + ownEnd in
-      within-both (within-put 2 t r atKind (w .kind) a e (omega arith) (omega arith))
-      (within-both (within-put 4 _ r atLabel (w .label) a e (omega arith) (omega arith))
-      (within-both (within-put 2 _ r atOne (w .one) a e (omega arith) (omega arith))
-      (within-put 2 _ r atTwo (w .two) a e (omega arith) (omega arith))))
+      let a : ℕ = rowLength * r + o in
+      let e : ℕ = rowLength * r + o + ownEnd in
+      within-both (within-put 2 t r (o + atKind) (w .kind) a e (omega arith) (omega arith))
+      (within-both (within-put 4 _ r (o + atLabel) (w .label) a e (omega arith) (omega arith))
+      (within-both (within-put 2 _ r (o + atOne) (w .one) a e (omega arith) (omega arith))
+      (within-put 2 _ r (o + atTwo) (w .two) a e (omega arith) (omega arith))))
 
--- a rule written to its row is kept there
-pub stored : (s t : List ℕ) (r : ℕ) (x : Rule) (w : Row) → w ≡ rowOf x → rowLength * r + ownEnd ≤ length s → Small w → t ≡ putRow s r w → Stored r x s t
-unfolding ruleIn
-stored s t r x w e fits small p =
+-- a rule written to a row is kept there
+pub stored : (s t : List ℕ) (r o : ℕ) (x : Rule) (w : Row) → w ≡ rowOf x → rowLength * r + o + ownEnd ≤ length s → Small w → t ≡ putRow s r o w
+    → Stored r o x s t
+unfolding ruleAt
+stored s t r o x w e fits small p =
     rw p
     (record {
-      keeps = ap ruleFrom (rowIn-putRow s r w fits small ∙ e) ∙ ruleFrom-rowOf x;
-      within = within-putRow s r w fits small;
+      keeps = ap ruleFrom (rowAt-putRow s r o w fits small ∙ e) ∙ ruleFrom-rowOf x;
+      within = within-putRow s r o w fits small;
     })
 
 -- the words of a row tell whether its rule names only rules below i
@@ -164,15 +173,15 @@ pub loaded-none : (R : List Rule) (s : List ℕ) → Loaded R 0 s s
 unfolding Holds
 loaded-none R s = record { holds = λ k below. absurd (omega arith); beyond = within-none 0 (rowLength * 0) s }
 
-holds-more : (R : List Rule) (s t : List ℕ) (i : ℕ) → Holds R s i → Stored i (rule R i) s t → Holds R t (i + 1)
-unfolding Holds
+holds-more : (R : List Rule) (s t : List ℕ) (i : ℕ) → Holds R s i → Stored i 0 (rule R i) s t → Holds R t (i + 1)
+unfolding Holds ruleIn
 holds-more R s t i h new k below =
     elim (decLt k i) as (λ (d : Dec (k < i)). ruleIn t k ≡ rule R k) [
-      | yes under ↦ within-rule (new .within) k (λ v. absurd (omega arith)) ∙ h k under
+      | yes under ↦ within-ruleAt (new .within) k 0 (λ v. absurd (omega arith)) ∙ h k under
       | no over ↦ let e : k ≡ i = omega arith in rw e (new .keeps)
     ]
 
-pub loaded-more : (R : List Rule) (s t u : List ℕ) (i : ℕ) → Loaded R i s t → Stored i (rule R i) t u → Loaded R (i + 1) s u
+pub loaded-more : (R : List Rule) (s t u : List ℕ) (i : ℕ) → Loaded R i s t → Stored i 0 (rule R i) t u → Loaded R (i + 1) s u
 loaded-more R s t u i h new =
     record {
       holds = holds-more R t u i (h .holds) new;

@@ -64,20 +64,30 @@ ruleFrom w =
     (cond (eqb (w .kind) kindJoin) (Rule.Join (w .one) (w .two))
     Rule.Empty))))
 
--- what row r keeps of its rule, and a list in which it keeps w
-unfoldable pub rowIn : List ℕ → ℕ → Row
+-- what row r keeps of a rule at offset o, and a list in which it keeps w there
+unfoldable pub rowAt : List ℕ → ℕ → ℕ → Row
 unfolding field
-rowIn t r = record { kind = field 2 t r atKind; label = field 4 t r atLabel; one = field 2 t r atOne; two = field 2 t r atTwo }
+rowAt t r o =
+    record {
+      kind = field 2 t r (o + atKind);
+      label = field 4 t r (o + atLabel);
+      one = field 2 t r (o + atOne);
+      two = field 2 t r (o + atTwo);
+    }
 
-unfoldable pub putRow : List ℕ → ℕ → Row → List ℕ
+unfoldable pub putRow : List ℕ → ℕ → ℕ → Row → List ℕ
 unfolding putField
-putRow t r w =
-    putField 2 (putField 2 (putField 4 (putField 2 t r atKind (w .kind)) r atLabel (w .label)) r atOne (w .one)) r atTwo (w .two)
+putRow t r o w =
+    putField 2 (putField 2 (putField 4 (putField 2 t r (o + atKind) (w .kind)) r (o + atLabel) (w .label)) r (o + atOne) (w .one)) r (o + atTwo) (w .two)
 
--- the rule kept in row r
+-- the rule kept at offset o of row r; the row's own rule is kept at its beginning
+unfoldable pub ruleAt : List ℕ → ℕ → ℕ → Rule
+unfolding ruleFrom rowAt
+ruleAt t r o = ruleFrom (rowAt t r o)
+
 unfoldable pub ruleIn : List ℕ → ℕ → Rule
-unfolding ruleFrom rowIn
-ruleIn t r = ruleFrom (rowIn t r)
+unfolding ruleAt
+ruleIn t r = ruleAt t r 0
 
 -- the rules in n rows from row i on, and those in the first n rows
 unfoldable pub rulesFrom : List ℕ → ℕ → ℕ → List Rule
@@ -96,10 +106,10 @@ Holds R t i = (k : ℕ) → k < i → ruleIn t k ≡ rule R k
 abbrev pub Beyond : ℕ → List ℕ → List ℕ → Type 0
 Beyond i s t = Within 0 (rowLength * i) s t
 
--- row r keeps the rule x, and nothing else has changed
-pub record Stored (r : ℕ) (x : Rule) (s t : List ℕ) : Type 0 where
-  pub keeps : ruleIn t r ≡ x
-  pub within : Within (rowLength * r) (rowLength * r + ownEnd) s t
+-- row r keeps the rule x at offset o, and nothing else has changed
+pub record Stored (r o : ℕ) (x : Rule) (s t : List ℕ) : Type 0 where
+  pub keeps : ruleAt t r o ≡ x
+  pub within : Within (rowLength * r + o) (rowLength * r + o + ownEnd) s t
 
 -- the rows of n rules hold the rules R, and nothing beyond them has changed
 pub record Loaded (R : List Rule) (n : ℕ) (s t : List ℕ) : Type 0 where

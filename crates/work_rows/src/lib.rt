@@ -9,8 +9,8 @@ ghost use Rattle.rule.specs.Rule.{kindEmpty, ruleOf, rulesIn, every};
 ghost use Rattle.record.specs.Records.{recordsFrom};
 ghost use Rattle.plan.specs.Check.{trailerLength, formatOf};
 ghost use Rattle.forest.specs.Outcome.{workWords, enoughWork, cleared};
-ghost use Rattle.work_rows.specs.Rows.{workLength, rowLength, ownEnd, field, putField, rowOf, ruleFrom, rowIn, putRow};
-ghost use Rattle.work_rows.specs.Rows.{ruleIn, Stored, Loaded};
+ghost use Rattle.work_rows.specs.Rows.{workLength, rowLength, ownEnd, field, putField, rowOf, ruleFrom, rowAt, putRow};
+ghost use Rattle.work_rows.specs.Rows.{ruleAt, ruleIn, Stored, Loaded};
 ghost use Rattle.reach.specs.Order.{numbersFrom, lowerBelow};
 ghost use Rattle.work_rows.specs.Rows.{Within};
 ghost use Rattle.work_rows.specs.Order.{orderAt, orderEnd, orderIn};
@@ -145,48 +145,64 @@ impl Row {
         (self.kind == Rule::EMPTY) | ((self.one < i) & (self.two < i))
     }
 
-    // What row r keeps of its rule.
-    fn read(work: &[u8], r: u16) -> Row
-        requires { ⌜ rowLength * r + ownEnd ≤ length (now work) ⌝ }
-        ensures { λ w. ⌜ w ≡ rowIn (now (work .entry)) r ⌝ }
+    // What row r keeps of a rule at an offset.
+    fn read(work: &[u8], r: u16, offset: usize) -> Row
+        requires { ⌜ rowLength * r + offset + ownEnd ≤ length (now work) ⌝ }
+        ensures { λ w. ⌜ w ≡ rowAt (now (work .entry)) r offset ⌝ }
     {
         Row {
-            kind: field16(work, r, Row::KIND),
-            label: field32(work, r, Row::LABEL),
-            one: field16(work, r, Row::ONE),
-            two: field16(work, r, Row::TWO),
+            kind: field16(work, r, offset + Row::KIND),
+            label: field32(work, r, offset + Row::LABEL),
+            one: field16(work, r, offset + Row::ONE),
+            two: field16(work, r, offset + Row::TWO),
         }
     }
 
-    // The four fields into row r.
-    fn write(self, work: &mut [u8], r: u16)
-        requires { ⌜ rowLength * r + ownEnd ≤ length (now work) ⌝ }
-        ensures { λ x. ⌜ now (work .exit) ≡ putRow (now (work .entry)) r self ⌝ }
+    // The four fields into row r at an offset.
+    fn write(self, work: &mut [u8], r: u16, offset: usize)
+        requires { ⌜ rowLength * r + offset + ownEnd ≤ length (now work) ⌝ }
+        ensures { λ x. ⌜ now (work .exit) ≡ putRow (now (work .entry)) r offset self ⌝ }
     {
-        put16(work, r, Row::KIND, self.kind);
-        put32(work, r, Row::LABEL, self.label);
-        put16(work, r, Row::ONE, self.one);
-        put16(work, r, Row::TWO, self.two);
+        put16(work, r, offset + Row::KIND, self.kind);
+        put32(work, r, offset + Row::LABEL, self.label);
+        put16(work, r, offset + Row::ONE, self.one);
+        put16(work, r, offset + Row::TWO, self.two);
     }
 }
 
-// The rule kept in row r.
+// The rule kept at an offset of row r.
+pub fn rule_in(work: &[u8], r: u16, offset: usize) -> Rule
+    requires { ⌜ rowLength * r + offset + ownEnd ≤ length (now work) ⌝ }
+    ensures { λ x. ⌜ x ≡ ruleAt (now (work .entry)) r offset ⌝ }
+{
+    Row::read(work, r, offset).rule()
+}
+
+// The rule that row r begins with.
 pub fn rule_at(work: &[u8], r: u16) -> Rule
     requires { ⌜ rowLength * (r + 1) ≤ length (now work) ⌝ }
     ensures { λ x. ⌜ x ≡ ruleIn (now (work .entry)) r ⌝ }
 {
-    Row::read(work, r).rule()
+    rule_in(work, r, 0)
 }
 
-// A rule into row r; and whether it names only rules below r.
+// A rule into row r at an offset.
+pub fn put_rule_in(work: &mut [u8], r: u16, offset: usize, rule: Rule)
+    requires { ⌜ rowLength * r + offset + ownEnd ≤ length (now work) ⌝ }
+    ensures { λ x. ⌜ Stored r offset rule (now (work .entry)) (now (work .exit)) ⌝ }
+{
+    let row = Row::of(rule);
+    row.write(work, r, offset);
+}
+
+// A rule to the beginning of row r; and whether it names only rules below r.
 fn put_rule(work: &mut [u8], r: u16, rule: Rule) -> bool
     requires { ⌜ rowLength * (r + 1) ≤ length (now work) ⌝ }
     ensures { λ x.
-        ⌜ Stored r rule (now (work .entry)) (now (work .exit)) × (x ≡ every (λ k. ltb k r) rule) ⌝ }
+        ⌜ Stored r 0 rule (now (work .entry)) (now (work .exit)) × (x ≡ every (λ k. ltb k r) rule) ⌝ }
 {
-    let row = Row::of(rule);
-    row.write(work, r);
-    row.names_below(r)
+    put_rule_in(work, r, 0, rule);
+    Row::of(rule).names_below(r)
 }
 
 // The rule that a record means, and the empty rule where it means none.

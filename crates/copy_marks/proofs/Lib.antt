@@ -1,0 +1,5 @@
+pub mod Marks
+pub mod Passing
+pub mod Writing
+pub mod Records
+pub mod BothPasses

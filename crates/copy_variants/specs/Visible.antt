@@ -1,0 +1,31 @@
+-- Document 02, Note 6: what of a forest a client sees; Note 8: what is taken out of it.
+use Prim.Native.Nat.{ℕ}
+use mathlib.Core.Bool.{Bool, cond}
+use mathlib.Core.List.{List}
+use lib.Dec.{leb}
+use Rattle.label_rows.specs.declared.LabelRow.{LabelRow}
+use Rattle.label_rows.specs.Class.{rowOf}
+use Rattle.forest.specs.Algebra.{Hedge}
+use Rattle.forest.specs.Forest.{Forest, append}
+
+-- "A client of class c must not see entries of a higher class": whether a label may be seen
+unfoldable pub seenBy : List LabelRow → ℕ → ℕ → Bool
+unfolding rowOf
+seenBy rows c a = leb (rowOf rows a .class) c
+
+-- ".. nor anything under them": "the old one with those subtrees gone, order kept"
+unfoldable pub visible : (ℕ → Bool) → Forest ℕ → Forest ℕ
+visible v Forest.none = Forest.none
+visible v (Forest.tree a c f) = cond (v a) (Forest.tree a (visible v c) (visible v f)) (visible v f)
+
+-- Note 8: "the nodes taken out": the subtrees that are gone
+unfoldable pub takenOut : (ℕ → Bool) → Forest ℕ → Forest ℕ
+unfolding append
+takenOut v Forest.none = Forest.none
+takenOut v (Forest.tree a c f) = cond (v a) (append (takenOut v c) (takenOut v f)) (Forest.tree a c (takenOut v f))
+
+-- the same on hedges: a hole under a node that is gone is gone with it
+unfoldable pub shown : (ℕ → Bool) → Hedge → Hedge
+shown v Hedge.ε = Hedge.ε
+shown v (Hedge.hole f) = Hedge.hole (shown v f)
+shown v (Hedge.node a c f) = cond (v a) (Hedge.node a (shown v c) (shown v f)) (shown v f)

@@ -1,0 +1,69 @@
+// Which rules' labels a client may see (document 02, Note 6): a lent list of the labels' classes, looked up for each rule in the rows of
+// work.
+ghost use mathlib.Core.Path.{_≡_};
+ghost use mathlib.Core.Bool.{cond};
+ghost use Prim.Native.Nat.{_+_, _*_, _≤_};
+ghost use lib.Dec.{leb};
+ghost use lib.ListN.{length};
+ghost use Rattle.record.specs.Format.{wordLength};
+ghost use Rattle.model.specs.Walk.{label};
+ghost use Rattle.work_rows.specs.Rows.{rowLength, ruleIn, putField};
+ghost use Rattle.copy_variants.specs.Variants.{seenIn};
+ghost use Rattle.label_annotate.specs.Annotated.{atSeen, Annotatable, Annotated};
+use label_rows::LabelRow;
+use rule::Rule;
+
+// Where a row says whether its rule's label may be seen.
+const SEEN: usize = 30;
+
+// The label of the rule in row r, and 0 where it has none.
+fn label_at(work: &[u8], r: u16) -> u32
+    requires { ⌜ rowLength * (r + 1) ≤ length (now work) ⌝ }
+    ensures { λ a. ⌜ a ≡ label (ruleIn (now (work .entry)) r) ⌝ }
+{
+    match work_rows::rule_at(work, r) {
+        Rule::Node { label, .. } => label,
+        Rule::Part { label, .. } => label,
+        _ => 0,
+    }
+}
+
+// Whether a rule's label may be seen, where that is known of the label; a rule that has none may.
+fn seen(rule: Rule, visible: bool) -> bool
+    ensures { λ x. ⌜ x ≡ seenIn (λ a. visible) rule ⌝ }
+{
+    match rule {
+        Rule::Node { .. } => visible,
+        Rule::Part { .. } => visible,
+        _ => true,
+    }
+}
+
+// Row r says whether a client of a class may see its rule's label, which is of the class found.
+fn mark_row(work: &mut [u8], r: u16, found: u16, class: u16)
+    requires { ⌜ rowLength * (r + 1) ≤ length (now work) ⌝ }
+    ensures { λ x.
+        let s = now (work .entry) in
+        ⌜ now (work .exit) ≡ putField wordLength s r atSeen (cond (seenIn (λ a. leb found class) (ruleIn s r)) 1 0) ⌝ }
+{
+    let rule = work_rows::rule_at(work, r);
+    if seen(rule, found <= class) {
+        work_rows::put16(work, r, SEEN, 1);
+    } else {
+        work_rows::put16(work, r, SEEN, 0);
+    }
+}
+
+// Each row says whether a client of a class may see its rule's label: the label's row is looked up in the list.
+pub fn annotate(rows: &[LabelRow], class: u16, work: &mut [u8], n: u16)
+    requires { ⌜ Annotatable (now rows) n (now work) ⌝ }
+    ensures { λ x. ⌜ Annotated (now (rows .entry)) class n (now (work .entry)) (now (work .exit)) ⌝ }
+{
+    let mut r: u16 = 0;
+    while r < n {
+        let label = label_at(work, r);
+        let row = label_rows::find(rows, label);
+        mark_row(work, r, row.class, class);
+        r += 1;
+    }
+}

@@ -1,0 +1,1 @@
+// Sound rules written as a plan are accepted, and read back as they were: theorems alone.
