@@ -54,9 +54,10 @@ extern "C" {
     ((plan)[(plan_len) - 1] == 0x71 ? MEALPLAN_WIDE : MEALPLAN_NARROW)
 
 /* Limits: the rules of a plan, those of a plan of few rules, which takes less work for
-   each and less stack, and the labels. */
+   each and less stack, those of a plan that is copied, and the labels. */
 #define MEALPLAN_MOST_RULES 16384u
 #define MEALPLAN_FEW_RULES 1024u
+#define MEALPLAN_MOST_COPIED 4096u
 #define MEALPLAN_MOST_LABEL(record_length) ((record_length) == MEALPLAN_WIDE ? 16777215u : 255u)
 
 /* What a plan's end says before any call: whether its mark is one of the two (1), and
@@ -73,9 +74,10 @@ extern "C" {
    of both formats goes by MEALPLAN_WIDE, what is to serve for plans of up to n rules by
    n: no length falls where n grows. */
 #define MEALPLAN_WORK_BYTES(n) \
-    ((size_t)((n) > MEALPLAN_FEW_RULES ? 80 : 64) * (n)) /* work of measure, spread, walk, compare */
+    ((size_t)((n) > MEALPLAN_FEW_RULES ? 80 : 64) * (n)) /* work of measure, spread, walk, compare, copy */
 #define MEALPLAN_CURSOR_BYTES(n) ((size_t)32 * (n) + 32) /* a cursor */
 #define MEALPLAN_ANSWERS_BYTES(m) ((size_t)4 * (m))      /* answers to m letters */
+#define MEALPLAN_COPY_BYTES(n) ((size_t)40 * (n) + 10)   /* out of plan_copy */
 
 /* A plan without cover: out of plan_seal. */
 #define MEALPLAN_PLAN_BYTES(n, record_length) ((size_t)(record_length) * (n) + 10)
@@ -114,7 +116,8 @@ enum mealplan_refusal {
     MEALPLAN_NOT_BELOW = 5,  /* names a rule not below n */
     MEALPLAN_WRONG_SORT = 6, /* names one of the wrong sort, as one of kind above 5 is */
     MEALPLAN_START = 7,      /* start isn't below n or isn't closed */
-    MEALPLAN_LENT = 8,       /* work or a cursor too short, or fewer answers than letters */
+    MEALPLAN_LENT = 8,       /* work or a cursor too short, or fewer answers than letters; of
+                                plan_copy, output too short */
     MEALPLAN_LETTER = 9,     /* a byte outside a z f l n p u s */
     MEALPLAN_PLACE = 10,     /* no letters lead from a place above this forest to these
                                 used cells, or cell 0 has a nonzero later word; where
@@ -122,10 +125,12 @@ enum mealplan_refusal {
     MEALPLAN_ROOM = 11,      /* output too short; over 2^64 - 1 nodes */
     MEALPLAN_CYCLE = 12,     /* some rule reaches itself through the rules it names */
     MEALPLAN_ROW = 13,       /* a row's lowest label is above its highest, its highest above
-                                16,777,215, or its class above 3 */
+                                16,777,215, or its class above 3; of plan_copy, the
+                                client's class above 3, at 0 */
     MEALPLAN_GAP = 14,       /* labels that no row covers, at the row after them or at the
                                 number of rows */
-    MEALPLAN_OVERLAP = 15    /* a row covers labels that are already covered */
+    MEALPLAN_OVERLAP = 15,   /* a row covers labels that are already covered */
+    MEALPLAN_TOO_MANY = 16   /* a plan of more than 4,096 rules isn't copied */
 };
 
 /* Check a plan: 1 to 6, 12, 7. Accepted: *n is the number of rules, *start the start
@@ -221,12 +226,29 @@ struct plan_row {
 uint32_t plan_class(const struct plan_row *rows, size_t rows_len, uint32_t label,
                     uint16_t *class_, uint64_t *position);
 
+/* Copy a plan for a client of a class, by a list of rows as in plan_class: 1 to 6, 12,
+   7; then 13 at 0 for a class above MEALPLAN_LAST_CLASS, before the list is read; 13 to
+   15 for the list; 16 above MEALPLAN_MOST_COPIED rules; 8 for work as in plan_measure or
+   for an out of less than MEALPLAN_COPY_BYTES, even where the copy is shorter. A forest
+   of any size is copied, and an empty one too. Accepted: at the front of out stands a
+   wide plan without cover; its forest is the plan's with every node of a higher class
+   gone and all below it, order kept. *written is its length, and later bytes of out
+   stay; the needed bytes of work end as zeros, and later ones stay. Which rules the copy
+   has is left open, but plan_check accepts it, each rule is the start or reached from it,
+   each names lower ones only, there are at most three for each of the plan's, and none
+   has the label of a higher class. Refused: out and work are untouched. */
+uint32_t plan_copy(const uint8_t *plan, size_t plan_len,
+                   const struct plan_row *rows, size_t rows_len, uint16_t class_,
+                   uint8_t *work, size_t work_len,
+                   uint8_t *out, size_t out_len,
+                   uint64_t *written, uint64_t *position);
+
 /* What the library takes of a device, in bytes, at most; tests/stack.sh measures it.
 
-   Code with its constants, of all eight functions, and of plan_check and plan_walk
+   Code with its constants, of all nine functions, and of plan_check and plan_walk
    alone where the linker drops what isn't used (--gc-sections). There are no data and
    no bss, and the one function that the library calls is memset. */
-#define MEALPLAN_CODE_BYTES 22528
+#define MEALPLAN_CODE_BYTES 26624
 #define MEALPLAN_CODE_BYTES_CHECK_WALK 13312
 
 /* Stack: the deepest chain of calls (there is no recursion) with the return address,
@@ -245,6 +267,7 @@ uint32_t plan_class(const struct plan_row *rows, size_t rows_len, uint32_t label
 #define MEALPLAN_STACK_SPREAD 5120
 #define MEALPLAN_STACK_WALK 5120
 #define MEALPLAN_STACK_COMPARE 5120
+#define MEALPLAN_STACK_COPY 5120
 
 /* For each of these, whatever the plan or the words: */
 #define MEALPLAN_STACK_MANY 73728

@@ -6,12 +6,13 @@
 #include <stdlib.h>
 #include <string.h>
 
-enum { MOST = MEALPLAN_MOST_RULES, FEW = MEALPLAN_FEW_RULES, NARROW = MEALPLAN_NARROW, WIDE = MEALPLAN_WIDE, TEXT = 33 };
+enum { MOST = MEALPLAN_MOST_RULES, FEW = MEALPLAN_FEW_RULES, COPIED = MEALPLAN_MOST_COPIED };
+enum { NARROW = MEALPLAN_NARROW, WIDE = MEALPLAN_WIDE, TEXT = 33 };
 
 /* The sample plan, and the same as a wide plan with labels of its own; what is lent serves for both formats. */
 static uint8_t sample[74], wide[90];
 static uint8_t plan[MEALPLAN_PLAN_BYTES(MOST + 1, WIDE)], words[MEALPLAN_WORDS_BYTES(MOST + 1, WIDE)];
-static uint8_t out[MEALPLAN_PLAN_BYTES(MOST, WIDE) + 1], work[MEALPLAN_WORK_BYTES(MOST) + 1];
+static uint8_t out[MEALPLAN_PLAN_BYTES(MOST, WIDE) + MEALPLAN_COPY_BYTES(COPIED)], work[MEALPLAN_WORK_BYTES(MOST) + 1];
 static uint8_t cursor[MEALPLAN_CURSOR_BYTES(MOST) + 1], second[MEALPLAN_CURSOR_BYTES(MOST) + 1], answers[MEALPLAN_ANSWERS_BYTES(8)];
 static uint16_t record_length, n, start;
 static uint64_t trees, entries, levels, written, position;
@@ -56,6 +57,11 @@ static uint32_t compare(const uint8_t *bytes, size_t length, uint32_t budget) {
                         MEALPLAN_CURSOR_BYTES(n), budget, &verdict, &count, &position);
 }
 
+/* A copy for a client of a class, likewise. */
+static uint32_t copy(const uint8_t *bytes, size_t length, const struct plan_row *rows, size_t count, uint16_t class_) {
+    return plan_copy(bytes, length, rows, count, class_, work, MEALPLAN_WORK_BYTES(n), out, MEALPLAN_COPY_BYTES(n), &written, &position);
+}
+
 static uint32_t seal(size_t length, uint16_t record, size_t room) {
     return plan_seal(words, length, record, start, out, room, &written, &position);
 }
@@ -85,6 +91,15 @@ static void lengths(const uint8_t *bytes, size_t length) {
         gives("compare above the forest", plan_compare(bytes, length, work, w - (less == 1), cursor, c - (less == 2), second,
               c - (less == 3), 9, &verdict, &count, &position), less ? MEALPLAN_LENT : MEALPLAN_PLACE, 0);
     memset(cursor, 0, sizeof cursor);
+    static const struct plan_row all = {0, MEALPLAN_LAST_LABEL, 0, 0};
+    if (n > COPIED) {
+        gives("a copy of too many rules", plan_copy(bytes, length, &all, 1, 0, work, 0, out, 0, &written, &position), MEALPLAN_TOO_MANY, 0);
+        return;
+    }
+    size_t o = MEALPLAN_COPY_BYTES(n);
+    NEEDS(w, MEALPLAN_LENT, plan_copy(bytes, length, &all, 1, 0, work, LENGTH, out, o, &written, &position));
+    NEEDS(o, MEALPLAN_LENT, plan_copy(bytes, length, &all, 1, 0, work, w, out, LENGTH, &written, &position));
+    want("the copy is no longer", written <= MEALPLAN_COPY_BYTES(n), 1);
 }
 
 /* So many empty rules of a format, which are zeros before their trailer. */
@@ -142,15 +157,15 @@ static void worked(size_t count, uint16_t record, size_t bytes) {
     for (size_t i = 0; i < sizeof work; i++) want("work", work[i], i < bytes ? 0 : 3);
 }
 
-/* The limits, and the lengths of the smallest plan, of the sample, of the largest, and of those on both sides of MEALPLAN_FEW_RULES, in
-   either format. */
+/* The limits, and the lengths of the smallest plan, of the sample, of the largest, and of those on both sides of MEALPLAN_FEW_RULES and of
+   MEALPLAN_MOST_COPIED, in either format. */
 static void limits(void) {
     lengths(sample, sizeof sample);
     lengths(wide, sizeof wide);
     static const uint16_t records[] = {NARROW, WIDE};
     for (int i = 0; i < 2; i++) {
         uint16_t record = records[i];
-        static const size_t counts[] = {1, FEW - 1, FEW, FEW + 1, MOST - 1, MOST};
+        static const size_t counts[] = {1, FEW - 1, FEW, FEW + 1, COPIED - 1, COPIED, COPIED + 1, MOST - 1, MOST};
         for (size_t c = 0; c < sizeof counts / sizeof *counts; c++) lengths(plan, empty_rules(counts[c], record));
         worked(FEW, record, 32 * 2 * (size_t)FEW);
         worked(FEW + 1, record, 40 * 2 * (size_t)(FEW + 1));
@@ -193,6 +208,7 @@ static void refusals(void) {
 
 /* Rules in any order: 12, and what comes before it and after it. */
 static void orders(void) {
+    static const struct plan_row no_row;
     gives("rule 1 over rule 2", changed(12, 2), MEALPLAN_ACCEPTED, 0);
     gives("rule 2 over rule 1", changed(20, 1), MEALPLAN_ACCEPTED, 0);
     gives("rule 3 names itself", changed(28, 3), MEALPLAN_CYCLE, 3);
@@ -215,6 +231,7 @@ static void orders(void) {
     gives("and spread", plan_spread(plan, sizeof sample, work, 0, out, 0, &written, &position), MEALPLAN_CYCLE, 7);
     gives("and walked", walk(plan, sizeof sample, "x"), MEALPLAN_CYCLE, 7);
     gives("and compared", compare(plan, sizeof sample, 0), MEALPLAN_CYCLE, 7);
+    gives("and copied", copy(plan, sizeof sample, &no_row, 0, 4), MEALPLAN_CYCLE, 7);
 }
 
 /* The two formats: record lengths, marks, and what a wide plan's words may be. */
@@ -411,6 +428,73 @@ static void classes(void) {
     gives("an overlap", class_of(rows, 4, 0, 0), MEALPLAN_OVERLAP, 2);
 }
 
+/* A copy that is refused: output and work are untouched, and the length is left alone. */
+static void not_copied(const char *what, uint32_t result, uint32_t refusal, uint64_t at) {
+    gives(what, result, refusal, at);
+    want("the length is left alone", written, 77);
+    for (size_t i = 0; i < sizeof out; i++) want("output", out[i], 2);
+    for (size_t i = 0; i < sizeof work; i++) want("work", work[i], 3);
+}
+
+/* The forest of the plan in plan, which is wide, as the text of a narrow one has it. */
+static void tells(size_t length, const char *text) {
+    gives("spread of a copy", plan_spread(plan, length, work, sizeof work, out, sizeof out, &written, &position), MEALPLAN_ACCEPTED, 0);
+    want("its length", written, MEALPLAN_TEXT_BYTES(strlen(text) / 3, WIDE));
+    const uint8_t *came = out;
+    for (const char *t = text; *t; t++) {
+        want(text, *came++, (uint8_t)*t);
+        if (t != text && t[-1] == '(') want("a label's high part", *came++, 0), want("a label's high part", *came++, 0);
+    }
+}
+
+/* Copies of the sample plan for clients of every class, whose answers are of what they see, and each refusal in its turn. */
+static void copied(void) {
+    enum { LAST = MEALPLAN_LAST_LABEL, CLASS = MEALPLAN_LAST_CLASS };
+    struct plan_row rows[] = {{0, 97, 0, 1}, {98, 98, 2, 65535}, {99, LAST, 1, 0}};
+    static const char *texts[] = {"(a)", "(c(a)(c(a)(a)))(a)", "(c(a)(b)(c(a)(b)(a)(b))(b))(a)(b)", "(c(a)(b)(c(a)(b)(a)(b))(b))(a)(b)"};
+    static const uint32_t second_child[] = {MEALPLAN_NOWHERE, 99, 98, 98};
+    for (uint16_t class_ = 0; class_ <= CLASS; class_++) {
+        memset(out, 2, sizeof out), memset(work, 3, sizeof work), written = 77;
+        check(sample, sizeof sample);
+        gives("copy", copy(sample, sizeof sample, rows, 3, class_), MEALPLAN_ACCEPTED, 0);
+        for (size_t i = 0; i < sizeof work; i++) want("work", work[i], i < MEALPLAN_WORK_BYTES(8) ? 0 : 3);
+        for (size_t i = written; i < sizeof out; i++) want("output past the copy", out[i], 2);
+        size_t length = written;
+        memcpy(plan, out, length);
+        gives("check of a copy", check(plan, length), MEALPLAN_ACCEPTED, 0);
+        want("a wide plan without cover", MEALPLAN_PLAN_BYTES(n, MEALPLAN_RECORD_LENGTH(plan, length)), length);
+        want("a wide plan", MEALPLAN_RECORD_LENGTH(plan, length), WIDE);
+        want("at most three rules for each", n <= 24, 1);
+        tells(length, texts[class_]);
+        memset(cursor, 0, sizeof cursor);
+        gives("afn", walk(plan, length, "afn"), MEALPLAN_ACCEPTED, 0);
+        want("the second child of the first tree, or its next", MEALPLAN_ANSWER(answers, 2), second_child[class_]);
+    }
+    memset(cursor, 0, sizeof cursor);
+    memset(out, 2, sizeof out), memset(work, 3, sizeof work), written = 77;
+    check(sample, sizeof sample);
+    not_copied("a plan cut short", copy(sample, sizeof sample - 1, rows, 0, CLASS + 1), MEALPLAN_MAGIC, 0);
+    not_copied("class above MEALPLAN_LAST_CLASS, and no rows", copy(sample, sizeof sample, rows, 0, CLASS + 1), MEALPLAN_ROW, 0);
+    not_copied("class 65,535", copy(sample, sizeof sample, rows, 3, 65535), MEALPLAN_ROW, 0);
+    not_copied("no rows", copy(sample, sizeof sample, rows, 0, CLASS), MEALPLAN_GAP, 0);
+    not_copied("a row missing", copy(sample, sizeof sample, rows, 2, CLASS), MEALPLAN_GAP, 2);
+    rows[2].lowest = 98;
+    not_copied("an overlap", copy(sample, sizeof sample, rows, 3, 0), MEALPLAN_OVERLAP, 2);
+    rows[2].lowest = 99, rows[2].class_ = CLASS + 1;
+    not_copied("a row's class", copy(sample, sizeof sample, rows, 3, 0), MEALPLAN_ROW, 2);
+    size_t length = empty_rules(COPIED + 1, NARROW);
+    not_copied("a row's class, and too many rules", plan_copy(plan, length, rows, 3, 0, work, 0, out, 0, &written, &position), MEALPLAN_ROW, 2);
+    rows[2].class_ = 1;
+    not_copied("too many rules, and nothing lent", plan_copy(plan, length, rows, 3, 0, work, 0, out, 0, &written, &position),
+               MEALPLAN_TOO_MANY, 0);
+    not_copied("too many rules", plan_copy(plan, length, rows, 3, 0, work, sizeof work, out, sizeof out, &written, &position),
+               MEALPLAN_TOO_MANY, 0);
+    not_copied("too little output", plan_copy(sample, sizeof sample, rows, 3, 0, work, sizeof work, out, MEALPLAN_COPY_BYTES(8) - 1,
+               &written, &position), MEALPLAN_LENT, 0);
+    not_copied("too little work", plan_copy(sample, sizeof sample, rows, 3, 0, work, MEALPLAN_WORK_BYTES(8) - 1, out, sizeof out,
+               &written, &position), MEALPLAN_LENT, 0);
+}
+
 /* Reads a plan of so many bytes from a file; says whether it is there. */
 static int read_plan(const char *name, uint8_t *bytes, size_t length) {
     FILE *file = fopen(name, "rb");
@@ -433,7 +517,8 @@ int main(int argc, char **argv) {
     places();
     compared();
     classes();
-    want("0 and every refusal came, as bits", seen, (1u << (MEALPLAN_OVERLAP + 1)) - 1);
+    copied();
+    want("0 and every refusal came, as bits", seen, (1u << (MEALPLAN_TOO_MANY + 1)) - 1);
     printf("interface: %u calls as the header and documents 01 and 02 say\n", calls);
     return 0;
 }

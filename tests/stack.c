@@ -1,6 +1,6 @@
 /* How much stack each function of the library takes on plans of several shapes, in several orders and in both formats, held to the bounds of
-   include/mealplan.h: those for few rules on plans of 1,024 rules, that for any plan on plans of 16,384, and that of plan_class on lists of
-   rows, accepted and refused.
+   include/mealplan.h: those for few rules on plans of 1,024 rules, that for any plan on plans of 16,384, for plan_copy also on plans of 4,096, the
+   most that it copies, and that of plan_class on lists of rows, accepted and refused.
    Each call runs on a stack of its own that was painted before: what is no longer paint, below where the function was called, was used.
    A bound that is exceeded, or that is more than twice what was used, ends the run with status 1. */
 #include "mealplan.h"
@@ -9,7 +9,7 @@
 #include <string.h>
 #include <ucontext.h>
 
-enum { MOST = MEALPLAN_MOST_RULES, LETTERS = 4096, TEXT = 1 << 20, BUDGET = 1 << 16, ROWS = 1 << 16, FUNCTIONS = 7 };
+enum { MOST = MEALPLAN_MOST_RULES, LETTERS = 4096, TEXT = 1 << 20, BUDGET = 1 << 16, ROWS = 1 << 16, FUNCTIONS = 8 };
 
 static uint8_t words[MEALPLAN_WORDS_BYTES(MOST, MEALPLAN_WIDE)], plan[MEALPLAN_PLAN_BYTES(MOST, MEALPLAN_WIDE)];
 static uint8_t work[MEALPLAN_WORK_BYTES(MOST)], cursor[MEALPLAN_CURSOR_BYTES(MOST)], root[MEALPLAN_CURSOR_BYTES(MOST)];
@@ -52,6 +52,12 @@ static void compare(void) {
     CALL(plan_compare, plan, plan_len, work, sizeof work, cursor, sizeof cursor, root, sizeof root, BUDGET, &verdict, &pairs, &position);
 }
 
+/* For a client who sees a part of the labels. */
+static void copy(void) {
+    static const struct plan_row classes[] = {{0, 97, 0, 0}, {98, 200, 1, 0}, {201, MEALPLAN_LAST_LABEL, 2, 0}};
+    CALL(plan_copy, plan, plan_len, classes, 3, 1, work, sizeof work, out, sizeof out, &written, &position);
+}
+
 /* A list of rows of 256 labels each, of which so many are lent, and the label asked for. */
 static struct plan_row rows[ROWS];
 static size_t rows_len;
@@ -79,7 +85,7 @@ static size_t used(void (*call)(void)) {
     return most;
 }
 
-/* The functions, what the header says of each on plans of few rules, and the most that was used on the plans tried. */
+/* The functions, what the header says of each on plans of few rules, and the most that was used on the plans tried; plan_copy is the last. */
 static struct function {
     const char *name;
     void (*call)(void);
@@ -88,7 +94,7 @@ static struct function {
     {"plan_seal", seal, MEALPLAN_STACK_SEAL, 0},          {"plan_check", check, MEALPLAN_STACK_CHECK, 0},
     {"plan_unseal", unseal, MEALPLAN_STACK_UNSEAL, 0},    {"plan_measure", measure, MEALPLAN_STACK_MEASURE, 0},
     {"plan_spread", spread, MEALPLAN_STACK_SPREAD, 0},    {"plan_walk", walk, MEALPLAN_STACK_WALK, 0},
-    {"plan_compare", compare, MEALPLAN_STACK_COMPARE, 0},
+    {"plan_compare", compare, MEALPLAN_STACK_COMPARE, 0}, {"plan_copy", copy, MEALPLAN_STACK_COPY, 0},
 };
 
 /* Any number below a bound: xorshift, the same at every run. */
@@ -215,8 +221,8 @@ static const struct format {
     uint16_t length;
 } formats[] = {{"narrow", MEALPLAN_NARROW}, {"wide", MEALPLAN_WIDE}};
 
-/* Every function on a shape in an order and a format; gives how many went otherwise than they are to. */
-static int tried(const struct shape *s, const struct order *o, const struct format *as) {
+/* Every function from one on, on a shape in an order and a format; gives how many went otherwise than they are to. */
+static int tried(struct function *from, const struct shape *s, const struct order *o, const struct format *as) {
     int wrong = 0;
     format = as->length;
     words_len = MEALPLAN_WORDS_BYTES(rules, format), plan_len = MEALPLAN_PLAN_BYTES(rules, format);
@@ -224,33 +230,35 @@ static int tried(const struct shape *s, const struct order *o, const struct form
     uint64_t lowest = renumber(o);
     lay_out();
     plan_walk(plan, plan_len, work, sizeof work, root, sizeof root, (const uint8_t *)"a", 1, answers, sizeof answers, &position);
-    for (struct function *f = functions; f < functions + FUNCTIONS; f++) {
+    for (struct function *f = from; f < functions + FUNCTIONS; f++) {
         size_t bytes = used(f->call);
         if (f->most < bytes) f->most = bytes;
         int large = (f->call == measure || f->call == spread) && result == MEALPLAN_ROOM;
-        int fine = o->cycle ? result == MEALPLAN_CYCLE && position == lowest : !result || large;
+        int many = f->call == copy && rules > MEALPLAN_MOST_COPIED && result == MEALPLAN_TOO_MANY;
+        int fine = o->cycle ? result == MEALPLAN_CYCLE && position == lowest : !result || large || many;
         if (fine) continue;
         printf("%s on %u rules, %s, %s, %s: %u at %u\n", f->name, rules, s->name, o->name, as->name, result, (unsigned)position), wrong++;
     }
-    if (o->cycle) return wrong;
+    if (o->cycle || from != functions) return wrong;
     size_t moved = 0;
     for (size_t i = 0; i < LETTERS; i++) moved += MEALPLAN_ANSWER(answers, i) != MEALPLAN_NOWHERE;
     printf("%u rules, %s, %s, %s: %zu of %d letters lead to a node\n", rules, s->name, o->name, as->name, moved, LETTERS);
     return wrong;
 }
 
-/* Every shape, order and format on plans of so many rules, and what was used held to its bound: one for all functions, or, if that is 0, the
-   one of each; gives whether anything failed. A cycle that all of many rules reach is searched for long, so it is tried with one shape alone. */
-static int measured(uint16_t count, size_t bound) {
+/* Every shape, order and format on plans of so many rules, by every function from one on, and what was used held to its bound: one for all, or, if
+   that is 0, the one of each; gives whether anything failed. A cycle that all of many rules reach is searched for long, so it is tried with one
+   shape alone. */
+static int measured(struct function *from, uint16_t count, size_t bound) {
     int failed = 0;
     rules = count;
-    for (struct function *f = functions; f < functions + FUNCTIONS; f++) f->most = 0;
+    for (struct function *f = from; f < functions + FUNCTIONS; f++) f->most = 0;
     for (size_t s = 0; s < sizeof shapes / sizeof *shapes; s++)
         for (size_t o = 0; o < sizeof orders / sizeof *orders; o++)
             for (size_t f = 0; f < sizeof formats / sizeof *formats; f++)
                 if (rules <= MEALPLAN_FEW_RULES || !orders[o].cycle || (s == 0 && f == 0))
-                    failed |= tried(&shapes[s], &orders[o], &formats[f]) != 0;
-    for (struct function *f = functions; f < functions + FUNCTIONS; f++) {
+                    failed |= tried(from, &shapes[s], &orders[o], &formats[f]) != 0;
+    for (struct function *f = from; f < functions + FUNCTIONS; f++) {
         size_t stated = bound ? bound : f->bound;
         int bad = stated < f->most || 2 * f->most < stated;
         printf("%s, painted, on plans of %u rules: %zu bytes of stack used, %zu stated%s\n", f->name, rules, f->most, stated,
@@ -281,6 +289,7 @@ static int on_rows(void) {
 }
 
 int main(void) {
-    int few = measured(MEALPLAN_FEW_RULES, 0), many = measured(MEALPLAN_MOST_RULES, MEALPLAN_STACK_MANY);
-    return few | many | on_rows();
+    int few = measured(functions, MEALPLAN_FEW_RULES, 0), many = measured(functions, MEALPLAN_MOST_RULES, MEALPLAN_STACK_MANY);
+    int copied = measured(functions + FUNCTIONS - 1, MEALPLAN_MOST_COPIED, MEALPLAN_STACK_MANY);
+    return few | many | copied | on_rows();
 }

@@ -5,14 +5,14 @@
 #   The room for more than 1,024 rules lies in the frame of one function alone, judge::judge_many, which check and seal call for such
 #   plans and for no others: the sum without it is held to the bounds for few rules. That it isn't called for few rules is read off the code of
 #   crates/plan and crates/seal, not off the machine code; what shows it here is the second way.
-# - Painted, on plans of 1,024 rules and of 16,384 and on lists of rows (tests/stack.c): what was used of it, each held to its bound.
+# - Painted, on plans of 1,024 rules, of 4,096 and of 16,384 and on lists of rows (tests/stack.c): what was used of it, each held to its bound.
 set -eu
 cd "$(dirname "$0")/.."
 build=$(mktemp -d)
 trap 'rm -rf "$build"' EXIT
 rt staticlib mealplan >"$build/log" 2>&1 || { cat "$build/log"; exit 1; }
 library=target/staticlib/libmealplan.a
-functions="check seal unseal measure spread walk compare class"
+functions="check seal unseal measure spread walk compare class copy"
 
 fail() {
     echo "stack: $1"
@@ -81,7 +81,7 @@ depths() {
 }
 depths "" >"$build/any"
 depths "$many" >"$build/few"
-for sums in any few; do [ "$(wc -l <"$build/$sums")" -eq 8 ] || fail "the chains of calls were not found"; done
+for sums in any few; do [ "$(wc -l <"$build/$sums")" -eq 9 ] || fail "the chains of calls were not found"; done
 grep -v '^class ' "$build/any" >"$build/plans"
 while read -r f bytes; do within "stack of plan_$f along its calls, any plan" "$bytes" STACK_MANY; done <"$build/plans"
 while read -r f bytes; do within "stack of plan_$f along its calls, without those through $many" "$bytes" "STACK_${f^^}"; done <"$build/few"

@@ -1,12 +1,15 @@
 -- Two accepted plans with equal forests answer alike: by demand 3 the answers are those of the finger on the forest, which is fed nothing
 -- else but the letters. So two copies whose visible forests agree tell a client the same. Assumes nothing.
-use Prim.Native.Nat.{ℕ, _≤_}
-use mathlib.Core.Bool.{Bool, not}
+use Prim.Native.Nat.{ℕ}
+use mathlib.Core.Bool.{not}
 use mathlib.Core.List.{List, [], _∷_, map}
 use mathlib.Core.Path.{_≡_, refl, sym, ap, ap₂, _∙_}
-use lib.ListN.{length}
+use lib.ListN.{length, take, drop}
+use lib.Seq.{take-at}
+use Rattle.words.specs.Front.{inFront}
 use Rattle.rule.specs.declared.Rule.{Rule}
 use Rattle.plan.specs.declared.Checked.{Checked}
+use Rattle.plan.specs.declared.Written.{Written}
 use Rattle.plan.specs.Check.{checked, rulesOf}
 use Rattle.forest.specs.Forest.{Forest, forest}
 use Rattle.forest.specs.Reference.{Path, answers, pathAfter}
@@ -14,10 +17,10 @@ use Rattle.forest.specs.Walk.{firstOther, lettersOf, answerWord}
 use Rattle.demand.specs.Calls.{Call, walkOf}
 use Rattle.demand.specs.Demand.{isNone, turnedDown, fingerAnswers, Demand3}
 use Rattle.demand.proofs.Demand3.{demand3}
-use Rattle.copy_variants.specs.Visible.{visible}
-use Rattle.copy_passes.specs.Copied.{Copied}
-use Rattle.copy_plan.specs.Bytes.{mostCopied, copyBytes}
-use Rattle.copy_plan.proofs.Written.{copy-accepted, copy-forest}
+use Rattle.label_rows.specs.declared.LabelRow.{LabelRow}
+use Rattle.copy_variants.specs.Visible.{visible, seenBy}
+use Rattle.copy_plan.specs.Bytes.{copyBytes}
+use Rattle.copy.specs.Copy.{Copies}
 use Rattle.copy_answers.specs.Asked.{Enough, Asked, told, TellAlike}
 
 -- a call that isn't refused for size is turned down by its letters alone
@@ -55,15 +58,19 @@ module _ (s t : List ℕ) (n m start top : ℕ) (e : checked s ≡ Checked.Accep
         answers = (M .answered ∙ ap (map answerWord) fingers ∙ sym (N .answered)) i;
       }
 
-  -- where s is a copy of rules R with start rule a, and t of rules Q with start rule b
-  pub copies-alike : (v : ℕ → Bool) (R Q : List Rule) (a b : ℕ) → Copied v R a (rulesOf s) start → Copied v Q b (rulesOf t) top
-      → visible v (forest R a) ≡ visible v (forest Q b) → TellAlike walkOf s n t m
-  copies-alike v R Q a b C D same = tell-alike (C .gives ∙ same ∙ sym (D .gives))
+-- the bytes that copy wrote, of the length that it gave
+written-bytes : {bs out′ : List ℕ} (out : List ℕ) {l : ℕ} {x : Written} → x ≡ Written.Length (length bs) → x ≡ Written.Length l → out′ ≡ inFront bs out → take l out′ ≡ bs
+unfolding inFront
+written-bytes {bs} {out′} out {l} e f w = let same : length bs ≡ l = cc in rw w (take-at bs (drop (length bs) out) l same)
 
--- "Two plans whose visible forests agree must give the client equal answers": rules R and Q, and their copies C and D as plans
-pub equal-answers : {v : ℕ → Bool} {R Q C D : List Rule} {a b top end : ℕ} → Copied v R a C top → Copied v Q b D end
-    → length R ≤ mostCopied → length Q ≤ mostCopied → visible v (forest R a) ≡ visible v (forest Q b)
-    → TellAlike walkOf (copyBytes C top) (length C) (copyBytes D end) (length D)
-equal-answers {v} {R} {Q} {C} {D} {a} {b} {top} {end} X Y r q same =
-    tell-alike (copyBytes C top) (copyBytes D end) (length C) (length D) top end (copy-accepted X r) (copy-accepted Y q)
-    (copy-forest X r ∙ same ∙ sym (copy-forest Y q))
+-- "Two plans whose visible forests agree must give the client equal answers to every string of letters from above the forest": plans s and
+-- t, lists and classes of any kind, and what copy wrote for the one and for the other
+module _ {s t : List ℕ} {rows others : List LabelRow} {c d n m a b : ℕ} {work work′ out out′ lent lent′ place place′ : List ℕ} {x y : Written}
+    (X : Copies s rows c n a work work′ out out′ x) (Y : Copies t others d m b lent lent′ place place′ y) where
+  pub equal-answers : {l k : ℕ} → x ≡ Written.Length l → y ≡ Written.Length k
+      → visible (seenBy rows c) (forest (rulesOf s) a) ≡ visible (seenBy others d) (forest (rulesOf t) b)
+      → TellAlike walkOf (take l out′) (length (X .rules)) (take k place′) (length (Y .rules))
+  equal-answers e f same =
+      rw (written-bytes out (X .answer) e (X .writes), written-bytes place (Y .answer) f (Y .writes))
+      (tell-alike (copyBytes (X .rules) (X .top)) (copyBytes (Y .rules) (Y .top)) (length (X .rules)) (length (Y .rules)) (X .top) (Y .top) (X .accepts) (Y .accepts)
+      (ap (λ (R : List Rule). forest R (X .top)) (X .reads) ∙ X .copied .gives ∙ same ∙ sym (ap (λ (R : List Rule). forest R (Y .top)) (Y .reads) ∙ Y .copied .gives)))

@@ -1,4 +1,4 @@
--- The theorem of equal answers is not vacuous: two plans with different forests, of which a client who sees the labels below 200 sees the
+-- The theorem of equal answers is not vacuous: two plans with different forests, of which a client, who sees the labels below 200, sees the
 -- same, and their copies, which are different plans too. Each is computed from the plan's bytes on. Assumes nothing.
 use Prim.Native.Nat.{ℕ}
 use mathlib.Core.Bool.{Bool}
@@ -7,7 +7,6 @@ use mathlib.Core.Logic.{_≢_}
 use mathlib.Core.Path.{_≡_, refl, ap}
 use native.Mathlib.Omega.{arith}
 use lib.ListN.{length, replicate}
-use lib.Dec.{ltb}
 use Rattle.words.specs.Number.{number, bytes}
 use Rattle.record.specs.Format.{highLength, mostLabel}
 use Rattle.rule.specs.declared.Rule.{Rule}
@@ -24,24 +23,38 @@ use Rattle.demand.specs.Calls.{Call, walkOf}
 use Rattle.demand.specs.Demand.{Above}
 use Rattle.copy_answers.specs.Asked.{Enough, Asked, told, TellAlike}
 use Rattle.copy_answers.proofs.Alike.{tell-alike}
-use Rattle.copy_variants.specs.Visible.{visible}
+use Rattle.label_rows.specs.declared.LabelRow.{LabelRow}
+use Rattle.label_rows.specs.declared.Coverage.{Coverage}
+use Rattle.label_rows.specs.Coverage.{coverage, coverageFrom, extended, ended, invalid}
+use Rattle.label_rows.specs.Class.{rowOf, covers}
+use Rattle.copy_variants.specs.Visible.{visible, seenBy}
 use Rattle.copy_variants.specs.Variants.{variants, variantsTo, variantsFrom, seenIn, filling, variant, rulesFrom, variantRules, threefold}
 use Rattle.copy_plan.specs.Bytes.{copyBytes}
 use Rattle.copy_passes.specs.Passes.{markNamed, marksDown, marks, number as ruleNumber, renamed, writtenUp, reachedNumber, reachedRules, copyRules}
 
--- the labels that the client sees
+-- a sound list: labels below 200 are of class 0, all others of class 2; and the labels that a client of class 1 sees
+unfoldable pub list : List LabelRow
+list =
+    record { lowest = 0; highest = 199; class = 0; reserved = 0 }
+    ∷ record { lowest = 200; highest = 16777215; class = 2; reserved = 0 }
+    ∷ []
+
+list-sound : coverage list ≡ Coverage.Whole
+unfolding list coverage coverageFrom extended ended invalid
+list-sound = refl
+
 abbrev pub seen : ℕ → Bool
-seen a = ltb a 200
+seen a = seenBy list 1 a
 
 -- entry 97 twice, the second under a hidden entry; and hidden entries around entry 97
-pub few : List Rule
+unfoldable pub few : List Rule
 few = Rule.Empty ∷ Rule.Node 97 0 ∷ Rule.Node 250 1 ∷ Rule.Pair 1 2 ∷ []
 
-pub many : List Rule
+unfoldable pub many : List Rule
 many = Rule.Empty ∷ Rule.Node 251 0 ∷ Rule.Pair 1 1 ∷ Rule.Part 97 1 2 ∷ Rule.Fill 3 1 ∷ Rule.Pair 4 2 ∷ []
 
 pub visible-same : visible seen (forest few 3) ≡ visible seen (forest many 5)
-unfolding few many visible forest
+unfolding few many list visible forest seenBy rowOf covers
 visible-same = refl
 
 pub forests-differ : forest few 3 ≢ forest many 5
@@ -54,11 +67,11 @@ copied R start = copyRules (variants seen R) (length R) (λ i. i) (λ r. r) star
 
 -- a hidden node is an empty rule; a part whose filler is gone is a node over the children around its hole
 pub few-copied : copied few 3 ≡ Rule.Empty ∷ Rule.Node 97 0 ∷ Rule.Empty ∷ Rule.Pair 1 2 ∷ []
-unfolding few rule ruleNumber variants variantsTo variantsFrom seenIn filling variant rulesFrom variantRules threefold markNamed marksDown marks renamed writtenUp reachedNumber reachedRules copyRules anyNamed count encode
+unfolding few list seenBy rowOf covers rule ruleNumber variants variantsTo variantsFrom seenIn filling variant rulesFrom variantRules threefold markNamed marksDown marks renamed writtenUp reachedNumber reachedRules copyRules anyNamed count encode
 few-copied = refl
 
 pub many-copied : copied many 5 ≡ Rule.Empty ∷ Rule.Pair 0 0 ∷ Rule.Pair 0 1 ∷ Rule.Node 97 2 ∷ Rule.Pair 3 1 ∷ []
-unfolding many rule ruleNumber variants variantsTo variantsFrom seenIn filling variant rulesFrom variantRules threefold markNamed marksDown marks renamed writtenUp reachedNumber reachedRules copyRules anyNamed count encode
+unfolding many list seenBy rowOf covers rule ruleNumber variants variantsTo variantsFrom seenIn filling variant rulesFrom variantRules threefold markNamed marksDown marks renamed writtenUp reachedNumber reachedRules copyRules anyNamed count encode
 many-copied = refl
 
 -- both copies as bytes are accepted plans, and tell the client the same

@@ -7,12 +7,10 @@ use mathlib.Core.Path.{_≡_}
 use lib.ListN.{length}
 use lib.Dec.{T}
 use Rattle.rule.specs.declared.Rule.{Rule}
-use Rattle.rule.specs.Sound.{rule, Sound, Closed}
+use Rattle.rule.specs.Sound.{rule, Sound, Closed, Lower}
 use Rattle.reach.specs.Reaches.{Reaches}
-use Rattle.reach.specs.Order.{Lower}
 use Rattle.forest.specs.Forest.{forest}
-use Rattle.copy_variants.specs.Visible.{visible}
-use Rattle.copy_variants.specs.Variants.{seenIn}
+use Rattle.copy_variants.specs.Visible.{visible, seenIn}
 
 -- rules C with start rule top are a copy of rules R with start rule start, for a client who sees the labels that pass v
 pub record Copied (v : ℕ → Bool) (R : List Rule) (start : ℕ) (C : List Rule) (top : ℕ) : Type 0 where

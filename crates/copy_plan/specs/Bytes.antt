@@ -5,10 +5,7 @@ use Rattle.record.specs.declared.Format.{Format}
 use Rattle.rule.specs.declared.Rule.{Rule}
 use Rattle.rule.specs.Rule.{encode}
 use Rattle.plan.specs.Check.{planBytes}
-
--- "Refused: 16, the plan has over 4,096 rules"
-abbrev pub mostCopied : ℕ
-mostCopied = 4096
+pub use Rattle.copy_variants.specs.Visible.{mostCopied}
 
 -- "output needs 40 × n + 10 bytes"
 abbrev pub copyRoom : ℕ → ℕ

@@ -12,10 +12,7 @@ use Rattle.work_rows.specs.Rows.{rowLength, ownEnd, field, ruleAt, ruleIn, With
 use Rattle.count_passes.specs.Tally.{Besides}
 use Rattle.copy_variants.specs.declared.Variants.{Variants}
 use Rattle.copy_variants.specs.Variants.{seenIn, wholeName, variantsFrom}
-
--- Note 6: "Refused: 16, the plan has over 4,096 rules": so the names of variants fit a word
-abbrev pub mostCopied : ℕ
-mostCopied = 4096
+pub use Rattle.copy_variants.specs.Variants.{mostCopied}
 
 -- where a row keeps the whole variant, the shut one, and a word that is 1 where the rule's own label, if it has one, may be seen
 abbrev pub atWhole : ℕ

@@ -14,7 +14,7 @@ use rule::Rule;
 // The variants by number.
 const INNER: u16 = 0;
 
-const WHOLE: u16 = 1;
+pub const WHOLE: u16 = 1;
 
 const SHUT: u16 = 2;
 
@@ -27,8 +27,10 @@ const AT_SHUT: usize = 20;
 
 pub const AT_SEEN: usize = 30;
 
-// What stands there where it may.
+// What stands there where it may, and where it may not.
 pub const SEEN: u16 = 1;
+
+pub const HIDDEN: u16 = 0;
 
 // The name of variant t of rule r.
 pub fn name(r: u16, t: u16) -> u16

@@ -11,6 +11,8 @@ use Rattle.rule.specs.declared.Rule.{Rule}
 use Rattle.rule.specs.Rule.{encode, holed, tree}
 use Rattle.rule.specs.Sound.{rule}
 use Rattle.copy_variants.specs.declared.Variants.{Variants}
+pub use Rattle.copy_variants.specs.Visible.{mostCopied}
+unfoldable pub use Rattle.copy_variants.specs.Visible.{seenIn}
 
 -- a variant is named by its rule's number and its own; the inner one comes first, since the shut one names it
 abbrev pub variantName : ℕ → ℕ → ℕ
@@ -27,15 +29,6 @@ shutName r = variantName r 2
 
 abbrev pub kindOf : Rule → ℕ
 kindOf x = (encode x) .kind
-
--- whether a rule's own label, if it has one, may be seen
-unfoldable pub seenIn : (ℕ → Bool) → Rule → Bool
-seenIn v Rule.Empty = true
-seenIn v (Rule.Pair b c) = true
-seenIn v (Rule.Node a c) = v a
-seenIn v (Rule.Fill b c) = true
-seenIn v (Rule.Part a b c) = v a
-seenIn v (Rule.Join b c) = true
 
 -- The whole variant of a rule, of variants w and named b, around z, named c. Where its hole is gone nothing is filled; where z is empty
 -- the hole is shut.

@@ -15,10 +15,7 @@ use Rattle.work_rows.specs.Rows.{rowLength, field, ruleIn}
 use Rattle.count_passes.specs.Tally.{Besides}
 use Rattle.copy_variants.specs.Visible.{seenBy}
 use Rattle.copy_variants.specs.Variants.{seenIn}
-
--- where a row says whether its rule's label may be seen
-abbrev pub atSeen : ℕ
-atSeen = 30
+pub use Rattle.copy_rows.specs.Table.{atSeen}
 
 -- "a sound list", and n rows whose rules have labels that it knows
 pub record Annotatable (rows : List LabelRow) (n : ℕ) (s : List ℕ) : Type 0 where

@@ -13,9 +13,6 @@ ghost use Rattle.label_annotate.specs.Annotated.{atSeen, Annotatable, An
 use label_rows::LabelRow;
 use rule::Rule;
 
-// Where a row says whether its rule's label may be seen.
-const SEEN: usize = 30;
-
 // The label of the rule in row r, and 0 where it has none.
 fn label_at(work: &[u8], r: u16) -> u32
     requires { ⌜ rowLength * (r + 1) ≤ length (now work) ⌝ }
@@ -48,9 +45,9 @@ fn mark_row(work: &mut [u8], r: u16, found: u16, class: u16)
 {
     let rule = work_rows::rule_at(work, r);
     if seen(rule, found <= class) {
-        work_rows::put16(work, r, SEEN, 1);
+        work_rows::put16(work, r, copy_rows::AT_SEEN, copy_rows::SEEN);
     } else {
-        work_rows::put16(work, r, SEEN, 0);
+        work_rows::put16(work, r, copy_rows::AT_SEEN, copy_rows::HIDDEN);
     }
 }
 

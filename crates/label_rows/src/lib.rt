@@ -37,7 +37,7 @@ pub enum Front {
 
 impl LabelRow {
     // The largest class.
-    const LARGEST_CLASS: u16 = 3;
+    pub const LARGEST_CLASS: u16 = 3;
 
     // Whether the row is wrong by itself.
     fn invalid(self) -> bool

@@ -15,6 +15,7 @@ ghost use Rattle.c_result.specs.Interface.{comparedResult, comparedPosition, ve
 ghost use Rattle.c_result.specs.Interface.{startAfter, lengthAfter, walkedResult, walkedPosition};
 ghost use Rattle.c_result.specs.Interface.{unsealedResult, unsealedPosition, unsealedLength, unsealedCount, unsealedStart};
 ghost use Rattle.c_result.specs.Interface.{classedResult, classedPosition, classAfter};
+ghost use Rattle.mealplan.specs.Given.{CopyGiven};
 
 // Check.
 #[no_mangle]
@@ -243,4 +244,31 @@ pub extern "C" fn plan_class(
         × (position′ ≡ classedPosition c) ⌝ }
 {
     c_result::give_classed(label_rows::class_of(rows, label), class, position)
+}
+
+// The client's copy.
+#[no_mangle]
+pub extern "C" fn plan_copy(
+    plan: &[u8],
+    rows: &[LabelRow],
+    class: u16,
+    work: &mut [u8],
+    out: &mut [u8],
+    written: &mut u64,
+    position: &mut u64,
+) -> u32
+    ensures { λ r.
+        let work′ = now (work .exit) in
+        let out′ = now (out .exit) in
+        let written′ = now (written .exit) in
+        let position′ = now (position .exit) in
+        let plan = now (plan .entry) in
+        let rows = now (rows .entry) in
+        let work = now (work .entry) in
+        let out = now (out .entry) in
+        let written = now (written .entry) in
+        ⌜ CopyGiven plan rows class work work′ out out′ written r written′ position′ ⌝ }
+{
+    let copied = copy::copy(plan, rows, class, work, out);
+    c_result::give_written(copied, written, position)
 }

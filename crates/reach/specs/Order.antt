@@ -9,15 +9,12 @@ use Rattle.rule.specs.declared.Rule.{Rule}
 use Rattle.rule.specs.Rule.{every}
 use Rattle.rule.specs.Names.{Names}
 use Rattle.rule.specs.Sound.{rule}
+pub use Rattle.rule.specs.Sound.{Lower}
 use Rattle.reach.specs.Reaches.{Reaches, reaches}
 
 -- every named rule is one of the rules (refusal 5 passed)
 abbrev pub Ranged : List Rule → Type 0
 Ranged R = (r : ℕ) → r < length R → T (every (λ x. ltb x (length R)) (rule R r))
-
--- every rule names only lower ones
-abbrev pub Lower : List Rule → Type 0
-Lower R = (r : ℕ) → r < length R → T (every (λ x. ltb x r) (rule R r))
 
 -- the same as a test, of the rules below i
 unfoldable pub lowerBelow : List Rule → ℕ → Bool

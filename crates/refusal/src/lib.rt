@@ -19,6 +19,7 @@ pub enum Refusal {
     Row(usize),
     Gap(usize),
     Overlap(usize),
+    TooMany,
 }
 
 impl Refusal {
@@ -42,6 +43,7 @@ impl Refusal {
             Refusal::Row(_) => 13,
             Refusal::Gap(_) => 14,
             Refusal::Overlap(_) => 15,
+            Refusal::TooMany => 16,
         }
     }
 
@@ -65,6 +67,7 @@ impl Refusal {
             Refusal::Lent => 0,
             Refusal::Place => 0,
             Refusal::Room => 0,
+            Refusal::TooMany => 0,
         }
     }
 }

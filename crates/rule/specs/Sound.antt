@@ -25,3 +25,7 @@ pub record Sound (R : List Rule) (rank : ℕ → ℕ) : Type 0 where
 pub record Closed (R : List Rule) (r : ℕ) : Type 0 where
   pub below : r < length R
   pub closed-kind : T (closed (kindIn R r))
+
+-- every rule names only lower ones
+abbrev pub Lower : List Rule → Type 0
+Lower R = (r : ℕ) → r < length R → T (every (λ x. ltb x r) (rule R r))

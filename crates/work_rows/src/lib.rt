@@ -245,7 +245,7 @@ const MANY_WORDS: usize = 40;
 pub const WORK_LENGTH: usize = 2 * WORK_WORDS;
 
 // The words of work that n rules need.
-fn work_words(n: u16) -> usize
+pub fn work_words(n: u16) -> usize
     ensures { λ r. ⌜ r ≡ workWords n ⌝ }
 {
     if n <= FEW_RULES {

@@ -80,4 +80,18 @@ unsafe extern "C" {
     ) -> u32;
 
     pub fn plan_class(rows: *const LabelRow, rows_len: usize, label: u32, class: *mut u16, position: *mut u64) -> u32;
+
+    pub fn plan_copy(
+        plan: *const u8,
+        plan_len: usize,
+        rows: *const LabelRow,
+        rows_len: usize,
+        class: u16,
+        work: *mut u8,
+        work_len: usize,
+        out: *mut u8,
+        out_len: usize,
+        written: *mut u64,
+        position: *mut u64,
+    ) -> u32;
 }

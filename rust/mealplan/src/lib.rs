@@ -7,7 +7,7 @@
 
 pub mod c;
 
-/// A call turned down: the documents' number, 1 to 15, and the position (the rule for 4 to 6, the lowest rule that reaches itself for 12, the
+/// A call turned down: the documents' number, 1 to 16, and the position (the rule for 4 to 6, the lowest rule that reaches itself for 12, the
 /// letter's place for 9, the row for 13 to 15, else 0).
 #[derive(Clone, Copy, PartialEq, Eq, Debug)]
 pub struct Refused {
@@ -75,9 +75,17 @@ pub const MOST_RULES: usize = 16_384;
 /// The most rules of a plan that takes 64 bytes of work a rule; one of more rules takes 80.
 pub const FEW_RULES: usize = 1_024;
 
-/// Bytes of work that [`measure`], [`spread`], [`walk`] and [`compare`] need for a plan of so many rules.
+/// The most rules of a plan that [`copy`] takes.
+pub const MOST_COPIED: usize = 4_096;
+
+/// Bytes of work that [`measure`], [`spread`], [`walk`], [`compare`] and [`copy`] need for a plan of so many rules.
 pub const fn work_bytes(rules: usize) -> usize {
     if rules > FEW_RULES { 80 * rules } else { 64 * rules }
+}
+
+/// Bytes of output that [`copy`] needs for a plan of so many rules, however short the copy is.
+pub const fn copy_bytes(rules: usize) -> usize {
+    40 * rules + 10
 }
 
 /// The word among the answers for a letter that leads nowhere, in plans of both formats.
@@ -244,4 +252,28 @@ pub fn class(rows: &[LabelRow], label: u32) -> Result<u16, Refused> {
     // SAFETY: as in `check`; a row is laid out as C has it.
     let number = unsafe { c::plan_class(rows.as_ptr(), rows.len(), label, &mut class, &mut position) };
     answer(number, position, class)
+}
+
+/// Writes the copy of a plan for a client of a class at the front of `out`; gives its length. The copy is a wide plan without cover, whose
+/// forest is the plan's with every node of a higher class gone and all below it, by a list of rows as in [`class`]. `work` needs
+/// [`work_bytes`], `out` [`copy_bytes`].
+pub fn copy(plan: &[u8], rows: &[LabelRow], class: u16, work: &mut [u8], out: &mut [u8]) -> Result<usize, Refused> {
+    let (mut written, mut position) = (0, 0);
+    // SAFETY: as in `spread` and `class`.
+    let number = unsafe {
+        c::plan_copy(
+            plan.as_ptr(),
+            plan.len(),
+            rows.as_ptr(),
+            rows.len(),
+            class,
+            work.as_mut_ptr(),
+            work.len(),
+            out.as_mut_ptr(),
+            out.len(),
+            &mut written,
+            &mut position,
+        )
+    };
+    answer(number, position, written as usize)
 }

@@ -6,11 +6,13 @@
 //! - [`rules`] never unfolds: tables of rules, O(log n) a letter. It walks forests of any size, and the benchmark compares with it.
 //!
 //! Every operation takes the same lent slices as the C interface and leaves the same bytes in them. The classes of labels ([`rows`]) are written
-//! twice too: by counting, and in order.
+//! twice too: by counting, and in order. Of the client's copy ([`copy`]), whose rules are left free, there are the refusals and the forest, by
+//! unfolding and leaving out.
 #![forbid(unsafe_code)]
 
 pub mod answers;
 pub mod compare;
+pub mod copy;
 pub mod format;
 pub mod place;
 pub mod plan;

@@ -25,7 +25,7 @@ pub enum Why {
     Sort = 6,
     /// The start isn't below n or isn't closed.
     Start = 7,
-    /// Work, a cursor or answers are too short.
+    /// Work, a cursor or answers are too short; for copy, output.
     Lent = 8,
     /// A byte that is no letter.
     Letter = 9,
@@ -35,12 +35,14 @@ pub enum Why {
     Output = 11,
     /// Some rule reaches itself; tested after 4 to 6 and before 7.
     Cycle = 12,
-    /// A row's lowest label is above its highest, its highest above 16,777,215, or its class above 3.
+    /// A row's lowest label is above its highest, its highest above 16,777,215, or its class above 3; for copy, the client's class is.
     Row = 13,
     /// Labels that no row covers, at the row after them or at the number of rows.
     Gap = 14,
     /// A row covers labels that are already covered.
     Overlap = 15,
+    /// A plan of more than 4,096 rules isn't copied.
+    TooMany = 16,
 }
 
 impl Why {

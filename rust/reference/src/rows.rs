@@ -54,8 +54,17 @@ pub fn by_counting(rows: &[Row], label: u32) -> Result<u16, Refused> {
     Ok(covering[0].class)
 }
 
-/// The same in one pass over the rows, each beside where the one before it ends, and by the standard library's binary search.
+/// The same in one pass over the rows, and by the standard library's binary search.
 pub fn in_order(rows: &[Row], label: u32) -> Result<u16, Refused> {
+    check(rows)?;
+    if label > LAST_LABEL {
+        return Err(Why::Record.here());
+    }
+    Ok(class(rows, label))
+}
+
+/// Whether a list is sound: one pass over the rows, each beside where the one before it ends.
+pub fn check(rows: &[Row]) -> Result<(), Refused> {
     let mut next = 0;
     for (i, row) in rows.iter().enumerate() {
         if row.invalid() {
@@ -70,8 +79,10 @@ pub fn in_order(rows: &[Row], label: u32) -> Result<u16, Refused> {
     if next <= LAST_LABEL {
         return Err(Why::Gap.at(rows.len()));
     }
-    if label > LAST_LABEL {
-        return Err(Why::Record.here());
-    }
-    Ok(rows[rows.partition_point(|row| row.highest < label)].class)
+    Ok(())
+}
+
+/// The class of a label by a sound list.
+pub fn class(rows: &[Row], label: u32) -> u16 {
+    rows[rows.partition_point(|row| row.highest < label)].class
 }

@@ -1,5 +1,8 @@
 //! A call with the slices that it is lent, and what an implementation makes of it.
 use crate::draft::Draft;
+use mealplan::LabelRow;
+use reference::copy::{Client, copy_bytes};
+use reference::rows::{LAST_LABEL, Row};
 use reference::{Checked, Compared, Format, Measured, Refused, Unsealed, answers, rules, unfolded::Unfolded};
 use reference::{plan, plan::cursor_bytes, plan::work_bytes};
 
@@ -12,10 +15,11 @@ pub enum Operation {
     Spread,
     Walk,
     Compare,
+    Copy,
 }
 
 impl Operation {
-    pub const ALL: [Operation; 7] = [
+    pub const ALL: [Operation; 8] = [
         Operation::Check,
         Operation::Seal,
         Operation::Unseal,
@@ -23,10 +27,12 @@ impl Operation {
         Operation::Spread,
         Operation::Walk,
         Operation::Compare,
+        Operation::Copy,
     ];
 
     /// Those that are lent work.
-    pub const WORKING: [Operation; 4] = [Operation::Measure, Operation::Spread, Operation::Walk, Operation::Compare];
+    pub const WORKING: [Operation; 5] =
+        [Operation::Measure, Operation::Spread, Operation::Walk, Operation::Compare, Operation::Copy];
 
     pub fn works(self) -> bool {
         Operation::WORKING.contains(&self)
@@ -56,10 +62,14 @@ pub struct Call {
     /// Compare's second cursor, and its budget.
     pub second: Vec<u8>,
     pub budget: u32,
+    /// Copy's list of rows, and the client's class.
+    pub rows: Vec<LabelRow>,
+    pub class: u16,
 }
 
 impl Call {
-    /// A call on a plan of n rules with as much work, cursor and answers as it needs.
+    /// A call on a plan of n rules with as much work, cursor and answers as it needs; a copy with the output that it needs, for a client who sees
+    /// all.
     pub fn new(operation: Operation, plan: Vec<u8>, n: usize) -> Call {
         let mut call = Call {
             operation,
@@ -73,6 +83,8 @@ impl Call {
             out: Vec::new(),
             second: Vec::new(),
             budget: 0,
+            rows: Vec::new(),
+            class: 0,
         };
         if operation.works() {
             call.work = vec![0x5A; work_bytes(n)];
@@ -83,7 +95,29 @@ impl Call {
         if operation == Operation::Compare {
             call.second = vec![0; cursor_bytes(n)];
         }
+        if operation == Operation::Copy {
+            call.out = vec![0xA5; copy_bytes(n)];
+            call.rows = vec![lent(0, &Row { lowest: 0, highest: LAST_LABEL, class: 0 })];
+        }
         call
+    }
+
+    /// The copy of a plan for a client.
+    pub fn copy(draft: &Draft, client: &Client) -> Call {
+        Call::new(Operation::Copy, draft.plan(), draft.n()).with_client(client)
+    }
+
+    /// The same call for another client.
+    pub fn with_client(mut self, client: &Client) -> Call {
+        self.rows = client.rows.iter().enumerate().map(|(i, row)| lent(i, row)).collect();
+        self.class = client.class;
+        self
+    }
+
+    /// Whom a copy is for.
+    pub fn client(&self) -> Client {
+        let row = |row: &LabelRow| Row { lowest: row.lowest, highest: row.highest, class: row.class };
+        Client { rows: self.rows.iter().map(row).collect(), class: self.class }
     }
 
     /// The comparison of two stored places of a plan.
@@ -105,6 +139,12 @@ impl Call {
     }
 }
 
+/// A row as it is lent; its last field isn't looked at, so it holds anything.
+fn lent(i: usize, row: &Row) -> LabelRow {
+    let Row { lowest, highest, class } = *row;
+    LabelRow { lowest, highest, class, reserved: (i as u16).wrapping_mul(40_503) ^ 0x5A5A }
+}
+
 /// The slices of a call as they are lent.
 pub struct Slices<'a> {
     pub plan: &'a [u8],
@@ -117,6 +157,8 @@ pub struct Slices<'a> {
     pub out: &'a mut [u8],
     pub second: &'a [u8],
     pub budget: u32,
+    pub rows: &'a [LabelRow],
+    pub class: u16,
 }
 
 /// The values that an accepted call gives.
@@ -132,13 +174,13 @@ pub enum Values {
 
 pub type Outcome = Result<Values, Refused>;
 
-/// An implementation of the seven operations. One that can't take a call on says so by `None`.
+/// An implementation of the operations on plans. One that can't take a call on says so by `None`.
 pub trait Implementation {
     fn name(&self) -> &'static str;
     fn run(&mut self, operation: Operation, lent: Slices) -> Option<Outcome>;
 }
 
-/// The reference by rules.
+/// The reference by rules. A copy isn't made by either reference: which rules it has is left free.
 pub struct ByRules;
 
 impl Implementation for ByRules {
@@ -161,6 +203,7 @@ impl Implementation for ByRules {
                 let compared = rules::compare(lent.plan, lent.work, lent.cursor, lent.second, lent.budget);
                 compared.map(Values::Compared)
             }
+            Operation::Copy => return None,
         })
     }
 }
@@ -192,7 +235,7 @@ impl Implementation for OnForest {
     }
 
     fn run(&mut self, operation: Operation, lent: Slices) -> Option<Outcome> {
-        if !operation.works() {
+        if !operation.works() || operation == Operation::Copy {
             return None;
         }
         let unfolded = self.unfold(lent.plan)?;

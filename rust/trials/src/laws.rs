@@ -22,7 +22,9 @@ pub fn ask(before: &Call, outcome: &Outcome, after: &Call) {
     };
     let n = if past(Why::Start) { rules_of(&before.plan) } else { 0 };
     if before.operation.works() {
-        let cleared = if past(Why::Lent) { work_bytes(n) } else { 0 };
+        // 8 is the last refusal of copy.
+        let past_lent = if before.operation == Operation::Copy { outcome.is_ok() } else { past(Why::Lent) };
+        let cleared = if past_lent { work_bytes(n) } else { 0 };
         assert!(after.work[..cleared].iter().all(|byte| *byte == 0), "past 8 work is zeros");
         assert!(after.work[cleared..] == before.work[cleared..], "else work stays");
     }

@@ -2,6 +2,7 @@
 //! implementation on guarded memory and compared in every byte.
 
 pub mod call;
+pub mod copies;
 pub mod cursors;
 pub mod cycles;
 pub mod damage;
@@ -33,6 +34,8 @@ pub fn try_all(trial: &mut Trial, effort: usize) {
     rounds::compares::agree(trial, 12 * effort);
     rounds::wards::agree(trial, effort.div_ceil(5));
     rounds::rows::agree(trial, 2 * effort);
+    rounds::copies::refuse(trial, effort);
+    rounds::copies::agree(trial, effort);
 }
 
 /// Runs something on a stack that has room for deep forests.

@@ -46,6 +46,10 @@ impl Implementation for Library {
             Operation::Compare => {
                 mealplan::compare(lent.plan, lent.work, lent.cursor, lent.second, lent.budget).map(compared)
             }
+            Operation::Copy => {
+                let copied = mealplan::copy(lent.plan, lent.rows, lent.class, lent.work, lent.out);
+                copied.map(|length| Values::Length(length as u64))
+            }
         };
         Some(answer.map_err(|refused| Refused { number: refused.number, position: refused.position }))
     }
@@ -65,7 +69,8 @@ impl Implementation for Interface {
     }
 
     fn run(&mut self, operation: Operation, lent: Slices) -> Option<Outcome> {
-        let Slices { plan, record_length, start, work, cursor, letters, answers, out, second, budget } = lent;
+        let Slices { plan, record_length, start, work, cursor, letters, answers, out, second, budget, rows, class } =
+            lent;
         let mut small = [SMALL; 3];
         let mut middle = [MIDDLE; 2];
         let mut large = [LARGE; 3];
@@ -113,6 +118,19 @@ impl Implementation for Interface {
                     count,
                     &mut position,
                 ),
+                Operation::Copy => c::plan_copy(
+                    plan,
+                    plan_len,
+                    rows.as_ptr(),
+                    rows.len(),
+                    class,
+                    room,
+                    room_len,
+                    to,
+                    to_len,
+                    trees,
+                    &mut position,
+                ),
             }
         };
         if number != 0 {
@@ -126,7 +144,7 @@ impl Implementation for Interface {
         Some(Ok(match operation {
             Operation::Check => Values::Checked(Checked { n, start }),
             Operation::Unseal => Values::Unsealed(Unsealed { record_length, n, start }),
-            Operation::Seal | Operation::Spread => Values::Length(trees),
+            Operation::Seal | Operation::Spread | Operation::Copy => Values::Length(trees),
             Operation::Measure => Values::Measured(Measured { trees, entries, levels }),
             Operation::Walk => Values::Walked,
             Operation::Compare => Values::Compared(match middle {

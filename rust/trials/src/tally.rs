@@ -25,8 +25,18 @@ pub const LEAST_FAR: u64 = 500;
 /// How many lists of rows must have been tried, and how often each class must have come.
 pub const LEAST_LISTS: u64 = 200;
 pub const LEAST_EACH_CLASS: u64 = 100;
+/// How many copies must have been made for clients of each class; how many must have been held to the unfolded forest with all of it seen, some and
+/// none, and how many with more than is unfolded; how often each place of a hidden node must have been tried; how many pairs of plans that differ
+/// in what isn't seen must have had copies of other bytes; and how many letters must have been walked on such copies, and beside a look at the whole
+/// forest.
+pub const LEAST_COPIES: u64 = 1_000;
+pub const LEAST_EACH_SIGHT: u64 = 200;
+pub const LEAST_EACH_PLACE: u64 = 100;
+pub const LEAST_DISGUISED: u64 = 500;
+pub const LEAST_LETTERS_OF_COPIES: u64 = 100_000;
+pub const LEAST_LETTERS_LOOKED: u64 = 5_000;
 /// The last refusal.
-const LAST: u32 = Why::Overlap as u32;
+const LAST: u32 = Why::TooMany as u32;
 
 #[derive(Default)]
 pub struct Tally {
@@ -52,6 +62,17 @@ pub struct Tally {
     pub lists: u64,
     pub asked: u64,
     pub classes: [u64; 4],
+    /// Copies for clients of each class; those with all nodes of the forest, with some, with none of several, and those of forests that aren't
+    /// unfolded; and by the place of the hidden node.
+    copies: [u64; 4],
+    sights: [u64; 4],
+    places: BTreeMap<&'static str, u64>,
+    /// Pairs of plans that differ in what isn't seen alone, those whose copies have other bytes, and letters walked on both copies; and letters
+    /// walked on a copy beside a look at the whole forest.
+    pub disguised: u64,
+    pub of_other_bytes: u64,
+    pub letters_on_copies: u64,
+    pub letters_looked: u64,
     /// How often a refusal came up: by its number, the way to it, and the operation's name.
     ways: BTreeMap<(u32, String, String), u64>,
 }
@@ -74,6 +95,23 @@ impl Tally {
         if let Ok(Values::Compared(compared)) = outcome {
             self.count_verdict(*compared);
         }
+    }
+
+    /// Counts a copy, for a client of a class; and where the forest is small, by how many nodes it has and how many of them are seen.
+    pub fn count_copy(&mut self, class: u16, nodes: Option<[usize; 2]>) {
+        self.copies[usize::from(class)] += 1;
+        let sight = match nodes {
+            Some([all, seen]) if all == seen => 0,
+            Some([_, 0]) => 2,
+            Some(_) => 1,
+            None => 3,
+        };
+        self.sights[sight] += 1;
+    }
+
+    /// Notes that a hidden node was tried at a place.
+    pub fn place(&mut self, place: &'static str) {
+        *self.places.entry(place).or_default() += 1;
     }
 
     fn count_verdict(&mut self, compared: Compared) {
@@ -124,6 +162,21 @@ impl Tally {
         if self.lists < LEAST_LISTS || self.classes.iter().any(|count| *count < LEAST_EACH_CLASS) {
             missing.push(format!("{} lists of rows, classes {:?}", self.lists, self.classes));
         }
+        if self.copies.iter().any(|count| *count < LEAST_COPIES)
+            || self.sights.iter().any(|count| *count < LEAST_EACH_SIGHT)
+        {
+            missing.push(format!("copies {:?}, with all, some, none and not unfolded {:?}", self.copies, self.sights));
+        }
+        let rare = self.places.iter().filter(|(_, count)| **count < LEAST_EACH_PLACE);
+        missing.extend(rare.map(|(place, count)| format!("copies with a hidden node, {place}: {count}")));
+        if self.of_other_bytes < LEAST_DISGUISED || self.letters_on_copies < LEAST_LETTERS_OF_COPIES {
+            let Tally { of_other_bytes, letters_on_copies, .. } = self;
+            missing
+                .push(format!("{of_other_bytes} pairs of copies of other bytes, {letters_on_copies} letters on both"));
+        }
+        if self.letters_looked < LEAST_LETTERS_LOOKED {
+            missing.push(format!("{} letters on copies beside a look at the whole forest", self.letters_looked));
+        }
         if 3 * self.moves < self.letters {
             missing.push(format!("{} moves of {} letters", self.moves, self.letters));
         }
@@ -167,6 +220,20 @@ impl fmt::Display for Tally {
             self.told, self.far
         )?;
         writeln!(f, "rows: {} lists, {} calls, classes {:?}", self.lists, self.asked, self.classes)?;
+        let [all, some, none, more] = self.sights;
+        writeln!(
+            f,
+            "copies: by class {:?}; {all} with all nodes, {some} with some, {none} with none, {more} of forests that aren't unfolded; hidden \
+             nodes in {} places",
+            self.copies,
+            self.places.len()
+        )?;
+        writeln!(
+            f,
+            "copies of plans that differ in what isn't seen: {} pairs, {} of other bytes, {} letters on both; {} letters beside a look at the whole \
+             forest",
+            self.disguised, self.of_other_bytes, self.letters_on_copies, self.letters_looked
+        )?;
         for number in 1..=LAST {
             let of_number = self.ways.iter().filter(|(key, _)| key.0 == number);
             let counts: Vec<u64> = of_number.map(|(_, count)| *count).collect();

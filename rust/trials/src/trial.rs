@@ -1,11 +1,14 @@
 //! Calls run by every implementation on guarded memory, and compared.
-use crate::call::{ByRules, Call, Implementation, OnForest, Outcome, Slices};
+use crate::call::{ByRules, Call, Implementation, OnForest, Operation, Outcome, Slices, Values};
+use crate::copies;
 use crate::laws;
 use crate::library::{Interface, Library};
 use crate::random::Random;
 use crate::room::Room;
 use crate::tally::Tally;
+use mealplan::LabelRow;
 use reference::Refused;
+use reference::copy::{self, Client};
 
 pub struct Trial {
     pub random: Random,
@@ -32,8 +35,11 @@ impl Trial {
         }
     }
 
-    /// Runs a call by every implementation. All must agree on the outcome and on every byte.
+    /// Runs a call by every implementation. All must agree on the outcome and on every byte, but for the rules of a copy.
     pub fn judge(&mut self, call: &Call) -> Judged {
+        if call.operation == Operation::Copy {
+            return self.judge_copy(call);
+        }
         let _told = Told { call, seed: self.seed };
         let odd = self.random.once_in(2);
         let outcome = self.rooms.run(&mut ByRules, call, odd).expect("it takes on every call");
@@ -44,10 +50,50 @@ impl Trial {
             let Some(answer) = self.rooms.run(other, call, odd) else { continue };
             let name = other.name();
             assert_eq!(answer, outcome, "{name} answers otherwise (left) than {} (right)", ByRules.name());
-            self.rooms.compare(name, &after);
+            self.rooms.compare([name, ByRules.name()], &after);
         }
         self.tally.count(call, &outcome, &after);
         Judged { outcome, after }
+    }
+
+    /// Runs a copy by the library, by its safe function and by its C function, which must do the same. The reference says whether it is refused,
+    /// and what must hold of a copy is asked of what was written.
+    fn judge_copy(&mut self, call: &Call) -> Judged {
+        let _told = Told { call, seed: self.seed };
+        let odd = self.random.once_in(2);
+        let client = call.client();
+        let refused = client.judge(&call.plan, call.work.len(), call.out.len()).err();
+        let outcome = self.rooms.run(&mut Library, call, odd).expect("it takes on every call");
+        assert_eq!(outcome.err(), refused, "{} refuses otherwise (left) than the reference (right)", Library.name());
+        let after = self.rooms.taken_back(call);
+        laws::ask(call, &outcome, &after);
+        let answer = self.rooms.run(&mut Interface, call, odd).expect("it takes on every call");
+        let names = [Interface.name(), Library.name()];
+        assert_eq!(answer, outcome, "{} answers otherwise (left) than {} (right)", names[0], names[1]);
+        self.rooms.compare(names, &after);
+        if let Ok(Values::Length(length)) = outcome {
+            self.ask_copy(&call.plan, &client, &after.out[..length as usize]);
+        }
+        self.tally.count(call, &outcome, &after);
+        Judged { outcome, after }
+    }
+
+    /// Asks of a copy what must hold of it, and where the plan's forest is small, that the copy's is what the client sees of it.
+    fn ask_copy(&mut self, plan: &[u8], client: &Client, copy: &[u8]) {
+        let base = self.random.number();
+        if let Err(fault) = copies::judge(plan, client, copy, base) {
+            panic!("{fault}: the copy is {}", hex(copy, 600));
+        }
+        let Some(unfolded) = self.forest.unfold(plan) else {
+            return self.tally.count_copy(client.class, None);
+        };
+        let (seen, all) = (unfolded.visible(client), copy::entries(&unfolded.forest.trees));
+        match copies::unfolded(copy, copy::count(&seen)) {
+            Some(copied) if copied == seen => (),
+            Some(copied) => panic!("the copy is {}, and seen is {}", copy::told(&copied), copy::told(&seen)),
+            None => panic!("the copy is larger than what is seen, {}", copy::told(&seen)),
+        }
+        self.tally.count_copy(client.class, Some([copy::count(&all), copy::count(&seen)]));
     }
 
     /// A call that would take the references too long: the library must give what is known of it from how it was made.
@@ -98,6 +144,7 @@ struct Rooms {
     answers: Room,
     out: Room,
     second: Room,
+    rows: Vec<LabelRow>,
 }
 
 impl Rooms {
@@ -109,6 +156,7 @@ impl Rooms {
         self.answers.fill(&call.answers, odd);
         self.out.fill(&call.out, odd);
         self.second.fill(&call.second, odd);
+        self.rows.clone_from(&call.rows);
         let lent = Slices {
             plan: self.plan.lend(),
             record_length: call.record_length,
@@ -120,11 +168,14 @@ impl Rooms {
             out: self.out.lend(),
             second: self.second.lend(),
             budget: call.budget,
+            rows: &self.rows,
+            class: call.class,
         };
         let outcome = implementation.run(call.operation, lent);
         for (name, room) in self.named() {
             assert!(room.guarded(), "{} wrote outside {name}", implementation.name());
         }
+        assert!(self.rows == call.rows, "{} wrote its rows", implementation.name());
         outcome
     }
 
@@ -143,11 +194,13 @@ impl Rooms {
     /// The slices as the last call left them.
     fn taken_back(&self, call: &Call) -> Call {
         let [plan, work, cursor, letters, answers, out, second] = self.named().map(|(_, room)| room.content().to_vec());
-        let Call { operation, record_length, start, budget, .. } = *call;
-        Call { operation, record_length, start, plan, work, cursor, letters, answers, out, second, budget }
+        let Call { operation, record_length, start, budget, class, .. } = *call;
+        let rows = self.rows.clone();
+        Call { operation, record_length, start, plan, work, cursor, letters, answers, out, second, budget, rows, class }
     }
 
-    fn compare(&self, name: &str, after: &Call) {
+    /// What the last call left is what an implementation left before, byte by byte.
+    fn compare(&self, [name, before]: [&str; 2], after: &Call) {
         let Call { plan, work, cursor, letters, answers, out, second, .. } = after;
         let wanted = [plan, work, cursor, letters, answers, out, second];
         for ((slice, room), wanted) in self.named().into_iter().zip(wanted) {
@@ -155,8 +208,7 @@ impl Rooms {
             if let Some(byte) = differs {
                 let (got, want) = (&room.content()[byte & !7..], &wanted[byte & !7..]);
                 panic!(
-                    "{name} left other {slice} than {} at byte {byte}: {:?}, not {:?}",
-                    ByRules.name(),
+                    "{name} left other {slice} than {before} at byte {byte}: {:?}, not {:?}",
                     &got[..got.len().min(16)],
                     &want[..want.len().min(16)]
                 );
@@ -176,14 +228,32 @@ impl Drop for Told<'_> {
         if !std::thread::panicking() {
             return;
         }
-        let Call { operation, plan, record_length, start, work, cursor, letters, answers, out, second, budget } =
-            self.call;
+        let Call {
+            operation,
+            plan,
+            record_length,
+            start,
+            work,
+            cursor,
+            letters,
+            answers,
+            out,
+            second,
+            budget,
+            rows,
+            class,
+        } = self.call;
         eprintln!("TRIALS_SEED={}: {operation:?}, seal's record length {record_length} and start {start}", self.seed);
         eprintln!("  plan ({} bytes) {}", plan.len(), hex(plan, 600));
         eprintln!("  cursor ({} bytes) {}", cursor.len(), hex(cursor, 200));
         eprintln!("  second cursor ({} bytes) {}, budget {budget}", second.len(), hex(second, 200));
         eprintln!("  letters ({}) {}", letters.len(), String::from_utf8_lossy(&letters[..letters.len().min(200)]));
         eprintln!("  bytes of work {}, answers {}, output {}", work.len(), answers.len(), out.len());
+        if *operation == Operation::Copy {
+            let some: Vec<[u32; 3]> =
+                rows.iter().take(60).map(|row| [row.lowest, row.highest, row.class.into()]).collect();
+            eprintln!("  rows ({}) {some:?}, class {class}", rows.len());
+        }
     }
 }
 

@@ -1,5 +1,5 @@
 //! The cases of document 01, as document 02 leaves them, by the safe functions.
-use mealplan::{Checked, Compared, Measured, NARROW, NOWHERE, Refused, Unsealed, WIDE};
+use mealplan::{Checked, Compared, LAST_LABEL, LabelRow, Measured, NARROW, NOWHERE, Refused, Unsealed, WIDE};
 use reference::Format;
 use reference::plan::{Rule, WORDS};
 use trials::draft::Draft;
@@ -213,4 +213,65 @@ fn two_places_of_the_sample_plan() {
         assert_eq!(compare(&tree, &above, 9), Err(refused(10, 0)));
         assert_eq!(compare(&above, &tree[..tree.len() - 1], 9), Err(refused(8, 0)));
     }
+}
+
+/// A list in which the labels of the sample plan, or of the wide one, are of these classes: that of a, of b and of c.
+fn list([a, b, c]: [u32; 3], classes: [u16; 3]) -> Vec<LabelRow> {
+    let row = |lowest, highest, class| LabelRow { lowest, highest, class, reserved: 7 };
+    vec![row(0, a, classes[0]), row(a + 1, b, classes[1]), row(b + 1, c, classes[2]), row(c + 1, LAST_LABEL, 3)]
+}
+
+#[test]
+fn copies_of_the_sample_plan() {
+    let rows = list([97, 98, 99], [0, 2, 1]);
+    let draft = families::sample();
+    let (plan, mut work) = (draft.plan(), vec![9; mealplan::work_bytes(8)]);
+    for (class, text, measured) in [
+        (3, "(c(a)(b)(c(a)(b)(a)(b))(b))(a)(b)", [3, 11, 3]),
+        (2, "(c(a)(b)(c(a)(b)(a)(b))(b))(a)(b)", [3, 11, 3]),
+        (1, "(c(a)(c(a)(a)))(a)", [2, 6, 3]),
+        (0, "(a)", [1, 1, 1]),
+    ] {
+        let mut out = vec![5; mealplan::copy_bytes(8) + 3];
+        let length = mealplan::copy(&plan, &rows, class, &mut work, &mut out).expect("a sound list");
+        assert_eq!(out[length..], vec![5; out.len() - length]);
+        assert!(work.iter().all(|byte| *byte == 0));
+        let copy = &out[..length];
+        let Checked { n, .. } = mealplan::check(copy).expect("a copy is a plan");
+        assert!(copy.ends_with(b"mq") && length == 10 * usize::from(n) + 10 && n <= 24);
+        let mut work = vec![9; mealplan::work_bytes(n.into())];
+        let [trees, entries, levels] = measured;
+        assert_eq!(mealplan::measure(copy, &mut work), Ok(Measured { trees, entries, levels }));
+        let mut spread = vec![0; 5 * entries as usize];
+        mealplan::spread(copy, &mut work, &mut spread).expect("the text fits");
+        // The high parts of labels below 256 are zeros, and nothing else is.
+        spread.retain(|byte| *byte != 0);
+        assert_eq!(String::from_utf8_lossy(&spread), text);
+    }
+    let mut out = vec![5; mealplan::copy_bytes(8)];
+    let copy =
+        |rows: &[LabelRow], class, work: &mut [u8], out: &mut [u8]| mealplan::copy(&plan, rows, class, work, out);
+    assert_eq!(copy(&rows, 4, &mut work, &mut out), Err(refused(13, 0)));
+    assert_eq!(copy(&[], 4, &mut work, &mut out), Err(refused(13, 0)));
+    assert_eq!(copy(&rows[..3], 0, &mut work, &mut out), Err(refused(14, 3)));
+    assert_eq!(copy(&rows[1..], 0, &mut work, &mut out), Err(refused(14, 0)));
+    assert_eq!(copy(&rows, 0, &mut work, &mut out[1..]), Err(refused(8, 0)));
+    assert_eq!(copy(&rows, 0, &mut work[1..], &mut out), Err(refused(8, 0)));
+    assert!(out.iter().all(|byte| *byte == 5), "a refusal writes nothing");
+}
+
+#[test]
+fn copies_of_wards() {
+    let rows = list([97, 98, 99], [0, 0, 0]);
+    for format in Format::BOTH {
+        for (n, refusal) in [(1_024, None), (1_025, None), (4_096, None), (4_097, Some(16)), (16_384, Some(16))] {
+            let draft = Draft { format, records: vec![[0; WORDS]; n], ..Draft::default() };
+            let (mut work, mut out) = (vec![9; mealplan::work_bytes(n)], vec![9; mealplan::copy_bytes(n)]);
+            let length = mealplan::copy(&draft.plan(), &rows, 0, &mut work, &mut out);
+            assert_eq!(length.err(), refusal.map(|number| refused(number, 0)));
+            let lent = mealplan::copy(&draft.plan(), &rows, 0, &mut work[1..], &mut out);
+            assert_eq!(lent, Err(refused(refusal.unwrap_or(8), 0)), "16 comes before 8");
+        }
+    }
+    assert_eq!(mealplan::MOST_COPIED, 4_096);
 }

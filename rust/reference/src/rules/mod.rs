@@ -4,6 +4,7 @@
 //! A good walker without proofs, for plans of any size: it serves as the second opinion and as the benchmark's other side.
 mod counts;
 mod moves;
+mod prints;
 mod stored;
 mod subtree;
 mod table;
@@ -12,6 +13,7 @@ mod text;
 use crate::plan::{self, Plan, cursor_bytes, work_bytes};
 use crate::{Compared, Measured, Refused, Why, answers, compare::pair_by_pair, first_stranger};
 use moves::Walker;
+pub use prints::visible as visible_print;
 use subtree::Subtree;
 use table::Table;
 

@@ -3,6 +3,7 @@ pub mod finger;
 pub mod forest;
 pub mod places;
 
+use crate::copy::{Client, Entry};
 use crate::place;
 use crate::plan::{self, Plan, cursor_bytes, work_bytes};
 use crate::{Compared, Format, Measured, Refused, Why, answers, compare::pair_by_pair, first_stranger};
@@ -66,6 +67,11 @@ impl Unfolded {
         self.take_work(work)?;
         let (first, second) = (self.subtree(&first[..needed])?, self.subtree(&second[..needed])?);
         Ok(pair_by_pair(first.listed(), second.listed(), budget))
+    }
+
+    /// The forest that a client sees: every node, unless it or one above it is of a higher class.
+    pub fn visible(&self, client: &Client) -> Vec<Entry> {
+        client.visible(&self.forest.trees)
     }
 
     /// The subtree at a stored place; above the forest there is none.

@@ -1,5 +1,6 @@
 //! The rounds of a trial. Each tries one subject as often as it is told.
 pub mod compares;
+pub mod copies;
 pub mod formats;
 pub mod orders;
 pub mod places;

@@ -44,6 +44,11 @@ fn prepare(trial: &mut Trial, operation: Operation, damaged: &damage::Damaged, n
     if operation.works() && trial.random.once_in(4) {
         call.work.truncate(7);
     }
+    // The plan's check comes before the class, and that before the list.
+    if operation == Operation::Copy && trial.random.once_in(2) {
+        call.rows.clear();
+        call.class = trial.random.pick(&[0, 3, 4, 65_535]);
+    }
     Some(call)
 }
 

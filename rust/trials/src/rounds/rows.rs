@@ -15,10 +15,10 @@ const MOST_COUNTED: usize = 300;
 const SENTINEL: u16 = 0xBEEF;
 
 /// A fault of one row, or behind the last.
-type Fault = fn(&mut Vec<Row>, usize, &mut Random);
+pub(super) type Fault = fn(&mut Vec<Row>, usize, &mut Random);
 
 /// Each way to a fault, with the refusal that it alone comes to. The row is there; a gap or an overlap needs one before it.
-const FAULTS: [(&str, Why, Fault); 9] = [
+pub(super) const FAULTS: [(&str, Why, Fault); 9] = [
     ("lowest above highest", Why::Row, |rows, i, random| {
         let row = &mut rows[i];
         row.lowest = row.highest + 1 + random.below(9) as u32;
@@ -89,13 +89,13 @@ pub fn agree(trial: &mut Trial, lists: usize) {
 }
 
 /// The place of the first fault: the first row that isn't valid or doesn't begin where the one before it ends.
-fn first_fault(rows: &[Row]) -> usize {
+pub(super) fn first_fault(rows: &[Row]) -> usize {
     let begins = |i: usize| if i == 0 { 0 } else { rows[i - 1].highest.wrapping_add(1) };
     (0..rows.len()).find(|i| rows[*i].invalid() || rows[*i].lowest != begins(*i)).unwrap_or(rows.len())
 }
 
 /// A sound list of so many rows, cut anywhere, with rows of one label among them.
-fn sound(random: &mut Random, count: usize) -> Vec<Row> {
+pub(super) fn sound(random: &mut Random, count: usize) -> Vec<Row> {
     let mut cuts = vec![0];
     while cuts.len() < count {
         let near = random.pick(&cuts);

@@ -93,7 +93,7 @@ fn seal_words(trial: &mut Trial, format: Format) {
     trial.accepted(&call, "an odd last byte isn't counted");
 }
 
-/// 8: work, cursors and answers; a rest of answers isn't counted.
+/// 8: work, cursors, answers, and copy's output; a rest of answers isn't counted.
 fn lent(trial: &mut Trial, format: Format) {
     let draft = all_kinds(trial, format);
     let letters = rounds::letters(&mut trial.random, 9);
@@ -118,6 +118,11 @@ fn lent(trial: &mut Trial, format: Format) {
                 let mut short = call.clone();
                 short.answers.truncate(length(call.answers.len()));
                 trial.refused(&short, &format!("{format:?} plan, answers short {way}"), Why::Lent.here());
+            }
+            if operation == Operation::Copy {
+                let mut short = call.clone();
+                short.out.truncate(length(call.out.len()));
+                trial.refused(&short, &format!("{format:?} plan, output short {way}"), Why::Lent.here());
             }
         }
         if operation == Operation::Walk {

@@ -4,9 +4,10 @@ use crate::call::{Call, Operation};
 use crate::cursors::{self, Known, Stored};
 use crate::draft::Draft;
 use crate::families::{self, Growth};
-use crate::rounds::{self, compares, plans, sizes, walks};
+use crate::rounds::{self, compares, copies, plans, sizes, walks};
 use crate::trial::Trial;
 use crate::{cycles, random_plans};
+use reference::copy::MOST_COPIED;
 use reference::plan::{FEW_RULES, MAX_RULES};
 use reference::{Format, LETTERS, Refused, Why, place};
 
@@ -36,7 +37,7 @@ pub fn agree(trial: &mut Trial, rounds: usize) {
 }
 
 /// A valid narrow plan of just so many rules, of each shape in its turn.
-fn shaped(trial: &mut Trial, turn: usize, n: usize) -> Draft {
+pub(super) fn shaped(trial: &mut Trial, turn: usize, n: usize) -> Draft {
     let growth = trial.random.pick(&Growth::ALL);
     let draft = match turn % 8 {
         0 => families::nodes(n),
@@ -65,6 +66,7 @@ fn every_operation(trial: &mut Trial, draft: &Draft) {
     walks::list(trial, draft, 3);
     places(trial, draft);
     compares::compare_far(trial, draft);
+    copies::of_any_size(trial, draft);
 }
 
 /// A call that must be refused so.
@@ -95,7 +97,9 @@ fn works(trial: &mut Trial, draft: &Draft) {
     let between = trial.random.between(64 * n, 80 * n);
     for bytes in [64 * n - 1, 64 * n, 64 * n + 1, between, 80 * n - 1, 80 * n, 80 * n + 1] {
         let call = Call { work: trial.random.leftovers(bytes), ..call.clone() };
+        // 16 comes before 8.
         let short = bytes < if n > 1_024 { 80 * n } else { 64 * n };
+        let short = short && (operation != Operation::Copy || n <= MOST_COPIED);
         let outcome = trial.judge(&call).outcome;
         assert_eq!(outcome == Err(Why::Lent.here()), short, "{operation:?} of {n} rules with {bytes} bytes of work");
     }

@@ -5,7 +5,7 @@ mod told;
 use mealplan::LabelRow;
 use std::fs;
 use std::path::PathBuf;
-use trials::call::{Call, Implementation, Operation, Outcome, Slices};
+use trials::call::{Call, Implementation, Operation, Outcome, Slices, Values};
 use trials::library::Library;
 
 /// The byte that is everywhere in lent memory before a call.
@@ -43,7 +43,8 @@ fn read(folder: &str, name: &str) -> Vec<u8> {
     fs::read(&path).unwrap_or_else(|error| panic!("{}: {error}", path.display()))
 }
 
-/// What the lines so far lend. The plan is the first bytes of its room, so many; those behind them stay for a line that comes later.
+/// What the lines so far lend. The plan is the first bytes of its room, so many; those behind them stay for a line that comes later. The copy is
+/// the last that was made.
 struct Lent {
     sample: Vec<u8>,
     wide: Vec<u8>,
@@ -52,6 +53,7 @@ struct Lent {
     cursor: Vec<u8>,
     second: Vec<u8>,
     rows: Vec<LabelRow>,
+    copy: Vec<u8>,
 }
 
 impl Lent {
@@ -64,6 +66,7 @@ impl Lent {
             cursor: vec![0; MOST],
             second: vec![0; MOST],
             rows: Vec::new(),
+            copy: Vec::new(),
         }
     }
 
@@ -103,16 +106,32 @@ impl Lent {
     fn run(&mut self, case: &str) -> Result<(), String> {
         let fields: Vec<&str> = case.splitn(3, '|').collect();
         let [text, _, expected] = fields[..] else { return Err("a case has three fields".to_string()) };
-        if let Some(label) = text.strip_prefix("class ") {
-            let came = told::class(mealplan::class(&self.rows, long(label)?));
-            return if came == expected { Ok(()) } else { Err(format!("expected: {expected}\n  came:     {came}")) };
-        }
+        let came = match text.split_once(' ') {
+            Some(("class", label)) => told::class(mealplan::class(&self.rows, long(label)?)),
+            Some(("client", letters)) => self.answers(letters.as_bytes()),
+            _ => self.made(text)?,
+        };
+        if came == expected { Ok(()) } else { Err(format!("expected: {expected}\n  came:     {came}")) }
+    }
+
+    /// What comes of the call that a case's first field says.
+    fn made(&mut self, text: &str) -> Result<String, String> {
         let mut call = self.call(text)?;
         let before = call.clone();
         let outcome = made(&mut call);
         self.cursor[..call.cursor.len()].copy_from_slice(&call.cursor);
-        let came = told::line(&before, &call, &outcome);
-        if came == expected { Ok(()) } else { Err(format!("expected: {expected}\n  came:     {came}")) }
+        if let (Operation::Copy, Ok(Values::Length(length))) = (call.operation, outcome) {
+            self.copy = call.out[..length as usize].to_vec();
+        }
+        Ok(told::line(&before, &call, &outcome))
+    }
+
+    /// The answers to letters on the last copy, from above its forest.
+    fn answers(&self, letters: &[u8]) -> String {
+        let n = mealplan::check(&self.copy).map_or(0, |checked| checked.n.into());
+        let mut call = Call::new(Operation::Walk, self.copy.clone(), n).with_letters(letters);
+        let outcome = made(&mut call);
+        told::answers(&call, &outcome)
     }
 
     /// The call that a case's first field says, with slices of just the lengths that it is lent.
@@ -145,6 +164,12 @@ impl Lent {
                 call.start = word(start)?;
                 call.out = out;
             }
+            (Operation::Copy, Some(class)) => {
+                call.rows = self.rows.clone();
+                call.class = word(class)?;
+                call.out = out;
+            }
+            (Operation::Copy, None) => return Err("copy needs a class".to_string()),
             (Operation::Compare, None) => return Err("compare needs a budget".to_string()),
             (Operation::Walk, None) => return Err("walk needs letters".to_string()),
             (Operation::Seal, None) => return Err("seal needs a record length and a start".to_string()),
@@ -173,6 +198,8 @@ fn made(call: &mut Call) -> Outcome {
         out: &mut call.out,
         second: &call.second,
         budget: call.budget,
+        rows: &call.rows,
+        class: call.class,
     };
     Library.run(call.operation, lent).expect("it takes on every call")
 }
@@ -186,6 +213,7 @@ fn operation(name: &str) -> Result<Operation, String> {
         "spread" => Operation::Spread,
         "walk" => Operation::Walk,
         "compare" => Operation::Compare,
+        "copy" => Operation::Copy,
         _ => return Err(format!("{name} is no operation")),
     })
 }

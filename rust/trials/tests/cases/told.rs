@@ -1,7 +1,8 @@
 //! What came of a call, told in a line.
 use crate::FILL;
-use reference::{Compared, NOWHERE, answers, words};
+use reference::{Compared, NOWHERE, answers, copy, words};
 use trials::call::{Call, Operation, Outcome, Values};
+use trials::copies;
 
 /// The answer, then what the call left in the slices that its operation writes.
 pub fn line(before: &Call, after: &Call, outcome: &Outcome) -> String {
@@ -14,8 +15,39 @@ pub fn line(before: &Call, after: &Call, outcome: &Outcome) -> String {
         Operation::Walk => all_answers(&after.answers) + &cells(&after.cursor) + &work,
         Operation::Compare if before.cursor != after.cursor => ", cursor changed".to_string(),
         Operation::Compare => work,
+        Operation::Copy => return copied(after, outcome) + &work,
     };
     answer(outcome) + &left
+}
+
+/// The forest of a copy, or the refusal; what is wrong with its rules, if anything is; and whether other output was written.
+fn copied(after: &Call, outcome: &Outcome) -> String {
+    const MOST: usize = 1_000;
+    const BASE: u64 = 0x0123_4567_89AB_CDEF;
+    let (mut told, later) = match outcome {
+        Ok(Values::Length(length)) => {
+            let (copy, later) = after.out.split_at(*length as usize);
+            let told = match copies::judge(&after.plan, &after.client(), copy, BASE) {
+                Err(fault) => fault,
+                Ok(()) => match copies::unfolded(copy, MOST) {
+                    None => "accepted, more than 1,000 entries".to_string(),
+                    Some(forest) if forest.is_empty() => "accepted, empty".to_string(),
+                    Some(forest) => format!("accepted {}", copy::told(&forest)),
+                },
+            };
+            (told, later)
+        }
+        _ => (answer(outcome), &after.out[..]),
+    };
+    if later.iter().any(|byte| *byte != FILL) {
+        told += ", output changed";
+    }
+    told
+}
+
+/// The answers alone, or the refusal.
+pub fn answers(after: &Call, outcome: &Outcome) -> String {
+    if outcome.is_ok() { all_answers(&after.answers).trim_start().to_string() } else { answer(outcome) }
 }
 
 fn answer(outcome: &Outcome) -> String {

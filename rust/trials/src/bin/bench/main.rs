@@ -1,7 +1,9 @@
 //! Measures the proved library against the reference by rules, in one run and on the same buffers; prints the tables and writes them to
 //! docs/bench.md, with a plot in docs/bench.svg. `bench check` only prints the times of check by the order of the rules, `bench compare` those
-//! of compare, `bench rows` those of the class of a label.
+//! of compare, `bench rows` those of the class of a label, `bench copy` those of copy. It ends in an error where a copy takes longer than five
+//! measures of the same plan.
 mod compares;
+mod copies;
 mod plot;
 mod report;
 mod timing;
@@ -41,7 +43,12 @@ fn main() -> io::Result<()> {
             "check" => orders(&mut report),
             "compare" => compares::all(&mut report),
             "rows" => classes(&mut report),
-            _ => return Err(io::Error::other("bench [check | compare | rows]")),
+            "copy" => {
+                let most = copies::all(&mut report);
+                print!("{}", report.text());
+                return copies::few_measures(most);
+            }
+            _ => return Err(io::Error::other("bench [check | compare | rows | copy]")),
         }
         print!("{}", report.text());
         return Ok(());
@@ -55,10 +62,12 @@ fn main() -> io::Result<()> {
     texts(&mut report);
     compares::all(&mut report);
     classes(&mut report);
+    let most = copies::all(&mut report);
     print!("{}", report.text());
     let docs: PathBuf = [env!("CARGO_MANIFEST_DIR"), "..", "..", "docs"].iter().collect();
     fs::write(docs.join("bench.svg"), plot::by_entries(&by_entries))?;
-    fs::write(docs.join("bench.md"), report.text())
+    fs::write(docs.join("bench.md"), report.text())?;
+    copies::few_measures(most)
 }
 
 /// A letter's cost on a tour: a call with its letters less one without.

@@ -1,6 +1,7 @@
 //! The clock: both implementations in turn on the same buffers, the best of many rounds.
 use mealplan::LabelRow;
 use reference::Refused;
+use reference::copy::{Client, copy_bytes};
 use reference::rows::{LAST_LABEL, Row, in_order};
 use std::hint::black_box;
 use std::ops::{Div, Sub};
@@ -103,6 +104,13 @@ impl Desk {
         self.call.out = vec![1; bytes];
     }
 
+    /// Makes copies for a client; gives the length of one.
+    pub fn copies_for(&mut self, client: &Client, n: usize) -> Values {
+        self.call = self.call.clone().with_client(client);
+        self.room(copy_bytes(n));
+        self.run(&mut Library, Operation::Copy).expect("a copy of a valid plan")
+    }
+
     fn run(&mut self, implementation: &mut dyn Implementation, operation: Operation) -> Outcome {
         let call = &mut self.call;
         let lent = Slices {
@@ -116,6 +124,8 @@ impl Desk {
             out: &mut call.out,
             second: &call.second,
             budget: call.budget,
+            rows: &call.rows,
+            class: call.class,
         };
         let outcome = implementation.run(operation, lent).expect("it takes on every call");
         assert_eq!(outcome.err(), self.refused, "what is measured is accepted, or refused as it is to be");
