@@ -4,6 +4,7 @@ pub mod OneCall
 pub mod Lists
 pub mod Worthless
 pub mod Plans
+pub mod Neighbours
 pub mod Prefixed
 pub mod FromAbove
 pub mod ByLetters

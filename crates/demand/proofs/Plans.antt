@@ -29,23 +29,33 @@ use Rattle.demand.proofs.Walkable.{Walkable}
 
 -- ---- plans
 
-pub walkable : (s : List ℕ) (n start : ℕ) → checked s ≡ Checked.Accepted n start → Walkable n (forest (rulesOf s) start) (placedForest (rulesOf s) start)
-unfolding checked placedForest SameButSixteen
-walkable s n start e =
-    let P : Plan mostRules s n start = accepted-plan mostRules s n start e in
-    let S = P .sound in
-    let w = expression (rulesOf s) start in
-    let count = P .rules in
-    let below = P .ends .below in
-    let good : Good Sort.row w = closed-row S (P .ends) in
-    let fit : Fit (factsOf (rulesOf s)) Sort.row w =
-    rules-fit (rulesOf s) _ S (ruleNumber-expression (rulesOf s)) (unfolding-equation S) (factsOf (rulesOf s)) (λ r h. facts-agree (rulesOf s) r) Sort.row start below good (expression-known S start below) in
-    record {
-      few = let h = P .greatest in omega arith;
-      forgets = placedForest-forgets (rulesOf s) start;
-      distinct = all-distinct w good (factsOf (rulesOf s)) fit;
-      bounded = λ p a h. let b = place-bound S (P .ends) p (a .0) (a .1) h in omega arith;
-      fitting = λ p a h. each-labelAt (λ (x : Placed). AllFitting (x .1)) (placedOf w) p a (places-fit S (let g = P .greatest in omega arith) start below) h;
-      labels = label-below s n start e;
-      near = λ p c N r. near-by w good (factsOf (rulesOf s)) fit p c N r;
-    }
+module _ (s : List ℕ) (n start : ℕ) (e : checked s ≡ Checked.Accepted n start) where
+  -- the walked rule's expression is a forest's, and the facts of the rules are those of its parts
+  pub walked-good : Good Sort.row (expression (rulesOf s) start)
+  unfolding checked
+  walked-good = let P : Plan mostRules s n start = accepted-plan mostRules s n start e in closed-row (P .sound) (P .ends)
+
+  pub walked-fit : Fit (factsOf (rulesOf s)) Sort.row (expression (rulesOf s) start)
+  unfolding checked
+  walked-fit =
+      let P : Plan mostRules s n start = accepted-plan mostRules s n start e in
+      let S = P .sound in
+      let below = P .ends .below in
+      rules-fit (rulesOf s) _ S (ruleNumber-expression (rulesOf s)) (unfolding-equation S) (factsOf (rulesOf s)) (λ r h. facts-agree (rulesOf s) r) Sort.row start below walked-good (expression-known S start below)
+
+  pub walkable : Walkable n (forest (rulesOf s) start) (placedForest (rulesOf s) start)
+  unfolding checked placedForest SameButSixteen
+  walkable =
+      let P : Plan mostRules s n start = accepted-plan mostRules s n start e in
+      let S = P .sound in
+      let w = expression (rulesOf s) start in
+      let below = P .ends .below in
+      record {
+        few = let h = P .greatest in omega arith;
+        forgets = placedForest-forgets (rulesOf s) start;
+        distinct = all-distinct w walked-good (factsOf (rulesOf s)) walked-fit;
+        bounded = λ p a h. let b = place-bound S (P .ends) p (a .0) (a .1) h in omega arith;
+        fitting = λ p a h. each-labelAt (λ (x : Placed). AllFitting (x .1)) (placedOf w) p a (places-fit S (let g = P .greatest in omega arith) start below) h;
+        labels = label-below s n start e;
+        near = λ p c N r. near-by w walked-good (factsOf (rulesOf s)) walked-fit p c N r;
+      }

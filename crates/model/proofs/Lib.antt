@@ -3,7 +3,9 @@ pub mod Fit
 pub mod Standing
 pub mod Enter
 pub mod Spine
+pub mod Stages
 pub mod Moves
+pub mod RowEnd
 pub mod Accepted
 pub mod Stood
 pub mod Rebuilt
@@ -13,4 +15,5 @@ pub mod Walk
 pub mod Ranged
 pub mod Rules
 pub mod Paths
+pub mod Neighbour
 pub mod Outcome

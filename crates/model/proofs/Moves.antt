@@ -14,12 +14,13 @@ use Rattle.forest.specs.Good.{Sort}
 use Rattle.forest.specs.Position as P
 use Rattle.model.specs.Facts.{Facts}
 use Rattle.model.specs.Model as M
-use Rattle.model.specs.Model.{Node, popRun, besideTop, turned, ended, belowRow, nodeAt}
+use Rattle.model.specs.Model.{Node, popRun, besideTop, turned, belowRow, nodeAt}
 use Rattle.model.proofs.Cells.{Steps, Top, at-row, at-run, at-spine, top-standing, turned-step, popRun-step, belowRow-step}
 use Rattle.model.proofs.Fit.{Fit, Tells, tells, shape, picked, pick-map, pair-steps}
 use Rattle.model.proofs.Standing.{Here, whole, says, pair-says}
 use Rattle.model.proofs.Enter.{Agree, nowhere, found, nodeOf, agreed, entered, enters}
 use Rattle.model.proofs.Spine.{Out, inside, alone, inwards, outwards}
+use Rattle.model.proofs.Stages.{ended, follow, siblingFrom, sibling-stages}
 
 agree-else : (w : Expression) (x x′ : Option Located) (y y′ : Option Node) → Agree w x y → Agree w x′ y′ → Agree w (orElse x x′) (orElse y y′)
 unfolding orElse
@@ -27,12 +28,12 @@ agree-else w x x′ y y′ nowhere k = k
 agree-else w x x′ y y′ (found h) k = found h
 
 -- at a row's opening nothing is beside in the row
-follow-row : (F : Facts) (s : Side) (d v : ℕ) (t : Cells) → M.follow F s ((cellRow, d, v, 0) ∷ t) ≡ cond (eqb d (rowOfPart (other s))) (M.inward F t) none
-unfolding M.follow M.beside popRun cellRun besideTop other ended orElse
+follow-row : (F : Facts) (s : Side) (d v : ℕ) (t : Cells) → follow F s ((cellRow, d, v, 0) ∷ t) ≡ cond (eqb d (rowOfPart (other s))) (M.inward F t) none
+unfolding follow M.beside popRun cellRun besideTop other ended orElse
 follow-row F Side.left d v t = refl
 follow-row F Side.right d v t = refl
 
-follow-node : (F : Facts) (s : Side) (v : ℕ) (t : Cells) → M.follow F s ((cellRow, rowOfNode, v, 0) ∷ t) ≡ none
+follow-node : (F : Facts) (s : Side) (v : ℕ) (t : Cells) → follow F s ((cellRow, rowOfNode, v, 0) ∷ t) ≡ none
 unfolding rowOfPart other
 follow-node F Side.left v t = follow-row F Side.left rowOfNode v t
 follow-node F Side.right v t = follow-row F Side.right rowOfNode v t
@@ -48,17 +49,17 @@ unfolding P.leave other pick
 leave-other Side.left r b c z = refl
 leave-other Side.right r b c z = refl
 
-same-leaves : (F : Facts) (w : Expression) (s : Side) (r : ℕ) (b c : Expression) (z : Position) → Agree w (P.leave s z) (M.follow F s (cells z)) → Agree w (P.leave s (Position.pair-side s r b c z)) (M.follow F s (cells (Position.pair-side s r b c z)))
-unfolding M.follow M.beside cells
+same-leaves : (F : Facts) (w : Expression) (s : Side) (r : ℕ) (b c : Expression) (z : Position) → Agree w (P.leave s z) (follow F s (cells z)) → Agree w (P.leave s (Position.pair-side s r b c z)) (follow F s (cells (Position.pair-side s r b c z)))
+unfolding follow M.beside cells
 same-leaves F w s r b c z h = rw (leave-same, popRun-step) h
 
-other-leaves : (F : Facts) (w : Expression) (s : Side) (r : ℕ) (b c : Expression) (z : Position) → Top F r (cells z) → Steps F (other s) r (representative (pick (other s) b c)) → Steps F s r (representative (pick s b c)) → isEmpty (pick s b c) ≡ false → Agree w (P.enter (other s) (pick s b c) (Position.pair-side s r b c z)) (entered F (other s) (pick s b c) (cells (Position.pair-side s r b c z))) → Agree w (P.leave s (Position.pair-side (other s) r b c z)) (M.follow F s (cells (Position.pair-side (other s) r b c z)))
-unfolding M.follow M.beside cells turned orElse entered
+other-leaves : (F : Facts) (w : Expression) (s : Side) (r : ℕ) (b c : Expression) (z : Position) → Top F r (cells z) → Steps F (other s) r (representative (pick (other s) b c)) → Steps F s r (representative (pick s b c)) → isEmpty (pick s b c) ≡ false → Agree w (P.enter (other s) (pick s b c) (Position.pair-side s r b c z)) (entered F (other s) (pick s b c) (cells (Position.pair-side s r b c z))) → Agree w (P.leave s (Position.pair-side (other s) r b c z)) (follow F s (cells (Position.pair-side (other s) r b c z)))
+unfolding follow M.beside cells turned orElse entered
 other-leaves F w s r b c z t o g u h =
     rw (leave-other, turned-step F s r (representative (pick (other s) b c)) (cells z) t o, g .leads) (rw u at h)
 
 -- at the end of a part's row stands its hole, or nothing
-part-leaves : (F : Facts) (w : Expression) (s u : Side) (r a : ℕ) (b c : Expression) (z : Position) → Agree w (P.inward z z) (M.inward F (cells z)) → Agree w (P.leave s (Position.part-row u r a b c z)) (M.follow F s (cells (Position.part-row u r a b c z)))
+part-leaves : (F : Facts) (w : Expression) (s u : Side) (r a : ℕ) (b c : Expression) (z : Position) → Agree w (P.inward z z) (M.inward F (cells z)) → Agree w (P.leave s (Position.part-row u r a b c z)) (follow F s (cells (Position.part-row u r a b c z)))
 unfolding P.leave cells rowOfPart other
 part-leaves F w Side.left Side.left r a b c z h = rw follow-row nowhere
 part-leaves F w Side.left Side.right r a b c z h = rw follow-row h
@@ -80,7 +81,7 @@ node-at F v cs (at-run {a} {t = t} s j e d) = ap (λ n. some (n, (cellRun s, a, 
 node-at F v cs (at-spine {a} {t = t} o) = ap (λ n. some (n, (cellSpine, a, 0, 0) ∷ t)) (top-standing F v ((cellSpine, a, 0, 0) ∷ t) (at-spine o))
 
 module _ (F : Facts) (w : Expression) (g : Fit F Sort.row w) where
-  turn-leaves : (s : Side) (r : ℕ) (b c : Expression) (z : Position) → At w Where.row (Expression.pair r b c) z → isEmpty b ≡ false → isEmpty c ≡ false → Agree w (P.leave s (Position.pair-side (other s) r b c z)) (M.follow F s (cells (Position.pair-side (other s) r b c z)))
+  turn-leaves : (s : Side) (r : ℕ) (b c : Expression) (z : Position) → At w Where.row (Expression.pair r b c) z → isEmpty b ≡ false → isEmpty c ≡ false → Agree w (P.leave s (Position.pair-side (other s) r b c z)) (follow F s (cells (Position.pair-side (other s) r b c z)))
   turn-leaves s r b c z h x y =
       let f : Fit F Sort.row (Expression.pair r b c) = whole F w g Where.row (Expression.pair r b c) z h in
       let k : At w Where.row (pick s b c) (Position.pair-side s r b c z) = At.side s h x y in
@@ -88,7 +89,7 @@ module _ (F : Facts) (w : Expression) (g : Fit F Sort.row w) where
       (picked (λ e. isEmpty e ≡ false) s b c x y)
       (enters F w (other s) (pick s b c) (whole F w g Where.row (pick s b c) (Position.pair-side s r b c z) k) (Position.pair-side s r b c z) k)
 
-  side-leaves : (s u : Side) (r : ℕ) (b c : Expression) (z : Position) → At w Where.row (Expression.pair r b c) z → isEmpty b ≡ false → isEmpty c ≡ false → Agree w (P.leave s z) (M.follow F s (cells z)) → Agree w (P.leave s (Position.pair-side u r b c z)) (M.follow F s (cells (Position.pair-side u r b c z)))
+  side-leaves : (s u : Side) (r : ℕ) (b c : Expression) (z : Position) → At w Where.row (Expression.pair r b c) z → isEmpty b ≡ false → isEmpty c ≡ false → Agree w (P.leave s z) (follow F s (cells z)) → Agree w (P.leave s (Position.pair-side u r b c z)) (follow F s (cells (Position.pair-side u r b c z)))
   unfolding other
   side-leaves Side.left Side.left r b c z h x y ih = same-leaves F w Side.left r b c z ih
   side-leaves Side.left Side.right r b c z h x y ih = turn-leaves Side.left r b c z h x y
@@ -96,7 +97,7 @@ module _ (F : Facts) (w : Expression) (g : Fit F Sort.row w) where
   side-leaves Side.right Side.right r b c z h x y ih = same-leaves F w Side.right r b c z ih
 
   -- the root of the tree beside the one at a row position
-  leaves : (s : Side) (e : Expression) (z : Position) → At w Where.row e z → Agree w (P.leave s z) (M.follow F s (cells z))
+  leaves : (s : Side) (e : Expression) (z : Position) → At w Where.row e z → Agree w (P.leave s z) (follow F s (cells z))
   unfolding P.leave cells
   leaves s e z At.start = rw follow-node nowhere
   leaves s e z (At.side {r} {b} {c} {z = y} u h x v) = side-leaves s u r b c y h x v (leaves s (Expression.pair r b c) y h)
@@ -139,9 +140,9 @@ module _ (F : Facts) (w : Expression) (g : Fit F Sort.row w) where
   hole-sibling s e z (Here.part {r} {a} {b} {c} t gb gc) h = rw (t .rule) (arm-enters (other s) s r a b c z (Here.part t gb gc) h)
 
   sibling-out : (s : Side) (p : ℕ) (z : Position) → Out F w z → Agree w (P.sibling s z) (M.sibling F s (p, cells z))
-  unfolding P.sibling M.sibling M.siblingFrom
-  sibling-out s p z (inside x h u v) = rw (u, v) (hole-sibling s (x .0) (x .1) ((whole F w g Where.here (x .0) (x .1) h) .0) h)
-  sibling-out s p z (alone e h u v q) = rw (u, v, q) (leaves s e (P.rowOf z) h)
+  unfolding P.sibling siblingFrom
+  sibling-out s p z (inside x i h u v) = rw (sibling-stages, u, v) (hole-sibling s (x .0) (x .1) ((whole F w g Where.here (x .0) (x .1) h) .0) h)
+  sibling-out s p z (alone e h u v q) = rw (sibling-stages, u, v, q) (leaves s e (P.rowOf z) h)
 
   -- the next or previous sibling
   pub sibling-agrees : (s : Side) (e : Expression) (z : Position) → At w Where.here e z → Agree w (P.sibling s z) (M.sibling F s (ruleNumber e, cells z))
@@ -159,7 +160,7 @@ module _ (F : Facts) (w : Expression) (g : Fit F Sort.row w) where
 
   parent-out : (p : ℕ) (z : Position) → Out F w z → Agree w (P.parent z) (M.parent F (p, cells z))
   unfolding P.parent M.parent orElse
-  parent-out p z (inside x h u v) = rw (u, v) (found h)
+  parent-out p z (inside x i h u v) = rw (u, v) (found h)
   parent-out p z (alone e h u v q) = rw (u, v, q) (row-parent e (P.rowOf z) h)
 
   -- the parent

@@ -18,6 +18,7 @@ use Rattle.model.specs.Facts.{Facts}
 use Rattle.model.specs.Model
 use Rattle.model.specs.Walk.{move, moved, fromNode}
 use Rattle.forest.proofs.Cases.{by-bool}
+use Rattle.model.proofs.Stages.{ended, follow, siblingFrom, sibling-stages}
 
 -- t is what lies at the bottom of a stack
 pub data Under (t : Cells) : Cells → Type 0 where
@@ -155,8 +156,8 @@ module _ (F : Facts) where
       (near-else 3 t (Model.besideTop F Side.left t) x (near-besideTop Side.left t)
       (near-more 1 2 t x (near-after 1 0 t (Model.tail t) x (keeps-tail t) (near-partAt (Model.tail t)))))
 
-  near-ended : (s : Side) (cs : Cells) → Near 5 cs (Model.ended F s cs)
-  unfolding Model.ended
+  near-ended : (s : Side) (cs : Cells) → Near 5 cs (ended F s cs)
+  unfolding ended
   near-ended s [] = off
   near-ended s (c ∷ cs) =
       by-bool (eqb (c .1) (rowOfPart (other s))) (λ u. rw u (near-after 1 4 (c ∷ cs) cs (Model.inward F cs) all (near-inward cs))) (λ u. rw u off)
@@ -165,13 +166,13 @@ module _ (F : Facts) where
   near-tree j cs x off = off
   near-tree j cs x (on {x = y} h) = on (under-trans (drop j cs) (y .1) ((Model.opened F (y .0) (y .1)) .1) h (keeps-opened F (y .0) (y .1)))
 
-  near-follow : (s : Side) (cs : Cells) → Near 6 cs (Model.follow F s cs)
-  unfolding Model.follow Model.beside
+  near-follow : (s : Side) (cs : Cells) → Near 6 cs (follow F s cs)
+  unfolding follow Model.beside
   near-follow s cs =
       let u = Model.popRun s cs in
       let x = Option·map (λ (y : Model.Node). Model.opened F (y .0) (y .1)) (Model.besideTop F s u) in
-      near-after 1 5 cs u (orElse x (Model.ended F s u)) (keeps-popRun s cs)
-      (near-else 5 u x (Model.ended F s u) (near-more 3 2 u x (near-tree 3 u (Model.besideTop F s u) (near-besideTop s u))) (near-ended s u))
+      near-after 1 5 cs u (orElse x (ended F s u)) (keeps-popRun s cs)
+      (near-else 5 u x (ended F s u) (near-more 3 2 u x (near-tree 3 u (Model.besideTop F s u) (near-besideTop s u))) (near-ended s u))
 
   near-childOf : (s : Side) (q : Rule) (cs : Cells) → Near 4 cs (Model.childOf F s q cs)
   unfolding Model.childOf
@@ -193,11 +194,11 @@ module _ (F : Facts) where
   near-besideHole s (Rule.Part x b c) cs = near-enter (other s) (rowOfPart s) (pick s b c) cs
   near-besideHole s (Rule.Join b c) cs = off
 
-  near-siblingFrom : (s : Side) (x : Option Model.Node) (cs : Cells) → Near 4 cs x → Near 8 cs (Model.siblingFrom F s x cs)
-  unfolding Model.siblingFrom Model.under
+  near-siblingFrom : (s : Side) (x : Option Model.Node) (cs : Cells) → Near 4 cs x → Near 8 cs (siblingFrom F s x cs)
+  unfolding siblingFrom Model.under
   near-siblingFrom s x cs off =
       let t = Model.popRun Side.left cs in
-      near-after 2 6 cs (Model.tail t) (Model.follow F s (Model.tail t)) (keeps-both 1 1 cs t (Model.tail t) (keeps-popRun Side.left cs) (keeps-tail t)) (near-follow s (Model.tail t))
+      near-after 2 6 cs (Model.tail t) (follow F s (Model.tail t)) (keeps-both 1 1 cs t (Model.tail t) (keeps-popRun Side.left cs) (keeps-tail t)) (near-follow s (Model.tail t))
   near-siblingFrom s x cs (on {x = y} h) =
       let z = Model.besideHole F s (F .rule (y .0)) (y .1) in
       near-more 4 4 cs z (near-after 4 0 cs (y .1) z h (near-besideHole s (F .rule (y .0)) (y .1)))
@@ -244,14 +245,14 @@ from-shares [] y h = nowhere
 from-shares (c ∷ cs) y h = h
 
 move-shares : (F : Facts) (r : ℕ) (l : Letter) (x : Model.Node) → isRoot l ≡ false → Shares (x .1) (move F r l x)
-unfolding move isRoot Model.child Model.sibling Model.parent
+unfolding move isRoot Model.child Model.parent
 move-shares F r (Letter.root s) x q = absurd (false≢true (sym q))
 move-shares F r (Letter.child s) x q =
     let y = Model.childOf F s (F .rule (x .0)) (x .1) in
     from-shares (x .1) y (near-shares (x .1) y (near-more 4 4 (x .1) y (near-childOf F s (F .rule (x .0)) (x .1))))
 move-shares F r (Letter.sibling s) x q =
-    let y = Model.siblingFrom F s (Model.outward F (x .1)) (x .1) in
-    from-shares (x .1) y (near-shares (x .1) y (near-siblingFrom F s (Model.outward F (x .1)) (x .1) (near-outward F (x .1))))
+    let y = siblingFrom F s (Model.outward F (x .1)) (x .1) in
+    rw sibling-stages (from-shares (x .1) y (near-shares (x .1) y (near-siblingFrom F s (Model.outward F (x .1)) (x .1) (near-outward F (x .1)))))
 move-shares F r Letter.parent x q =
     from-shares (x .1) (Model.parent F x)
     (parent-shares F (x .1) (Model.outward F (x .1)) (near-more 4 4 (x .1) (Model.outward F (x .1)) (near-outward F (x .1))))

@@ -54,14 +54,23 @@ module _ (F : Facts) (w : Expression) (g : Fit F Sort.row w) where
   unfolding M.inward M.beside inwardFrom
   inwards r a b c z h = inward-from (Expression.part r a b c) z z (part-spine r a b c z h) (λ x q. At.hole h q)
 
+-- a part; the last part of a spine is one
+pub data IsPart : Expression → Type 0 where
+  is-part : {r a : ℕ} {b c : Expression} → IsPart (Expression.part r a b c)
+
+last-is-part : (F : Facts) (e : Expression) (z : Position) → Fit F Sort.spine e → IsPart ((P.lastPart e z) .0)
+unfolding P.lastPart
+last-is-part F e z (Fit.part t gb gc) = is-part
+last-is-part F e z (Fit.join {r} {b} {c} t gb gc) = last-is-part F c (Position.join-side Side.right r b c z) gc
+
 -- the node at z stands in the hole of a part; or its tree stands in a row
 pub data Out (F : Facts) (w : Expression) (z : Position) : Type 0 where
-  inside : (x : Located) → At w Where.here (x .0) (x .1) → P.outward z ≡ some x → M.outward F (cells z) ≡ some (nodeOf x) → Out F w z
+  inside : (x : Located) → IsPart (x .0) → At w Where.here (x .0) (x .1) → P.outward z ≡ some x → M.outward F (cells z) ≡ some (nodeOf x) → Out F w z
   alone : (e : Expression) → At w Where.row e (P.rowOf z) → P.outward z ≡ none → M.outward F (cells z) ≡ none → under (cells z) ≡ cells (P.rowOf z) → Out F w z
 
 -- the same of what a tree at z stands on
 data On (F : Facts) (w : Expression) (z : Position) : Type 0 where
-  part-below : (x : Located) → At w Where.here (x .0) (x .1) → P.partAt z ≡ some x → M.partAt F (cells z) ≡ some (nodeOf x) → On F w z
+  part-below : (x : Located) → IsPart (x .0) → At w Where.here (x .0) (x .1) → P.partAt z ≡ some x → M.partAt F (cells z) ≡ some (nodeOf x) → On F w z
   row-below : (e : Expression) → At w Where.row e z → P.partAt z ≡ none → M.partAt F (cells z) ≡ none → On F w z
 
 got : (w : Expression) (x : Located) (y : Option Node) → Agree w (some x) y → At w Where.here (x .0) (x .1) × (y ≡ some (nodeOf x))
@@ -100,29 +109,29 @@ module _ (F : Facts) (w : Expression) (g : Fit F Sort.row w) where
       row-below (Expression.fill r b c) h (row-no-part w (Expression.fill r b c) z h)
       (tree-no-part F (Expression.fill r b c) (cells z) (whole F w g Where.tree (Expression.fill r b c) z (At.tree-fill h)) (says F w g Where.row (Expression.fill r b c) z h))
   stands-on e z (At.hole {r} {a} {b} {c} h q) =
-      part-below (Expression.part r a b c, z) h (spine-part w (Expression.part r a b c) z (part-spine F w g r a b c z h))
+      part-below (Expression.part r a b c, z) is-part h (spine-part w (Expression.part r a b c) z (part-spine F w g r a b c z h))
       (part-at F r a b c (cells z) ((whole F w g Where.here (Expression.part r a b c) z h) .0) (says F w g Where.here (Expression.part r a b c) z h))
 
   node-out : (r a : ℕ) (c : Expression) (z : Position) → On F w z → Out F w (Position.node-spine r a c z)
   unfolding P.outward P.rowOf M.outward M.beside cells popRun cellRun besideTop other orElse under tail
-  node-out r a c z (part-below x h p q) = inside x h p q
+  node-out r a c z (part-below x i h p q) = inside x i h p q
   node-out r a c z (row-below e h p q) = alone e h p q refl
 
   fill-out : (r : ℕ) (b c : Expression) (z : Position) → On F w z → Out F w (Position.fill-spine r b c z)
   unfolding P.outward P.rowOf M.outward M.beside cells popRun cellRun besideTop other orElse under tail
-  fill-out r b c z (part-below x h p q) = inside x h p q
+  fill-out r b c z (part-below x i h p q) = inside x i h p q
   fill-out r b c z (row-below e h p q) = alone e h p q refl
 
   left-out : (r : ℕ) (b c : Expression) (z : Position) → Out F w z → Out F w (Position.join-side Side.left r b c z)
   unfolding P.outward P.rowOf M.outward M.beside cells under
-  left-out r b c z (inside x h p q) = inside x h p (rw popRun-step q)
+  left-out r b c z (inside x i h p q) = inside x i h p (rw popRun-step q)
   left-out r b c z (alone e h p q u) = alone e h p (rw popRun-step q) (rw popRun-step u)
 
   right-out : (r : ℕ) (b c : Expression) (z : Position) → Fit F Sort.spine (Expression.join r b c) → At w Where.spine (Expression.join r b c) z → Out F w (Position.join-side Side.right r b c z)
   unfolding P.outward M.outward M.beside under cells other pick partEnd orElse ruleNumber
   right-out r b c z (Fit.join t gb gc) h =
       let x = got w (P.lastPart b (Position.join-side Side.left r b c z)) (some (turned F Side.left r (cells z))) (turned-agrees F w Side.left r b c z (join-steps F Side.left r b c (Fit.join t gb gc)) (ends F w Side.right b gb) h) in
-      inside (P.lastPart b (Position.join-side Side.left r b c z)) (x .0) refl
+      inside (P.lastPart b (Position.join-side Side.left r b c z)) (last-is-part F b (Position.join-side Side.left r b c z) gb) (x .0) refl
       (rw (turned-step F Side.left r (ruleNumber c) (cells z) (says F w g Where.spine (Expression.join r b c) z h) (join-steps F Side.right r b c (Fit.join t gb gc))) (x .1))
 
   spine-out : (e : Expression) (z : Position) → At w Where.spine e z → Out F w z

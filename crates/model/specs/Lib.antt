@@ -1,6 +1,9 @@
 pub mod Facts
 pub mod Run
+pub mod Pieces
+pub mod Neighbour
 pub mod Model
 pub mod Stored
 pub mod Walk
+pub mod FirstCase
 pub mod Same

@@ -1,89 +1,17 @@
 -- The walker on a stack of cells (document 003, section 3, on the cells of document 01): every move by facts of rules alone.
 use Prim.Native.Nat.{ℕ}
-use mathlib.Core.Bool.{Bool, true, false, cond}
+use mathlib.Core.Bool.{cond}
 use mathlib.Core.List.{[], _∷_}
-use mathlib.Core.Option.{Option, none, some, Option·map}
+use mathlib.Core.Option.{Option, none, some}
 use lib.Dec.{eqb}
 use Rattle.rule.specs.declared.Rule.{Rule}
-use Rattle.forest.specs.Place.{Cells, Side, cellRow, cellSpine, rowOfNode, rowOfPart, other, pick}
+use Rattle.forest.specs.Place.{Cells, Side, cellRow, rowOfNode, rowOfPart, pick}
 use Rattle.forest.specs.Position.{orElse}
 use Rattle.model.specs.Facts.{Facts}
 unfoldable pub use Rattle.model.specs.Run.{Node, along, oneAbove, tail, popRun, run, shrunk, turned, besideTop, beside}
-
--- what a tree's spine begins with: the B of a fill, else the tree itself
-unfoldable pub outerOf : Rule → ℕ → ℕ
-outerOf Rule.Empty a = a
-outerOf (Rule.Pair b c) a = a
-outerOf (Rule.Node x c) a = a
-outerOf (Rule.Fill b c) a = b
-outerOf (Rule.Part x b c) a = a
-outerOf (Rule.Join b c) a = a
-
-unfoldable pub outer : Facts → ℕ → ℕ
-unfolding outerOf
-outer F a = outerOf (F .rule a) a
-
--- the C that a fill's last hole continues in
-unfoldable pub innerOf : Rule → Option ℕ
-innerOf Rule.Empty = none
-innerOf (Rule.Pair b c) = none
-innerOf (Rule.Node x c) = none
-innerOf (Rule.Fill b c) = some c
-innerOf (Rule.Part x b c) = none
-innerOf (Rule.Join b c) = none
-
--- the rule that a place stands at, read off its last cell
-unfoldable pub standing : Facts → Cells → ℕ
-standing F [] = 0
-standing F (c ∷ cs) = cond (eqb (c .0) cellSpine) (outer F (c .1)) (c .2)
-
--- the root of tree a, whose spine's cell goes on cs
-unfoldable pub opened : Facts → ℕ → Cells → Node
-opened F a cs = (F .last Side.left (outer F a), run F Side.left (outer F a) ((cellSpine, a, 0, 0) ∷ cs))
-
--- the root of the first (left) or last (right) tree of the row of rule a, opened on cs with number d
-unfoldable pub enter : Facts → Side → ℕ → ℕ → Cells → Option Node
-enter F s d a cs =
-    cond (F .isEmpty a) none
-    (some (opened F (F .last s (F .representative a)) (run F s (F .representative a) ((cellRow, d, F .representative a, 0) ∷ cs))))
-
--- the C that the spine opened on top continues in
-unfoldable pub continuing : Facts → Cells → Option ℕ
-continuing F [] = none
-continuing F (c ∷ cs) = cond (eqb (c .0) cellSpine) (innerOf (F .rule (c .1))) none
-
--- the root of the tree in the hole of the part at cs: that of the part beside it on the right, else of the spine's C
-unfoldable pub inward : Facts → Cells → Option Node
-inward F cs = orElse (beside F Side.right cs) (Option·map (λ (c : ℕ). opened F c cs) (continuing F (popRun Side.right cs)))
-
--- the place of the tree whose first part, or node, is at cs
-unfoldable pub under : Cells → Cells
-under cs = tail (popRun Side.left cs)
-
-unfoldable pub isPart : Rule → Bool
-isPart Rule.Empty = false
-isPart (Rule.Pair b c) = false
-isPart (Rule.Node x c) = false
-isPart (Rule.Fill b c) = false
-isPart (Rule.Part x b c) = true
-isPart (Rule.Join b c) = false
-
--- the part at cs, where one stands there
-unfoldable pub partAt : Facts → Cells → Option Node
-partAt F cs = cond (isPart (F .rule (standing F cs))) (some (standing F cs, cs)) none
-
--- the part in whose hole the tree, or the part, at cs stands: the one beside it on the left, else the one below the spine
-unfoldable pub outward : Facts → Cells → Option Node
-outward F cs = orElse (beside F Side.left cs) (partAt F (under cs))
-
--- the tree in the hole that the row on top ends at on side s: the row of a part's other arm
-unfoldable pub ended : Facts → Side → Cells → Option Node
-ended F s [] = none
-ended F s (c ∷ cs) = cond (eqb (c .1) (rowOfPart (other s))) (inward F cs) none
-
--- the root of the tree beside the one at t, on side s: in the row, or in the hole that the row ends at
-unfoldable pub follow : Facts → Side → Cells → Option Node
-follow F s t = orElse (Option·map (λ (x : Node). opened F (x .0) (x .1)) (beside F s t)) (ended F s (popRun s t))
+unfoldable pub use Rattle.model.specs.Pieces.{outerOf, outer, innerOf, standing, opened, enter, continuing, inward, under}
+unfoldable pub use Rattle.model.specs.Pieces.{isPart, partAt, outward, besideHole}
+unfoldable pub use Rattle.model.specs.Neighbour.{firstThat, siblingCases}
 
 -- the first (left) or last (right) child of a node with that rule at cs
 unfoldable pub childOf : Facts → Side → Rule → Cells → Option Node
@@ -97,23 +25,10 @@ childOf F s (Rule.Join b c) cs = none
 unfoldable pub child : Facts → Side → Node → Option Node
 child F s x = childOf F s (F .rule (x .0)) (x .1)
 
--- the root on side s of the hole of a part with that rule at cs
-unfoldable pub besideHole : Facts → Side → Rule → Cells → Option Node
-besideHole F s Rule.Empty cs = none
-besideHole F s (Rule.Pair b c) cs = none
-besideHole F s (Rule.Node x c) cs = none
-besideHole F s (Rule.Fill b c) cs = none
-besideHole F s (Rule.Part x b c) cs = enter F (other s) (rowOfPart s) (pick s b c) cs
-besideHole F s (Rule.Join b c) cs = none
-
--- the sibling on side s of the node at cs: beside the hole of the part above (its L or R, or nowhere); else beside it in its
--- row; else in the hole that its row ends at; else nowhere
-unfoldable pub siblingFrom : Facts → Side → Option Node → Cells → Option Node
-siblingFrom F s none cs = follow F s (under cs)
-siblingFrom F s (some x) cs = besideHole F s (F .rule (x .0)) (x .1)
-
+-- the sibling on side s of a node: the first case of document 003's function → (←, for the left) whose condition holds, nowhere
+-- where none does
 unfoldable pub sibling : Facts → Side → Node → Option Node
-sibling F s x = siblingFrom F s (outward F (x .1)) (x .1)
+sibling F s x = firstThat (siblingCases F s x)
 
 -- the cells below the opening cell of the row on top
 unfoldable pub belowRow : Cells → Cells

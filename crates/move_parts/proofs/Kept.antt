@@ -14,7 +14,8 @@ use Rattle.forest.specs.Place.{Cell, Cells, Side, cellRow, cellSpine, cellRun, 
 use Rattle.forest.specs.Position.{orElse}
 use Rattle.forest.proofs.Sides.{picked}
 use Rattle.model.specs.Facts.{Facts}
-use Rattle.model.specs.Model.{Node, oneAbove, outer, innerOf, standing, tail, popRun, run, shrunk, turned, besideTop, beside, opened, enter, continuing, inward, under, partAt, isPart, outward, ended, follow, child, childOf, besideHole, sibling, siblingFrom, belowRow, nodeAt, parent, root}
+use Rattle.model.specs.Model.{Node, oneAbove, outer, innerOf, standing, tail, popRun, run, shrunk, turned, besideTop, beside, opened, enter, continuing, inward, under, partAt, isPart, outward, child, childOf, besideHole, sibling, belowRow, nodeAt, parent, root}
+use Rattle.model.proofs.Stages.{ended, follow, siblingFrom, sibling-stages}
 use Rattle.facts.specs.Closes.{Names, Closed}
 use Rattle.move_parts.specs.Moves.{Each, Fits, Node-has, Kept}
 use Rattle.forest.proofs.Cases.{by-bool}
@@ -181,8 +182,7 @@ module _ (F : Facts) (P : ℕ → Type 0) (h : Closed F P) where
   sibling-from s (some x) cs k e = hole-kept s (F .rule (x .0)) (x .1) (h .names (x .0) (k .0)) (k .1)
 
   pub sibling-kept : (s : Side) (x : Node) → Node-has P x → Kept P (sibling F s x)
-  unfolding sibling
-  sibling-kept s x e = sibling-from s (outward F (x .1)) (x .1) (outward-kept (x .1) (e .1)) (e .1)
+  sibling-kept s x e = rw sibling-stages (sibling-from s (outward F (x .1)) (x .1) (outward-kept (x .1) (e .1)) (e .1))
 
   below-kept : (cs : Cells) → Each (Fits P) cs → Each (Fits P) (belowRow cs)
   unfolding Each belowRow

@@ -1,17 +1,19 @@
 -- The moves case by case, as the code takes them: what is found beside, and what each way then leads to.
 -- Assumes nothing.
-use Prim.Native.Nat.{ℕ, _-_, _<_}
+use Prim.Native.Nat.{ℕ, zero, suc, _-_, _≤_, _<_}
+use native.Mathlib.Omega.{arith}
 use mathlib.Core.Path.{_≡_, refl, sym, ap, _∙_}
-use mathlib.Core.Bool.{true, false}
+use mathlib.Core.Bool.{true, false, not, _&&_}
 use mathlib.Core.List.{List, _∷_}
 use mathlib.Core.Option.{Option, none, some, Option·map}
 use lib.Dec.{eqb}
 use borrow.Author.Tests.{eq-eqb, ne-eqb}
-use Rattle.forest.specs.Place.{Cells, Side, cellRow, cellSpine, cellRun, rowOfPart, other}
+use Rattle.forest.specs.Place.{Cells, Side, cellRow, cellSpine, cellRun}
 use Rattle.forest.specs.Position.{orElse}
 use Rattle.forest.specs.Walk.{cellAt, cellsIn}
 use Rattle.model.specs.Facts.{Facts}
-use Rattle.model.specs.Model.{Node, outer, innerOf, standing, tail, popRun, besideTop, beside, opened, enter, continuing, inward, under, partAt, isPart, outward, ended, follow, besideHole, sibling, siblingFrom, belowRow, nodeAt, parent}
+use Rattle.model.specs.Model.{Node, outer, innerOf, standing, tail, popRun, besideTop, beside, opened, enter, continuing, inward, under, partAt, isPart, outward, belowRow, nodeAt, parent}
+use Rattle.model.specs.Neighbour.{isNil, numberOf}
 use Rattle.model.proofs.Cells.{topKind}
 use Rattle.place_cells.specs.declared.Stem.{Stem}
 use Rattle.place_cells.specs.declared.Change.{Change}
@@ -59,6 +61,19 @@ unfolding cellRun
 spine-no-run Side.left = refl
 spine-no-run Side.right = refl
 
+lowest : (s : List ℕ) (k : ℕ) → k ≤ 1 → isNil (tail (cellsIn s k)) ≡ true
+unfolding tail isNil cellsIn
+lowest s zero h = refl
+lowest s (suc k) h = rw (let e : k ≡ 0 = omega arith in e)
+
+-- the row that cells end with: the lowest, or one with a number on what lies below
+pub end-lowest : (s : List ℕ) (k d : ℕ) → k ≤ 1 → (not (isNil (tail (cellsIn s k))) && eqb (numberOf (cellsIn s k)) d) ≡ false
+end-lowest s k d h = rw (lowest s k h)
+
+pub end-number : (s : List ℕ) (k d : ℕ) → 1 < k → (not (isNil (tail (cellsIn s k))) && eqb (numberOf (cellsIn s k)) d) ≡ eqb ((cellAt s k) .1) d
+unfolding tail isNil numberOf
+end-number s k d h = rw (cells-top s k (omega arith), cells-top s (k - 1) (omega arith))
+
 module _ (F : Facts) where
   pub opened-cells : (a : ℕ) (cs : Cells) → _≡_ {A = Node} (F .last Side.left (outer F a), add (runCell F Side.left (outer F a)) (add (cell (cellSpine, a, 0, 0)) cs)) (opened F a cs)
   unfolding opened topKind
@@ -105,22 +120,6 @@ module _ (F : Facts) where
   unfolding outward beside under orElse
   outward-off cs e = rw e
 
-  pub follow-part : (s : Side) (cs : Cells) {x : Node} → besideTop F s (popRun s cs) ≡ some x → follow F s cs ≡ some (opened F (x .0) (x .1))
-  unfolding follow beside orElse
-  follow-part s cs e = rw e
-
-  pub follow-off : (s : Side) (cs : Cells) → besideTop F s (popRun s cs) ≡ none → follow F s cs ≡ ended F s (popRun s cs)
-  unfolding follow beside orElse
-  follow-off s cs e = rw e
-
-  pub sibling-part : (s : Side) (p : ℕ) (cs : Cells) {x : Node} → outward F cs ≡ some x → sibling F s (p, cs) ≡ besideHole F s (F .rule (x .0)) (x .1)
-  unfolding sibling siblingFrom
-  sibling-part s p cs e = rw e
-
-  pub sibling-off : (s : Side) (p : ℕ) (cs : Cells) → outward F cs ≡ none → sibling F s (p, cs) ≡ follow F s (under cs)
-  unfolding sibling siblingFrom
-  sibling-off s p cs e = rw e
-
   pub parent-part : (p : ℕ) (cs : Cells) {x : Node} → outward F cs ≡ some x → parent F (p, cs) ≡ some x
   unfolding parent orElse
   parent-part p cs e = rw e
@@ -142,18 +141,6 @@ module _ (F : Facts) where
     pub continuing-spine : 0 < k → (cellAt s k) .0 ≡ cellSpine → continuing F (cellsIn s k) ≡ innerOf (F .rule ((cellAt s k) .1))
     unfolding continuing
     continuing-spine h e = rw (cells-top s k h, eq-eqb _ _ e)
-
-    pub ended-none : (d : Side) → k ≡ 0 → ended F d (cellsIn s k) ≡ none
-    unfolding ended
-    ended-none d e = rw (cells-none s k e)
-
-    pub ended-arm : (d : Side) → 0 < k → (cellAt s k) .1 ≡ rowOfPart (other d) → ended F d (cellsIn s k) ≡ inward F (cellsIn s (k - 1))
-    unfolding ended
-    ended-arm d h e = rw (cells-top s k h, eq-eqb _ _ e)
-
-    pub ended-other : (d : Side) → 0 < k → ((cellAt s k) .1 ≡ rowOfPart (other d) → ⊥) → ended F d (cellsIn s k) ≡ none
-    unfolding ended
-    ended-other d h e = rw (cells-top s k h, ne-eqb _ _ e)
 
     pub node-none : k ≡ 0 → nodeAt F (cellsIn s k) ≡ none
     unfolding nodeAt

@@ -1,13 +1,14 @@
--- Only a part has a hole; its row on that side is entered from the other. Assumes nothing.
+-- Only a part has a hole; its row on that side is entered from the other, which is case 1 or 2. Assumes nothing.
 use mathlib.Core.Path.{sym, ap, _∙_}
 use denote.Ref.{now}
 use Rattle.rule.specs.declared.Rule.{Rule}
 use Rattle.forest.specs.Place.{other, pick}
 use Rattle.forest.proofs.Sides.{picked}
 use Rattle.model.specs.Model.{enter, besideHole}
+use Rattle.model.proofs.Stages.{case-up}
 use Rattle.facts.specs.Facts.{factsIn, In}
 use Rattle.side.specs.Side.{sideOf}
-use Rattle.place_cells.specs.Changes.{stemCells}
+use Rattle.place_cells.specs.Changes.{stemCells, stemNode}
 use Rattle.move_parts.specs.Moves.{outcome}
 use Rattle.facts.proofs.Closes.{named-arms}
 use Rattle.facts.proofs.Rules.{other-hole}
@@ -22,10 +23,10 @@ enum-known-left : tie.Need-enum-known-left
 enum-known-left c = search needs
 
 returns : tie.Need-returns
-unfolding outcome
-returns c s =
+unfolding outcome stemNode
+returns c s x part =
     let a = c .before .before .before .args in let F = factsIn (now (a .work)) in let d = sideOf (a .side) in
-    sym (ap (λ (x : Rule). besideHole F d x (stemCells (a .stem) s)) (sym (c .before .rule-at .ensures)) ∙ other-hole F d (c .before .rule-at .result) (stemCells (a .stem) s) (c .match .keys2))
+    sym (case-up F d x _ (c .before .rule-at .result) part (sym (c .before .rule-at .ensures)) ∙ other-hole F d (c .before .rule-at .result) (stemCells (a .stem) s) (c .match .keys2))
 
 other-requires : tie.Need-other-requires
 other-requires c κs = search needs
@@ -43,11 +44,11 @@ enter-requires c κs =
     (h .0, rw (c .pick .ensures) (picked P (sideOf (a .side)) _ _ (search (both .0, both .1)) (search (both .0, both .1))))
 
 returns-2 : tie.Need-returns-2
-unfolding besideHole
-returns-2 c s =
+unfolding besideHole stemNode
+returns-2 c s x part =
     let a = c .before .before .before .before .before .before .before .before .before .args in let F = factsIn (now (a .work)) in let d = sideOf (a .side) in
     c .enter .ensures s ∙ (λ i. enter F (c .before .before .before .other .ensures i) (c .before .before .part-row .ensures i) (c .before .pick .ensures i) (stemCells (a .stem) s))
-    ∙ sym (ap (λ (x : Rule). besideHole F d x (stemCells (a .stem) s)) (sym (c .before .before .before .before .before .before .before .rule-at .ensures) ∙ c .before .before .before .before .before .left .given .1))
+    ∙ sym (case-up F d x _ _ part (sym (c .before .before .before .before .before .before .before .rule-at .ensures) ∙ c .before .before .before .before .before .left .given .1))
 
 pub beside-hole-spec : {M : Type 1} → statement M
 beside-hole-spec =

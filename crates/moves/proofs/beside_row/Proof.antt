@@ -1,19 +1,21 @@
--- The tree beside in the row, else the tree in the hole that the row ends at. Assumes nothing.
-use mathlib.Core.Path.{sym, ap, _∙_}
+-- Case 3 where the row goes on, else what lies past its end. Assumes nothing.
+use mathlib.Core.Path.{_≡_, sym, ap, _∙_}
 use mathlib.Core.Option.{some}
 use denote.Ref.{now}
 use Rattle.forest.specs.Walk.{cellsIn}
-use Rattle.model.specs.Model.{Node, besideTop, opened, ended}
+use Rattle.model.specs.Model.{Node, popRun, besideTop, beside, opened}
+use Rattle.model.specs.Neighbour.{across, rowEnd}
+use Rattle.model.proofs.Stages.{case-across}
 use Rattle.facts.specs.Facts.{factsIn, In}
 use Rattle.side.specs.Side.{sideOf}
 use Rattle.place_cells.specs.Changes.{add, stemCells, stemNode}
 use Rattle.move_parts.specs.Moves.{outcome}
 use Rattle.move_parts.proofs.Held.{held-less}
 use Rattle.move_parts.proofs.Kept.{found-rule, beside-kept}
-use Rattle.move_parts.proofs.Outcomes.{found, found-none, follow-part, follow-off}
+use Rattle.move_parts.proofs.Outcomes.{found, found-none}
 use borrow.Author.Needs.{needs}
-use Rattle.moves.proofs.follow.Statement.{statement}
-use Rattle.moves.proofs.follow.Tie as tie
+use Rattle.moves.proofs.beside_row.Statement.{statement}
+use Rattle.moves.proofs.beside_row.Tie as tie
 
 pop-run-requires : tie.Need-pop-run-requires
 pop-run-requires c κs = search needs
@@ -38,27 +40,29 @@ opened-requires c κs =
     (h .rows, found-rule (In t) (found s (c .before .before .before .before .before .beside-top .ensures) (c .before .before .before .stem .given .1)) (beside-kept (factsIn t) (In t) (h .rows) (sideOf (a .side)) (cellsIn s (c .before .before .before .before .before .before .pop-run .result)) (h .cells)))
 
 returns : tie.Need-returns
-unfolding outcome add stemNode
-returns c =
-    let a = c .before .before .before .before .before .before .before .before .before .before .args in let F = factsIn (now (a .work)) in let d = sideOf (a .side) in let s = now (a .cursor) in let cs = cellsIn s (a .k) in
+unfolding outcome add stemNode across beside rowEnd
+returns c x off tree =
+    let a = c .before .before .before .before .before .before .before .before .before .before .args in let F = factsIn (now (a .work)) in let d = sideOf (a .side) in let s = now (a .cursor) in
     let stem = c .before .before .before .before .stem .given .0 .0 in
+    let end : rowEnd d x ≡ cellsIn s (c .before .before .before .before .before .before .before .pop-run .result) = ap (popRun d) tree ∙ sym (c .before .before .before .before .before .before .before .pop-run .ensures .1) in
     ap (λ (n : Node). some n) (c .opened .ensures s ∙ (λ i. opened F (stem .rule) (add (c .before .none2 .ensures i) (add (c .before .before .none .ensures i) (stemCells stem s)))))
-    ∙ sym (follow-part F d cs (ap (besideTop F d) (sym (c .before .before .before .before .before .before .before .pop-run .ensures .1)) ∙ found s (c .before .before .before .before .before .before .beside-top .ensures) (c .before .before .before .before .stem .given .1)))
+    ∙ sym (case-across F d x off (ap (besideTop F d) end ∙ found s (c .before .before .before .before .before .before .beside-top .ensures) (c .before .before .before .before .stem .given .1)))
 
 enum-told : tie.Need-enum-told
 enum-told c = search needs
 
-ended-requires : tie.Need-ended-requires
-ended-requires c κs = held-less (c .before .before .before .before .before .before .pre) _ (c .before .before .before .pop-run .ensures .0)
+past-row-requires : tie.Need-past-row-requires
+past-row-requires c κs = held-less (c .before .before .before .before .before .before .pre) _ (c .before .before .before .pop-run .ensures .0)
 
 returns-2 : tie.Need-returns-2
-returns-2 c =
-    let a = c .before .before .before .before .before .before .before .args in let F = factsIn (now (a .work)) in let d = sideOf (a .side) in let s = now (a .cursor) in let cs = cellsIn s (a .k) in
-    c .ended .ensures ∙ ap (ended F d) (c .before .before .before .before .pop-run .ensures .1)
-    ∙ sym (follow-off F d cs (ap (besideTop F d) (sym (c .before .before .before .before .pop-run .ensures .1)) ∙ found-none s (c .before .before .before .beside-top .ensures) (c .before .enum-told .given .1)))
+unfolding across beside rowEnd
+returns-2 c x off tree =
+    let a = c .before .before .before .before .before .before .before .args in let F = factsIn (now (a .work)) in let d = sideOf (a .side) in let s = now (a .cursor) in
+    let end : rowEnd d x ≡ cellsIn s (c .before .before .before .before .pop-run .result) = ap (popRun d) tree ∙ sym (c .before .before .before .before .pop-run .ensures .1) in
+    c .past-row .ensures x off (ap (besideTop F d) end ∙ found-none s (c .before .before .before .beside-top .ensures) (c .before .enum-told .given .1)) end
 
-pub follow-spec : {M : Type 1} → statement M
-follow-spec =
+pub beside-row-spec : {M : Type 1} → statement M
+beside-row-spec =
     tie.close
     (tie.spec
     pop-run-requires
@@ -69,5 +73,5 @@ follow-spec =
     opened-requires
     returns
     enum-told
-    ended-requires
+    past-row-requires
     returns-2)
