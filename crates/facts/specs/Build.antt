@@ -48,13 +48,6 @@ pub record Steps (t : List ℕ) (s : Side) (p : ℕ) : Type 0 where
   pub beyond : In t ((linkIn t s ((linkIn t s p) .jump)) .jump)
   pub small : (factsIn t) .depth s p + 1 < 2 ^ 16
 
--- what the link of a pair of rules looks at is there
-pub record Pairs (t : List ℕ) (s : Side) (b c : ℕ) : Type 0 where
-  pub first : In t b
-  pub second : In t c
-  pub chosen : In t (pick s b c)
-  pub steps : Steps t s ((factsIn t) .representative (pick s b c))
-
 -- what may be looked at through rule k is there: its row and its representative's, and what a step to either looks at
 pub record Reads (t : List ℕ) (k : ℕ) : Type 0 where
   pub steps : (s : Side) → Steps t s k

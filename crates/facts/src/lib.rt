@@ -7,7 +7,7 @@ ghost use Rattle.model.specs.Model.{outer};
 ghost use Rattle.model.specs.Stored.{reaches};
 ghost use Rattle.side.specs.Side.{sideOf};
 ghost use Rattle.facts.specs.Facts.{atLink, linkLength, LinkAt, linkIn, putLink, factsIn, In, Climbs};
-ghost use Rattle.facts.specs.Build.{jumpFrom, linkFrom, linkOwn, linkPair, linkOf, Steps, Pairs, Ready};
+ghost use Rattle.facts.specs.Build.{jumpFrom, linkFrom, linkOwn, Steps};
 use rule::Rule;
 use side::Side;
 
@@ -124,7 +124,7 @@ impl Link {
     const JUMP: usize = 6;
 
     // The link of a side in row r.
-    fn read(work: &[u8], side: Side, r: u16) -> Link
+    pub fn read(work: &[u8], side: Side, r: u16) -> Link
         requires { ⌜ In (now work) r ⌝ }
         ensures { λ l. ⌜ l ≡ linkIn (now (work .entry)) (sideOf side) r ⌝ }
     {
@@ -149,7 +149,7 @@ impl Link {
     }
 
     // The link of a rule that has no step.
-    fn own(r: u16) -> Link
+    pub fn own(r: u16) -> Link
         ensures { λ l. ⌜ l ≡ linkOwn r ⌝ }
     {
         Link {
@@ -177,7 +177,7 @@ impl Link {
     }
 
     // The link of a rule that steps to p.
-    fn from(work: &[u8], side: Side, p: u16) -> Link
+    pub fn from(work: &[u8], side: Side, p: u16) -> Link
         requires { ⌜ Steps (now work) (sideOf side) p ⌝ }
         ensures { λ l. ⌜ l ≡ linkFrom (now (work .entry)) (sideOf side) p ⌝ }
     {
@@ -186,39 +186,6 @@ impl Link {
             last: last_at(work, side, p),
             depth: depth_at(work, side, p) + 1,
             jump: Link::jump_from(work, side, p),
-        }
-    }
-
-    // The link of a pair of rules: with one side empty, that of the other; else a step to the side's representative.
-    fn of_pair(work: &[u8], side: Side, first: u16, second: u16) -> Link
-        requires { ⌜ Pairs (now work) (sideOf side) first second ⌝ }
-        ensures { λ l. ⌜ l ≡ linkPair (now (work .entry)) (sideOf side) first second ⌝ }
-    {
-        if is_empty_at(work, first) {
-            return Link::read(work, side, second);
-        }
-        if is_empty_at(work, second) {
-            return Link::read(work, side, first);
-        }
-        Link::from(
-            work,
-            side,
-            representative_at(work, side.pick(first, second)),
-        )
-    }
-
-    // The link of rule r.
-    pub fn of(work: &[u8], side: Side, r: u16, rule: Rule) -> Link
-        requires { ⌜ Ready rule (now work) ⌝ }
-        ensures { λ l. ⌜ l ≡ linkOf (now (work .entry)) (sideOf side) r rule ⌝ }
-    {
-        match rule {
-            Rule::Pair { first, second } => Link::of_pair(work, side, first, second),
-            Rule::Join { outer, inner } => Link::from(work, side, side.pick(outer, inner)),
-            Rule::Empty => Link::own(r),
-            Rule::Node { .. } => Link::own(r),
-            Rule::Fill { .. } => Link::own(r),
-            Rule::Part { .. } => Link::own(r),
         }
     }
 }

@@ -3,3 +3,4 @@ pub mod Ways
 pub mod Held
 pub mod Filling
 pub mod Known
+pub mod Cases

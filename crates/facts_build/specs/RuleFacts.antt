@@ -8,7 +8,7 @@ use Rattle.forest.specs.Place.{Side}
 use Rattle.work_rows.specs.Rows.{field, putField}
 use Rattle.facts_build.specs.declared.RuleFacts.{RuleFacts}
 use Rattle.facts.specs.Facts.{atRepresentative, atEmptiness, linkIn, putLink, factsIn}
-use Rattle.facts.specs.Build.{linkOf}
+use Rattle.facts.specs.Build.{linkFrom, linkOwn, linkOf, Steps}
 
 -- a test as a word
 unfoldable pub flag : Bool → ℕ
@@ -52,3 +52,19 @@ representativeOf t r (Rule.Join b c) = r
 unfoldable pub ruleFactsOf : List ℕ → ℕ → Rule → RuleFacts
 ruleFactsOf t r x =
     record { representative = representativeOf t r x; empty = emptyOf t x; left = linkOf t Side.left r x; right = linkOf t Side.right r x }
+
+-- what is known of a rule that has no step, of a rule by its own row, and of one that steps to p on the left and to q on the right
+unfoldable pub ownFacts : ℕ → Bool → RuleFacts
+ownFacts r empty = record { representative = r; empty = empty; left = linkOwn r; right = linkOwn r }
+
+unfoldable pub knownFacts : List ℕ → ℕ → RuleFacts
+knownFacts t r =
+    record { representative = (factsIn t) .representative r; empty = (factsIn t) .isEmpty r; left = linkIn t Side.left r; right = linkIn t Side.right r }
+
+unfoldable pub steppingFacts : List ℕ → ℕ → ℕ → ℕ → RuleFacts
+steppingFacts t r p q = record { representative = r; empty = false; left = linkFrom t Side.left p; right = linkFrom t Side.right q }
+
+-- what both steps look at is there
+pub record BothSteps (t : List ℕ) (p q : ℕ) : Type 0 where
+  pub left : Steps t Side.left p
+  pub right : Steps t Side.right q

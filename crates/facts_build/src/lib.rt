@@ -2,7 +2,8 @@
 ghost use mathlib.Core.Path.{_≡_};
 ghost use Rattle.work_rows.specs.Rows.{firstRules};
 ghost use Rattle.facts.specs.Facts.{Built, In};
-ghost use Rattle.facts_build.specs.RuleFacts.{flag, putRuleFacts, emptyOf, representativeOf, ruleFactsOf};
+ghost use Rattle.rule.specs.declared.Rule.{Rule};
+ghost use Rattle.facts_build.specs.RuleFacts.{flag, putRuleFacts, ownFacts, knownFacts, steppingFacts, BothSteps, ruleFactsOf};
 ghost use Rattle.facts_build.specs.Buildable.{Buildable};
 ghost use Rattle.facts.specs.Build.{Ready};
 use facts::Link;
@@ -25,43 +26,58 @@ fn flag(test: bool) -> u16
 }
 
 impl RuleFacts {
-    // Is a rule without trees?
-    fn empty_of(work: &[u8], rule: Rule) -> bool
-        requires { ⌜ Ready rule (now work) ⌝ }
-        ensures { λ x. ⌜ x ≡ emptyOf (now (work .entry)) rule ⌝ }
+    // Of a rule r that has no step.
+    fn own(r: u16, empty: bool) -> RuleFacts
+        ensures { λ e. ⌜ e ≡ ownFacts r empty ⌝ }
     {
-        match rule {
-            Rule::Empty => true,
-            Rule::Pair { first, second } => facts::is_empty_at(work, first)
-                & facts::is_empty_at(work, second),
-            Rule::Node { .. } => false,
-            Rule::Fill { .. } => false,
-            Rule::Part { .. } => false,
-            Rule::Join { .. } => false,
+        RuleFacts {
+            representative: r,
+            empty,
+            left: Link::own(r),
+            right: Link::own(r),
         }
     }
 
-    // The representative of rule r.
-    fn representative_of(work: &[u8], r: u16, rule: Rule) -> u16
-        requires { ⌜ Ready rule (now work) ⌝ }
-        ensures { λ x. ⌜ x ≡ representativeOf (now (work .entry)) r rule ⌝ }
+    // What the row of rule r says.
+    fn read(work: &[u8], r: u16) -> RuleFacts
+        requires { ⌜ In (now work) r ⌝ }
+        ensures { λ e. ⌜ e ≡ knownFacts (now (work .entry)) r ⌝ }
     {
-        match rule {
-            Rule::Pair { first, second } => {
-                if facts::is_empty_at(work, first) {
-                    return facts::representative_at(work, second);
-                }
-                if facts::is_empty_at(work, second) {
-                    return facts::representative_at(work, first);
-                }
-                r
-            }
-            Rule::Empty => r,
-            Rule::Node { .. } => r,
-            Rule::Fill { .. } => r,
-            Rule::Part { .. } => r,
-            Rule::Join { .. } => r,
+        RuleFacts {
+            representative: facts::representative_at(work, r),
+            empty: facts::is_empty_at(work, r),
+            left: Link::read(work, Side::Left, r),
+            right: Link::read(work, Side::Right, r),
         }
+    }
+
+    // Of a rule r that steps to one rule on the left and to one on the right.
+    fn stepping(work: &[u8], r: u16, left: u16, right: u16) -> RuleFacts
+        requires { ⌜ BothSteps (now work) left right ⌝ }
+        ensures { λ e. ⌜ e ≡ steppingFacts (now (work .entry)) r left right ⌝ }
+    {
+        RuleFacts {
+            representative: r,
+            empty: false,
+            left: Link::from(work, Side::Left, left),
+            right: Link::from(work, Side::Right, right),
+        }
+    }
+
+    // Of a pair r of rules: with one side empty, what is known of the other.
+    fn of_pair(work: &[u8], r: u16, first: u16, second: u16) -> RuleFacts
+        requires { ⌜ Ready (Rule.Pair first second) (now work) ⌝ }
+        ensures { λ e. ⌜ e ≡ ruleFactsOf (now (work .entry)) r (Rule.Pair first second) ⌝ }
+    {
+        if facts::is_empty_at(work, first) {
+            return RuleFacts::read(work, second);
+        }
+        if facts::is_empty_at(work, second) {
+            return RuleFacts::read(work, first);
+        }
+        let left = facts::representative_at(work, first);
+        let right = facts::representative_at(work, second);
+        RuleFacts::stepping(work, r, left, right)
     }
 
     // All that is known of rule r, from the rows of the rules that it names.
@@ -69,11 +85,13 @@ impl RuleFacts {
         requires { ⌜ Ready rule (now work) ⌝ }
         ensures { λ e. ⌜ e ≡ ruleFactsOf (now (work .entry)) r rule ⌝ }
     {
-        RuleFacts {
-            representative: RuleFacts::representative_of(work, r, rule),
-            empty: RuleFacts::empty_of(work, rule),
-            left: Link::of(work, Side::Left, r, rule),
-            right: Link::of(work, Side::Right, r, rule),
+        match rule {
+            Rule::Pair { first, second } => RuleFacts::of_pair(work, r, first, second),
+            Rule::Join { outer, inner } => RuleFacts::stepping(work, r, outer, inner),
+            Rule::Empty => RuleFacts::own(r, true),
+            Rule::Node { .. } => RuleFacts::own(r, false),
+            Rule::Fill { .. } => RuleFacts::own(r, false),
+            Rule::Part { .. } => RuleFacts::own(r, false),
         }
     }
 
