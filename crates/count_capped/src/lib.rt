@@ -1,6 +1,6 @@
 // A count that stops at 2^64, and counts in columns of the rows of work.
 ghost use mathlib.Core.Path.{_≡_};
-ghost use Prim.Native.Nat.{_+_, _*_, _^_, _≤_, max};
+ghost use Prim.Native.Nat.{_+_, _*_, _^_, _≤_};
 ghost use lib.ListN.{length};
 ghost use Rattle.words.specs.Number.{number, put};
 ghost use Rattle.work_rows.specs.Rows.{rowLength, field, putField};
@@ -46,19 +46,6 @@ impl Count {
         } else {
             Count::most()
         }
-    }
-
-    // The larger of two counts.
-    pub fn larger(self, other: Count) -> Count
-        ensures { λ r. ⌜ numberOf r ≡ capped (max (numberOf self) (numberOf other)) ⌝ }
-    {
-        if self.over != 0 {
-            return Count::most();
-        }
-        if other.over != 0 {
-            return Count::most();
-        }
-        if self.low <= other.low { other } else { self }
     }
 
     // The count whose bytes begin at an offset.
@@ -111,15 +98,4 @@ pub fn both(work: &[u8], o: usize, b: u16, c: u16) -> Count
         ⌜ numberOf x ≡ capped (field countLength work b o + field countLength work c o) ⌝ }
 {
     count_at(work, b, o).plus(count_at(work, c, o))
-}
-
-// The larger of the counts of two rules.
-pub fn higher(work: &[u8], o: usize, b: u16, c: u16) -> Count
-    requires { ⌜ (rowLength * b + o + countLength ≤ length (now work))
-        × (rowLength * c + o + countLength ≤ length (now work)) ⌝ }
-    ensures { λ x.
-        let work = now (work .entry) in
-        ⌜ numberOf x ≡ capped (max (field countLength work b o) (field countLength work c o)) ⌝ }
-{
-    count_at(work, b, o).larger(count_at(work, c, o))
 }

@@ -1,5 +1,5 @@
--- Columns of rows: a write to one place of a row leaves every other place of every row alone, and what lies past the rows. So a
--- column grows by one row a write, and the rules and the other columns stay. Assumes nothing.
+-- Columns of rows: a write to one place of a row leaves every other place of every row alone, and what lies past the rows. So the rules
+-- and the other columns stay. Assumes nothing.
 use Prim.Native.Nat.{ℕ, _+_, _*_, _^_, _≤_, _<_}
 use native.Mathlib.Omega.{arith}
 use native.Mathlib.Decide.{decLt}
@@ -10,7 +10,7 @@ use Rattle.words.specs.Number.{base}
 use Rattle.work_rows.specs.Rows.{rowLength, ownEnd, field, putField, ruleAt, ruleIn, Within}
 use Rattle.work_rows.proofs.Rows.{field-same, field-other, within-none, within-both, within-wider, within-field, rule-same, beyond-put}
 use Rattle.count_capped.specs.Count.{capped, countLength}
-use Rattle.count_passes.specs.Tally.{Besides, Column}
+use Rattle.count_passes.specs.Tally.{Besides}
 
 -- two places of rows lie apart: the rows or the places differ
 apart : (o w v p r k : ℕ) → o + w ≤ rowLength → p + v ≤ rowLength → (o < p + v → o + w ≤ p)
@@ -61,11 +61,6 @@ besides-ruleAt {o} {w} {n} {s} {t} p k q fits a =
 pub besides-rule : {o w n : ℕ} {s t : List ℕ} → Besides o w n s t → ownEnd ≤ o → (k : ℕ) → ruleIn t k ≡ ruleIn s k
 unfolding ruleIn
 besides-rule p past k = besides-ruleAt p k 0 (omega arith) (λ h. absurd (omega arith))
-
--- a column in another place stays
-pub column-kept : {o w n : ℕ} {s t : List ℕ} (p i : ℕ) (f : ℕ → ℕ) → Besides o w n s t → p + countLength ≤ rowLength
-    → (o < p + countLength → o + w ≤ p) → Column s p i f → Column t p i f
-column-kept p i f b fits a h k below = b .fields countLength p k fits a ∙ h k below
 
 -- a write leaves the same place of every other row
 pub other-row : (w : ℕ) (t : List ℕ) (r o v k : ℕ) → o + w ≤ rowLength → (k ≡ r → ⊥) → field w (putField w t r o v) k o ≡ field w t k o

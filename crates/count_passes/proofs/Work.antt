@@ -18,7 +18,6 @@ use Rattle.work_rows.proofs.Kept.{holds-first}
 use Rattle.work_rows.proofs.Work.{enough-room, enough-words}
 use Rattle.work_load.specs.Prepared.{Loads, Prepared}
 use Rattle.count_passes.specs.Tally.{Ready, Unfolds}
-use Rattle.count_passes.specs.Total.{Startable}
 
 -- an accepted plan's rules in the rows: they can be passed over, their expressions unfold, and the start rule is closed
 pub record Held (s : List ℕ) (n start : ℕ) (t : List ℕ) : Type 0 where
@@ -58,7 +57,3 @@ held {s} {u} {t} {n = n} {start = start} b e =
       room = omega arith;
       words = omega arith;
     }
-
--- what the loaded rows are good for
-pub startable : {s t : List ℕ} {n start : ℕ} → Held s n start t → Startable t n start
-startable h = record { ready = h .ready; below = h .below }

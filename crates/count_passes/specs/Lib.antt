@@ -1,4 +1,2 @@
-pub mod Recurrence
 pub mod Says
 pub mod Tally
-pub mod Total

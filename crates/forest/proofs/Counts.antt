@@ -21,7 +21,7 @@ use Rattle.forest.specs.Sizes.{holes}
 use Rattle.forest.specs.Forest.{Forest, append, trees, relabel, count, weigh, one, levels, text}
 use Rattle.forest.specs.Outcome.{nodeLength}
 use Rattle.forest.specs.Good.{Sort, Good}
-use Rattle.forest.proofs.Values.{holes-concat, holes-⟨⟩, closed-⟨⟩, value-node, value-part, value-holes, OneTree, tree-value, spine-value}
+use Rattle.forest.proofs.Values.{holes-concat, holes-⟨⟩, closed-⟨⟩, value-node, value-part, value-holes, OneTree, tree-value}
 use Rattle.forest.proofs.Forget.{trees-concat}
 
 module _ {A : Type 0} where
@@ -39,17 +39,6 @@ module _ {A : Type 0} where
   unfolding append levels
   levels-append Forest.none g = omega arith
   levels-append (Forest.tree a c f) g = rw (levels-append f g) (omega arith)
-
-  -- trees and levels are at most nodes
-  pub count-nodes : (g : Forest A) → count g ≤ weigh one g
-  unfolding count weigh
-  count-nodes Forest.none = omega arith
-  count-nodes (Forest.tree a c f) = omega (arith, count-nodes f)
-
-  pub levels-nodes : (g : Forest A) → levels g ≤ weigh one g
-  unfolding levels weigh
-  levels-nodes Forest.none = omega arith
-  levels-nodes (Forest.tree a c f) = omega (arith, levels-nodes c, levels-nodes f)
 
 module _ (f : Format) where
   -- the label's bytes and two more a node
@@ -227,13 +216,10 @@ module _ {b : Expression} (g : Good Sort.spine b) (c : Expression) where
   pub holeDepth-join : Good Sort.spine c → holeDepth (value b ⟨ value c ⟩) ≡ holeDepth (value b) + holeDepth (value c)
   holeDepth-join h = holeDepth-⟨⟩ (value b) (value c) (value-holes g) (value-holes h)
 
--- trees and spines are one tree
+-- a tree is one tree
 one-tree-count : {f : Hedge} → OneTree f → count (trees f) ≡ 1
 unfolding trees count
 one-tree-count OneTree.one-tree = refl
 
 pub count-tree : {e : Expression} → Good Sort.tree e → count (trees (value e)) ≡ 1
 count-tree g = one-tree-count (tree-value g)
-
-pub count-spine : {e : Expression} → Good Sort.spine e → count (trees (value e)) ≡ 1
-count-spine g = one-tree-count (spine-value g)

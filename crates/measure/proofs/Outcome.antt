@@ -11,14 +11,19 @@ use Rattle.forest.specs.Expression.{expression}
 use Rattle.forest.specs.Forest.{forest}
 use Rattle.forest.specs.Outcome.{workWords, enoughWork, cleared, measuredFrom, measured, measuredWork}
 use Rattle.work_rows.proofs.Rows.{within-both}
-use Rattle.work_rows.proofs.Work.{work-cleared, beyond-work}
+use Rattle.work_rows.proofs.Work.{work-cleared}
 use Rattle.work_load.specs.Prepared.{Loads, Prepared}
 use Rattle.count_passes.proofs.Work.{Held, held}
+use Rattle.count_all.specs.Rows.{Countable}
 use Rattle.measure.specs.Answer.{Answered}
 
 -- the answer and the work that measure gives
 abbrev pub Outcome : List ℕ → List ℕ → Measured → List ℕ → Type 0
 Outcome s work m t = (m ≡ measured s work) × (t ≡ measuredWork s work)
+
+-- loaded rows can be counted
+pub countable : {s t : List ℕ} {n start : ℕ} → Held s n start t → Countable t n start
+countable h = record { passable = record { ready = h .ready; room = h .room }; below = h .below }
 
 module _ {s work t : List ℕ} {x : Checked} (b : Prepared s work t x) where
   pub refused : {r : Refusal} → x ≡ Checked.Refused r → Outcome s work (Measured.Refused r) t
@@ -32,5 +37,5 @@ module _ {s work t : List ℕ} {x : Checked} (b : Prepared s work t x) where
       let h : Held s n start t = held b e in
       let l : Loads s work t n start = b .loaded n start e in (
         a .answer (expression (rulesOf s)) (h .unfolds) (h .closed) ∙ ap (measuredFrom (rulesOf s)) (sym e ∙ b .answer),
-        p ∙ work-cleared (λ k. enoughWork k work) s work n start (l .accepted) (l .enough) u (within-both (l .arranged .within) (beyond-work n (a .beyond))),
+        p ∙ work-cleared (λ k. enoughWork k work) s work n start (l .accepted) (l .enough) u (within-both (l .arranged .within) (a .within)),
       )

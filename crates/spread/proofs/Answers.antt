@@ -1,9 +1,9 @@
 -- The answer for one rule: its nodes are counted, three bytes of room for each decide, or five where labels are wide, and where they are
 -- there the rows get their tasks and the rule's text is written. Assumes nothing.
-use Prim.Native.Nat.{ℕ, _*_, _/_, _≤_, _<_}
+use Prim.Native.Nat.{ℕ, _*_, _/_, _^_, _≤_, _<_}
 use native.Mathlib.Omega.{arith}
 use mathlib.Core.Path.{_≡_, refl, sym, ap, _∙_}
-use mathlib.Core.Bool.{true, false}
+use mathlib.Core.Bool.{Bool, true, false}
 use mathlib.Core.List.{List}
 use lib.ListN.{length}
 use lib.Dec.{leb}
@@ -14,26 +14,27 @@ use Rattle.refusal.specs.declared.Refusal.{Refusal}
 use Rattle.rule.specs.declared.Rule.{Rule}
 use Rattle.plan.specs.declared.Written.{Written}
 use Rattle.plan.specs.Written.{outputAfter}
-use Rattle.forest.specs.Forest.{forest, weigh, one, text}
+use Rattle.forest.specs.Forest.{Forest, forest, weigh, one, text}
 use Rattle.forest.specs.Outcome.{nodeLength, textRoomed}
 use Rattle.forest.specs.Good.{Sort, Good}
 use Rattle.forest.proofs.Unfold.{unfolding-equation, closed-row}
 use Rattle.forest.proofs.Counts.{text-length}
-use Rattle.work_rows.specs.Rows.{ownEnd, firstRules}
+use Rattle.work_rows.specs.Rows.{firstRules}
+use Rattle.work_rows.specs.Order.{orderIn}
 use Rattle.work_rows.proofs.Rows.{within-both, within-wider}
-use Rattle.count_capped.specs.declared.Count.{Count}
-use Rattle.count_rule.specs.declared.Weight.{Weight}
-use Rattle.count_capped.specs.Count.{capped, limit, numberOf}
 use Rattle.count_passes.specs.Says.{whole, says}
-use Rattle.count_rule.specs.ByRule.{weightOf}
-use Rattle.count_passes.specs.Tally.{Besides, Unfolds}
-use Rattle.count_passes.specs.Total.{Startable, Counts}
+use Rattle.count_passes.specs.Tally.{Unfolds}
 use Rattle.count_passes.proofs.Meaning.{told}
 use Rattle.count_passes.proofs.Column.{besides-rule}
 use Rattle.count_passes.proofs.Ordered.{order-besides, rules-besides}
+use Rattle.count_all.specs.declared.Counts.{Counts}
+use Rattle.count_all.specs.Counts.{forestCounts}
+use Rattle.count_all.specs.Kept.{Keeps, isAbove}
+use Rattle.count_all.specs.Rows.{Countable, Counted}
+use Rattle.count_all.proofs.Meaning.{forest-above, forest-exact, row-counts}
 use Rattle.spread_step.specs.Task.{taskIn}
 use Rattle.spread_stack.specs.Run.{meant, workEnd, Taskable, Tasked, RowsTasked, Ran, Spreadable}
-use Rattle.spread.specs.Answer.{Answerable, Answered}
+use Rattle.spread.specs.Answer.{Fitting, Answerable, Answered}
 use Rattle.spread_step.proofs.Tasks.{by-test}
 use Rattle.spread_stack.proofs.Rows.{task-recurs}
 use Rattle.work_rows.proofs.Kept.{first-length, first-rule}
@@ -52,28 +53,24 @@ same-test a b c d f g =
 at-least : (f : Format) (m : ℕ) → m ≤ nodeLength f * m
 at-least f m = omega arith
 
--- room for three bytes a node, or five
-pub fits-over : (f : Format) (c : Count) (room : ℕ) → (c .over ≡ 0 → ⊥) → room < limit → false ≡ leb (nodeLength f * numberOf c) room
-fits-over f c room over small = sym (lt-leb (nodeLength f * numberOf c) room (omega (arith, at-least f (numberOf c))))
+-- room for three bytes a node, or five: no output is as long as nodes are too many
+pub fits-above : (f : Format) {c : Counts} (room : ℕ) → isAbove c ≡ true → room < 2 ^ 64 → Fitting f c room false
+fits-above f room h small g k = sym (lt-leb (nodeLength f * weigh one g) room (omega (arith, at-least f (weigh one g), forest-above g k h)))
 
-pub fits-narrow : {f : Format} (c : Count) (room : ℕ) → f ≡ Format.Narrow → c .over ≡ 0 → leb (c .low) (room / 3) ≡ leb (nodeLength f * numberOf c) room
-unfolding highLength
-fits-narrow c room q clear = rw q (same-test (c .low) (room / 3) (3 * numberOf c) room (λ l. omega arith) (λ l. omega arith))
+nodes-exact : {c : Counts} → isAbove c ≡ false → (g : Forest ℕ) → Keeps c (forestCounts g) → c .nodes ≡ weigh one g
+nodes-exact h g k = ap (λ (m : Counts). m .nodes) (forest-exact g k h .0)
 
-pub fits-wide : {f : Format} (c : Count) (room : ℕ) → f ≡ Format.Wide → c .over ≡ 0 → leb (c .low) (room / 5) ≡ leb (nodeLength f * numberOf c) room
+pub fits-narrow : {f : Format} (c : Counts) (room : ℕ) → f ≡ Format.Narrow → isAbove c ≡ false → Fitting f c room (leb (c .nodes) (room / 3))
 unfolding highLength
-fits-wide c room q clear = rw q (same-test (c .low) (room / 5) (5 * numberOf c) room (λ l. omega arith) (λ l. omega arith))
+fits-narrow c room q h g k =
+    let m : c .nodes ≡ weigh one g = nodes-exact h g k in
+    rw q (same-test (c .nodes) (room / 3) (3 * weigh one g) room (λ l. omega arith) (λ l. omega arith))
 
--- a capped count asks for too much exactly where the count does, since no output is as long as the cap
-capped-room : (f : Format) (m c room : ℕ) → c ≡ capped m → room < limit → nodeLength f * c ≤ room → nodeLength f * m ≤ room
+pub fits-wide : {f : Format} (c : Counts) (room : ℕ) → f ≡ Format.Wide → isAbove c ≡ false → Fitting f c room (leb (c .nodes) (room / 5))
 unfolding highLength
-capped-room Format.Narrow m c room q small l = omega (arith, q)
-capped-room Format.Wide m c room q small l = omega (arith, q)
-
-capped-short : (f : Format) (m c room : ℕ) → c ≡ capped m → room < nodeLength f * c → room < nodeLength f * m
-unfolding highLength
-capped-short Format.Narrow m c room q l = omega (arith, q)
-capped-short Format.Wide m c room q l = omega (arith, q)
+fits-wide c room q h g k =
+    let m : c .nodes ≡ weigh one g = nodes-exact h g k in
+    rw q (same-test (c .nodes) (room / 5) (5 * weigh one g) room (λ l. omega arith) (λ l. omega arith))
 
 -- from the rows
 module _ {t : List ℕ} {n r : ℕ} (a : Answerable t n r) where
@@ -87,14 +84,18 @@ module _ {t : List ℕ} {n r : ℕ} (a : Answerable t n r) where
   closed-good : Good Sort.row (meant t n r)
   closed-good = closed-row (a .sound) (a .closed)
 
-  pub startable : Startable t n r
-  startable =
+  pub countable : Countable t n r
+  countable =
       record {
-        ready =
+        passable =
             record {
-              room = omega (arith, a .room);
-              ranged = a .sound .in-range;
-              order = a .order;
+              ready =
+                  record {
+                    room = omega (arith, a .room);
+                    ranged = a .sound .in-range;
+                    order = a .order;
+                  };
+              room = a .room;
             };
         below = in-rows;
       }
@@ -102,7 +103,7 @@ module _ {t : List ℕ} {n r : ℕ} (a : Answerable t n r) where
   taskable : Taskable t n
   taskable =
       record {
-        ready = startable .ready;
+        ready = countable .passable .ready;
         few = a .few;
       }
 
@@ -112,53 +113,51 @@ module _ {t : List ℕ} {n r : ℕ} (a : Answerable t n r) where
   rule-text f = told f closed-good
 
 -- the rows keep their rules, and the order
-answerable-kept : {o w n r : ℕ} {s t : List ℕ} → Besides o w n s t → ownEnd ≤ o → Answerable s n r → Answerable t n r
-answerable-kept {n = n} {r = r} {s = s} {t = t} b past a =
-    let long : length t ≡ length s = b .beyond .same-length in
+answerable-kept : {n r : ℕ} {s t : List ℕ} → firstRules t n ≡ firstRules s n → orderIn t n ≡ orderIn s n → length t ≡ length s → Answerable s n r
+    → Answerable t n r
+answerable-kept rules same-order long a =
     record {
       rank = a .rank;
-      sound = rw (rules-besides b past) (a .sound);
-      order = rw (rules-besides b past, order-besides b) (a .order);
-      closed = rw (rules-besides b past) (a .closed);
+      sound = rw rules (a .sound);
+      order = rw (rules, same-order) (a .order);
+      closed = rw rules (a .closed);
       few = a .few;
       room = omega (arith, a .room);
     }
 
--- the nodes of the rule
-module _ {s t : List ℕ} {n r : ℕ} {c : Count} (a : Answerable s n r) (p : Counts (weigh (weightOf Weight.Node)) n r c s t) where
-  nodes : numberOf c ≡ capped (weigh one (forest (firstRules s n) r))
-  unfolding forest weightOf
-  nodes = p .count (meant s n) (rows-unfold a) (closed-good a)
+-- the counts of the rule
+module _ {s t : List ℕ} {n r : ℕ} {c : Counts} (a : Answerable s n r) (p : Counted n r c s t) where
+  forest-kept : Keeps c (forestCounts (forest (firstRules s n) r))
+  unfolding forest
+  forest-kept = row-counts p (meant s n) (rows-unfold a) (closed-good a)
 
   counted : Answerable t n r
-  counted = answerable-kept (p .besides) (omega arith) a
+  counted = answerable-kept (p .kept .rules) (p .kept .order) (p .kept .within .same-length) a
 
   pub tasks-next : Taskable t n
   tasks-next = taskable counted
 
-  pub refused : (f : Format) (out : List ℕ) → leb (nodeLength f * numberOf c) (length out) ≡ false → Answered f n r (Written.Refused Refusal.Room) s t out out
+  pub refused : (f : Format) (out : List ℕ) {x : Bool} → Fitting f c (length out) x → x ≡ false → Answered f n r (Written.Refused Refusal.Room) s t out out
   unfolding textRoomed outputAfter
-  refused f out e =
-      let m : ℕ = weigh one (forest (firstRules s n) r) in
-      let short : length out < nodeLength f * numberOf c = leb-false (nodeLength f * numberOf c) (length out) e in
+  refused f out h e =
       record {
-        answer = rw (lt-leb (nodeLength f * m) (length out) (capped-short f m (numberOf c) (length out) nodes short));
+        answer = rw (sym (h (forest (firstRules s n) r) forest-kept) ∙ e);
         writes = refl;
-        within = within-wider 0 (workEnd n) (omega arith) (omega arith) (p .besides .beyond);
+        within = p .kept .within;
       }
 
-  module _ (f : Format) (out : List ℕ) (small : length out < limit) (e : leb (nodeLength f * numberOf c) (length out) ≡ true) where
+  module _ (f : Format) (out : List ℕ) {x : Bool} (h : Fitting f c (length out) x) (e : x ≡ true) where
     enough : nodeLength f * weigh one (forest (firstRules s n) r) ≤ length out
     enough =
-        capped-room f (weigh one (forest (firstRules s n) r)) (numberOf c) (length out) nodes small
-        (leb-true (nodeLength f * numberOf c) (length out) e)
+        leb-true (nodeLength f * weigh one (forest (firstRules s n) r)) (length out) (sym (h (forest (firstRules s n) r) forest-kept) ∙ e)
 
     module _ {u : List ℕ} (q : Tasked n t u) where
       tasked : Answerable u n r
-      tasked = answerable-kept (q .besides) (omega arith) counted
+      tasked =
+          answerable-kept (rules-besides (q .besides) (omega arith)) (order-besides (q .besides)) (q .besides .beyond .same-length) counted
 
       all-same : firstRules u n ≡ firstRules s n
-      all-same = rules-besides (q .besides) (omega arith) ∙ rules-besides (p .besides) (omega arith)
+      all-same = rules-besides (q .besides) (omega arith) ∙ p .kept .rules
 
       rows-tasked : RowsTasked u n
       rows-tasked =
@@ -193,7 +192,7 @@ module _ {s t : List ℕ} {n r : ℕ} {c : Count} (a : Answerable s n r) (p : Co
             answer = rw (le-leb (nodeLength f * weigh one (forest (firstRules s n) r)) (length out) enough) (ap Written.Length (h .long));
             writes = h .writes;
             within =
-                within-both (within-wider 0 (workEnd n) (omega arith) (omega arith) (p .besides .beyond))
+                within-both (p .kept .within)
                 (within-both (within-wider 0 (workEnd n) (omega arith) (omega arith) (q .besides .beyond))
                 (within-wider 0 (workEnd n) (omega arith) (omega arith) (h .within)));
           }

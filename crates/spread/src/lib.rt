@@ -1,28 +1,24 @@
 // Spread (document 01): the text of a plan's forest.
 ghost use mathlib.Core.Path.{_≡_};
-ghost use Prim.Native.Nat.{_*_};
-ghost use lib.Dec.{leb};
-ghost use Rattle.spread.specs.Answer.{Answerable, Answered};
-ghost use Rattle.forest.specs.Outcome.{nodeLength, spread, measuredWork, spreadOutput};
-ghost use Rattle.count_capped.specs.Count.{numberOf};
-use count_capped::Count;
-use count_rule::Weight;
+ghost use Rattle.spread.specs.Answer.{Fitting, Answerable, Answered};
+ghost use Rattle.forest.specs.Outcome.{spread, measuredWork, spreadOutput};
+use count_all::Counts;
 use plan::Checked;
 use plan::Trailer;
 use plan::Written;
 use record::Format;
 use refusal::Refusal;
 
-// Whether the text of a forest with so many nodes fits the output: three bytes a node, or five where labels are wide.
-fn fits(nodes: Count, room: usize, format: Format) -> bool
-    ensures { λ r. ⌜ r ≡ leb (nodeLength format * numberOf nodes) room ⌝ }
+// Whether the text of a forest with these counts fits the output: three bytes a node, or five where labels are wide.
+fn fits(counts: Counts, room: usize, format: Format) -> bool
+    ensures { λ r. ⌜ Fitting format counts room r ⌝ }
 {
-    if nodes.over != 0 {
+    if counts.above() {
         return false;
     }
     match format {
-        Format::Narrow => nodes.low <= (room as u64) / 3,
-        Format::Wide => nodes.low <= (room as u64) / 5,
+        Format::Narrow => counts.nodes <= (room as u64) / 3,
+        Format::Wide => counts.nodes <= (room as u64) / 5,
     }
 }
 
@@ -31,8 +27,8 @@ fn answer(work: &mut [u8], out: &mut [u8], n: u16, r: u16, format: Format) -> Wr
     requires { ⌜ Answerable (now work) n r ⌝ }
     ensures { λ x. ⌜ Answered format n r x (now (work .entry)) (now (work .exit)) (now (out .entry)) (now (out .exit)) ⌝ }
 {
-    let nodes = count_passes::total(work, n, r, Weight::Node);
-    if !fits(nodes, out.len(), format) {
+    let counts = count_all::count(work, n, r);
+    if !fits(counts, out.len(), format) {
         return Written::Refused(Refusal::Room);
     }
     spread_stack::task_rows(work, n);

@@ -1,7 +1,7 @@
 -- The plan's rules are loaded, measured and cleared away, on both answers; or it is refused. Assumes nothing.
 use borrow.Author.Needs.{needs}
-use Rattle.count_passes.proofs.Work.{held, startable}
-use Rattle.measure.proofs.Outcome.{refused, finished}
+use Rattle.count_passes.proofs.Work.{held}
+use Rattle.measure.proofs.Outcome.{countable, refused, finished}
 use native.Mathlib.Omega.{arith}
 use Rattle.measure.proofs.measure.Statement.{statement}
 use Rattle.measure.proofs.measure.Tie as tie
@@ -13,12 +13,12 @@ enum-known-n : tie.Need-enum-known-n
 enum-known-n c = search needs
 
 answer-requires : tie.Need-answer-requires
-answer-requires c κs = startable (held (c .before .before .before .before .before .before .load-plan .ensures) (c .before .before .n .given .1))
+answer-requires c κs = countable (held (c .before .before .before .before .before .before .load-plan .ensures) (c .before .before .n .given .1))
 
 clear-work-requires : tie.Need-clear-work-requires
 clear-work-requires c κs =
     let h = held (c .before .before .before .before .before .before .before .before .before .before .load-plan .ensures) (c .before .before .before .before .before .before .n .given .1) in
-    let same = c .before .before .before .answer .ensures .beyond .same-length in omega (arith, h .words)
+    let same = c .before .before .before .answer .ensures .within .same-length in omega (arith, h .words)
 
 enum-known-refusal : tie.Need-enum-known-refusal
 enum-known-refusal c = search needs

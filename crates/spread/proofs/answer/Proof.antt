@@ -1,14 +1,12 @@
--- The nodes are counted, and where the output has room for them the rule is spread. Assumes nothing.
+-- The rule is counted, and where the output has room for them the rule is spread. Assumes nothing.
 use borrow.Author.Needs.{needs}
-use mathlib.Core.Path.{sym, _∙_}
 use borrow.Author.Tests.{not-true, not-false}
-use Rattle.spread.proofs.Answers.{startable, refused, tasks-next, spreadable, spread-out}
-use native.Mathlib.Omega.{arith}
+use Rattle.spread.proofs.Answers.{countable, refused, tasks-next, spreadable, spread-out}
 use Rattle.spread.proofs.answer.Statement.{statement}
 use Rattle.spread.proofs.answer.Tie as tie
 
-total-requires : tie.Need-total-requires
-total-requires c κs = startable (c .before .before .before .pre)
+count-requires : tie.Need-count-requires
+count-requires c κs = countable (c .before .before .before .pre)
 
 fits-requires : tie.Need-fits-requires
 fits-requires c κs = search needs
@@ -18,15 +16,15 @@ same-length c = search needs
 
 returns : tie.Need-returns
 returns c =
-    refused (c .before .before .before .before .before .before .before .before .pre) (c .before .before .before .before .total .ensures) _ _ (sym (c .before .fits2 .ensures) ∙ not-true _ (c .if1 .taken))
+    refused (c .before .before .before .before .before .before .before .before .pre) (c .before .before .before .before .count .ensures) _ _ (c .before .fits2 .ensures) (not-true _ (c .if1 .taken))
 
 task-rows-requires : tie.Need-task-rows-requires
 task-rows-requires c κs =
-    tasks-next (c .before .before .before .before .before .before .before .before .before .pre) (c .before .before .before .before .before .total .ensures)
+    tasks-next (c .before .before .before .before .before .before .before .before .before .pre) (c .before .before .before .before .before .count .ensures)
 
 spread-rule-requires : tie.Need-spread-rule-requires
 spread-rule-requires c κs =
-    spreadable (c .before .before .before .before .before .before .before .before .before .before .before .before .before .before .pre) (c .before .before .before .before .before .before .before .before .before .before .total .ensures) _ _ (omega arith) (sym (c .before .before .before .before .before .before .before .fits2 .ensures) ∙ not-false _ (c .before .before .before .before .before .before .if1 .left))
+    spreadable (c .before .before .before .before .before .before .before .before .before .before .before .before .before .before .pre) (c .before .before .before .before .before .before .before .before .before .before .count .ensures) _ _ (c .before .before .before .before .before .before .before .fits2 .ensures) (not-false _ (c .before .before .before .before .before .before .if1 .left))
     (c .before .before .before .before .task-rows .ensures)
 
 same-length-2 : tie.Need-same-length-2
@@ -37,14 +35,14 @@ same-length-3 c = search needs
 
 returns-2 : tie.Need-returns-2
 returns-2 c =
-    spread-out (c .before .before .before .before .before .before .before .before .before .before .before .before .before .before .before .before .before .before .before .pre) (c .before .before .before .before .before .before .before .before .before .before .before .before .before .before .before .total .ensures) _ _ (omega arith) (sym (c .before .before .before .before .before .before .before .before .before .before .before .before .fits2 .ensures) ∙ not-false _ (c .before .before .before .before .before .before .before .before .before .before .before .if1 .left))
+    spread-out (c .before .before .before .before .before .before .before .before .before .before .before .before .before .before .before .before .before .before .before .pre) (c .before .before .before .before .before .before .before .before .before .before .before .before .before .before .before .count .ensures) _ _ (c .before .before .before .before .before .before .before .before .before .before .before .before .fits2 .ensures) (not-false _ (c .before .before .before .before .before .before .before .before .before .before .before .if1 .left))
     (c .before .before .before .before .before .before .before .before .before .task-rows .ensures) (c .before .before .before .before .spread-rule .ensures)
 
 pub answer-spec : {M : Type 1} → statement M
 answer-spec =
     tie.close
     (tie.spec
-    total-requires
+    count-requires
     fits-requires
     same-length
     returns

@@ -1,2 +1,0 @@
-pub mod ByRule
-pub mod Found
