@@ -1,5 +1,6 @@
 // A letter, and the letter of a byte (document 01, "Letters").
 ghost use mathlib.Core.Path.{_≡_};
+ghost use Prim.Native.Nat.{_≤_, _<_};
 ghost use Rattle.forest.specs.Letter.{letterOf};
 ghost use Rattle.letter.specs.Letter.{readAs};
 
@@ -29,19 +30,63 @@ pub enum Read {
     Other,
 }
 
-// The letter of a byte.
+// The letter of a byte, by comparisons: a `match` becomes a jump through a table.
 pub fn letter_of(b: u8) -> Read
     ensures { λ r. ⌜ readAs r ≡ letterOf b ⌝ }
 {
-    match b {
-        b'a' => Read::Move(Letter::A),
-        b'z' => Read::Move(Letter::Z),
-        b'f' => Read::Move(Letter::F),
-        b'l' => Read::Move(Letter::L),
-        b'n' => Read::Move(Letter::N),
-        b'p' => Read::Move(Letter::P),
-        b'u' => Read::Move(Letter::U),
-        b's' => Read::Move(Letter::S),
-        _ => Read::Other,
+    if b == b's' {
+        return Read::Move(Letter::S);
     }
+    if b < b'l' {
+        return low_letter(b);
+    }
+    if b < b'p' {
+        return middle_letter(b);
+    }
+    high_letter(b)
+}
+
+// The letter of a byte below l.
+fn low_letter(b: u8) -> Read
+    requires { ⌜ b < 108 ⌝ }
+    ensures { λ r. ⌜ readAs r ≡ letterOf b ⌝ }
+{
+    if b == b'a' {
+        return Read::Move(Letter::A);
+    }
+    if b == b'f' {
+        return Read::Move(Letter::F);
+    }
+    Read::Other
+}
+
+// The letter of a byte from l on and below p.
+fn middle_letter(b: u8) -> Read
+    requires { ⌜ (108 ≤ b) × (b < 112) ⌝ }
+    ensures { λ r. ⌜ readAs r ≡ letterOf b ⌝ }
+{
+    if b == b'l' {
+        return Read::Move(Letter::L);
+    }
+    if b == b'n' {
+        return Read::Move(Letter::N);
+    }
+    Read::Other
+}
+
+// The letter of a byte from p on, which isn't s.
+fn high_letter(b: u8) -> Read
+    requires { ⌜ (112 ≤ b) × (b ≡ 115 → ⊥) ⌝ }
+    ensures { λ r. ⌜ readAs r ≡ letterOf b ⌝ }
+{
+    if b == b'p' {
+        return Read::Move(Letter::P);
+    }
+    if b == b'u' {
+        return Read::Move(Letter::U);
+    }
+    if b == b'z' {
+        return Read::Move(Letter::Z);
+    }
+    Read::Other
 }

@@ -132,6 +132,9 @@ module _ {r : ℕ} {t s : List ℕ} {k p : ℕ} (S : Stands r t s k p) where
   unfolding moved answer answerWord
   stepped-nowhere l e = record { node = rw e; answered = rw e; stays = λ q. refl; within = within-none cellLength (placeLength (rowCount t)) s }
 
+  pub stepped-kept : (l : Letter) {x : Landing} → x ≡ record { at = record { used = k; rule = p }; answer = nowhere } → move (factsIn t) r l (p, cellsIn s k) ≡ none → Stepped r t l k p s s x
+  stepped-kept l e q = rw e (stepped-nowhere l q)
+
   -- and where it stands
   pub stands-after : (l : Letter) {s′ : List ℕ} {x : Landing} → Stepped r t l k p s s′ x → Stands r t s′ (x .at .used) (x .at .rule)
   stands-after l {s′} {x} z =

@@ -33,7 +33,12 @@ pub fn run(
         };
         let landing = letter_step::step(rows, cursor, at, r, letter);
         words::write32(answers, Letter::ANSWER_LENGTH * i, landing.answer);
-        at = landing.at;
+        // By its fields: a copy of the struct would carry the unused bytes between them from letter to letter.
+        let next = landing.at;
+        at = Standing {
+            used: next.used,
+            rule: next.rule,
+        };
         i += 1;
     }
     at.used

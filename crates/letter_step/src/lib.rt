@@ -1,7 +1,6 @@
 // One letter from a place: the state of a walk, and a function for each letter (document 01, "Letters").
 use letter_arrival::Landing;
 use letter_arrival::Standing;
-use move_parts::Outcome;
 ghost use Rattle.letter.specs.Letter.{moveOf};
 ghost use Rattle.letter_moves.specs.Standing.{Stands, Stepped};
 ghost use Rattle.letter_step.specs.Landed.{landed};
@@ -18,11 +17,7 @@ fn first_root(rows: &[u8], cursor: &mut [u8], at: &mut Standing, r: u16) -> u32
         let cursor = now (cursor .entry) in
         ⌜ Stepped r rows (moveOf Letter.A) (at .used) (at .rule) cursor cursor′ (landed at′ x) ⌝ }
 {
-    let Outcome::Node(change) = letter_moves::to_first_root(rows, cursor, at.used, at.rule, r)
-    else {
-        return Letter::NOWHERE;
-    };
-    let landing = letter_arrival::arrive(rows, cursor, change);
+    let landing = letter_moves::to_first_root(rows, cursor, at.used, at.rule, r);
     *at = landing.at;
     landing.answer
 }
@@ -38,10 +33,7 @@ fn last_root(rows: &[u8], cursor: &mut [u8], at: &mut Standing, r: u16) -> u32
         let cursor = now (cursor .entry) in
         ⌜ Stepped r rows (moveOf Letter.Z) (at .used) (at .rule) cursor cursor′ (landed at′ x) ⌝ }
 {
-    let Outcome::Node(change) = letter_moves::to_last_root(rows, cursor, at.used, at.rule, r) else {
-        return Letter::NOWHERE;
-    };
-    let landing = letter_arrival::arrive(rows, cursor, change);
+    let landing = letter_moves::to_last_root(rows, cursor, at.used, at.rule, r);
     *at = landing.at;
     landing.answer
 }
@@ -57,11 +49,7 @@ fn first_child(rows: &[u8], cursor: &mut [u8], at: &mut Standing, r: u16) -> u32
         let cursor = now (cursor .entry) in
         ⌜ Stepped r rows (moveOf Letter.F) (at .used) (at .rule) cursor cursor′ (landed at′ x) ⌝ }
 {
-    let Outcome::Node(change) = letter_moves::to_first_child(rows, cursor, at.used, at.rule, r)
-    else {
-        return Letter::NOWHERE;
-    };
-    let landing = letter_arrival::arrive(rows, cursor, change);
+    let landing = letter_moves::to_first_child(rows, cursor, at.used, at.rule, r);
     *at = landing.at;
     landing.answer
 }
@@ -77,11 +65,7 @@ fn last_child(rows: &[u8], cursor: &mut [u8], at: &mut Standing, r: u16) -> u32
         let cursor = now (cursor .entry) in
         ⌜ Stepped r rows (moveOf Letter.L) (at .used) (at .rule) cursor cursor′ (landed at′ x) ⌝ }
 {
-    let Outcome::Node(change) = letter_moves::to_last_child(rows, cursor, at.used, at.rule, r)
-    else {
-        return Letter::NOWHERE;
-    };
-    let landing = letter_arrival::arrive(rows, cursor, change);
+    let landing = letter_moves::to_last_child(rows, cursor, at.used, at.rule, r);
     *at = landing.at;
     landing.answer
 }
@@ -97,11 +81,7 @@ fn next_sibling(rows: &[u8], cursor: &mut [u8], at: &mut Standing, r: u16) -> u3
         let cursor = now (cursor .entry) in
         ⌜ Stepped r rows (moveOf Letter.N) (at .used) (at .rule) cursor cursor′ (landed at′ x) ⌝ }
 {
-    let Outcome::Node(change) = letter_moves::to_next_sibling(rows, cursor, at.used, at.rule, r)
-    else {
-        return Letter::NOWHERE;
-    };
-    let landing = letter_arrival::arrive(rows, cursor, change);
+    let landing = letter_moves::to_next_sibling(rows, cursor, at.used, at.rule, r);
     *at = landing.at;
     landing.answer
 }
@@ -117,11 +97,7 @@ fn previous_sibling(rows: &[u8], cursor: &mut [u8], at: &mut Standing, r: u16) -
         let cursor = now (cursor .entry) in
         ⌜ Stepped r rows (moveOf Letter.P) (at .used) (at .rule) cursor cursor′ (landed at′ x) ⌝ }
 {
-    let Outcome::Node(change) = letter_moves::to_previous_sibling(rows, cursor, at.used, at.rule, r)
-    else {
-        return Letter::NOWHERE;
-    };
-    let landing = letter_arrival::arrive(rows, cursor, change);
+    let landing = letter_moves::to_previous_sibling(rows, cursor, at.used, at.rule, r);
     *at = landing.at;
     landing.answer
 }
@@ -137,10 +113,7 @@ fn parent(rows: &[u8], cursor: &mut [u8], at: &mut Standing, r: u16) -> u32
         let cursor = now (cursor .entry) in
         ⌜ Stepped r rows (moveOf Letter.U) (at .used) (at .rule) cursor cursor′ (landed at′ x) ⌝ }
 {
-    let Outcome::Node(change) = letter_moves::to_parent(rows, cursor, at.used, at.rule, r) else {
-        return Letter::NOWHERE;
-    };
-    let landing = letter_arrival::arrive(rows, cursor, change);
+    let landing = letter_moves::to_parent(rows, cursor, at.used, at.rule, r);
     *at = landing.at;
     landing.answer
 }
@@ -156,10 +129,7 @@ fn same(rows: &[u8], cursor: &mut [u8], at: &mut Standing, r: u16) -> u32
         let cursor = now (cursor .entry) in
         ⌜ Stepped r rows (moveOf Letter.S) (at .used) (at .rule) cursor cursor′ (landed at′ x) ⌝ }
 {
-    let Outcome::Node(change) = letter_moves::to_same(rows, cursor, at.used, at.rule, r) else {
-        return Letter::NOWHERE;
-    };
-    let landing = letter_arrival::arrive(rows, cursor, change);
+    let landing = letter_moves::to_same(rows, cursor, at.used, at.rule, r);
     *at = landing.at;
     landing.answer
 }

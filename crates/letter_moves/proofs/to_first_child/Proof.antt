@@ -1,17 +1,19 @@
 -- The child on the left. Assumes nothing.
 use Rattle.side.specs.Side.{sideOf}
-use Rattle.model.specs.Walk.{move}
 use Rattle.letter.specs.Letter.{moveOf}
-use Rattle.letter_moves.proofs.Stands.{held, at-rule}
+use borrow.Author.Needs.{needs}
 use Rattle.letter_moves.proofs.to_first_child.Statement.{statement}
 use Rattle.letter_moves.proofs.to_first_child.Tie as tie
 
 to-child-requires : tie.Need-to-child-requires
-to-child-requires c κs = let h = c .before .before .pre in (held h, at-rule h)
+to-child-requires c κs = search needs
+
+same-length : tie.Need-same-length
+same-length c = search needs
 
 returns : tie.Need-returns
-unfolding move moveOf sideOf
-returns c = c .to-child .ensures
+unfolding sideOf moveOf
+returns c = c .before .before .to-child .ensures
 
 pub to-first-child-spec : {M : Type 1} → statement M
-to-first-child-spec = tie.close (tie.spec to-child-requires returns)
+to-first-child-spec = tie.close (tie.spec to-child-requires same-length returns)

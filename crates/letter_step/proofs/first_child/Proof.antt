@@ -9,4 +9,4 @@ use Rattle.letter_step.proofs.first_child.Code as code
 
 pub first-child-spec : {M : Type 1} → statement M
 unfolding code.routine
-first-child-spec 𝓤 H 𝓜 𝓖 𝓡 = letter-meets Letter.F lead.name name code.env lead.routine 𝓤 H 𝓜 𝓖 𝓡 (code.unfolded 𝓤 H 𝓜 𝓡) code.calls-letter-arrival·arrive code.calls-letter-moves·to-first-child (met 𝓤 H 𝓜 𝓖 𝓡)
+first-child-spec 𝓤 H 𝓜 𝓖 𝓡 = letter-meets Letter.F lead.name name code.env lead.routine 𝓤 H 𝓜 𝓖 𝓡 (code.unfolded 𝓤 H 𝓜 𝓡) code.calls-letter-moves·to-first-child (met 𝓤 H 𝓜 𝓖 𝓡)

@@ -9,4 +9,4 @@ use Rattle.letter_step.proofs.first_root.Code as code
 
 pub first-root-spec : {M : Type 1} → statement M
 unfolding code.routine
-first-root-spec 𝓤 H 𝓜 𝓖 𝓡 = letter-meets Letter.A lead.name name code.env lead.routine 𝓤 H 𝓜 𝓖 𝓡 (code.unfolded 𝓤 H 𝓜 𝓡) code.calls-letter-arrival·arrive code.calls-letter-moves·to-first-root (met 𝓤 H 𝓜 𝓖 𝓡)
+first-root-spec 𝓤 H 𝓜 𝓖 𝓡 = letter-meets Letter.A lead.name name code.env lead.routine 𝓤 H 𝓜 𝓖 𝓡 (code.unfolded 𝓤 H 𝓜 𝓡) code.calls-letter-moves·to-first-root (met 𝓤 H 𝓜 𝓖 𝓡)

@@ -9,4 +9,4 @@ use Rattle.letter_step.proofs.last_child.Code as code
 
 pub last-child-spec : {M : Type 1} → statement M
 unfolding code.routine
-last-child-spec 𝓤 H 𝓜 𝓖 𝓡 = letter-meets Letter.L lead.name name code.env lead.routine 𝓤 H 𝓜 𝓖 𝓡 (code.unfolded 𝓤 H 𝓜 𝓡) code.calls-letter-arrival·arrive code.calls-letter-moves·to-last-child (met 𝓤 H 𝓜 𝓖 𝓡)
+last-child-spec 𝓤 H 𝓜 𝓖 𝓡 = letter-meets Letter.L lead.name name code.env lead.routine 𝓤 H 𝓜 𝓖 𝓡 (code.unfolded 𝓤 H 𝓜 𝓡) code.calls-letter-moves·to-last-child (met 𝓤 H 𝓜 𝓖 𝓡)

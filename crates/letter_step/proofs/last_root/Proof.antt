@@ -9,4 +9,4 @@ use Rattle.letter_step.proofs.last_root.Code as code
 
 pub last-root-spec : {M : Type 1} → statement M
 unfolding code.routine
-last-root-spec 𝓤 H 𝓜 𝓖 𝓡 = letter-meets Letter.Z lead.name name code.env lead.routine 𝓤 H 𝓜 𝓖 𝓡 (code.unfolded 𝓤 H 𝓜 𝓡) code.calls-letter-arrival·arrive code.calls-letter-moves·to-last-root (met 𝓤 H 𝓜 𝓖 𝓡)
+last-root-spec 𝓤 H 𝓜 𝓖 𝓡 = letter-meets Letter.Z lead.name name code.env lead.routine 𝓤 H 𝓜 𝓖 𝓡 (code.unfolded 𝓤 H 𝓜 𝓡) code.calls-letter-moves·to-last-root (met 𝓤 H 𝓜 𝓖 𝓡)

@@ -9,4 +9,4 @@ use Rattle.letter_step.proofs.next_sibling.Code as code
 
 pub next-sibling-spec : {M : Type 1} → statement M
 unfolding code.routine
-next-sibling-spec 𝓤 H 𝓜 𝓖 𝓡 = letter-meets Letter.N lead.name name code.env lead.routine 𝓤 H 𝓜 𝓖 𝓡 (code.unfolded 𝓤 H 𝓜 𝓡) code.calls-letter-arrival·arrive code.calls-letter-moves·to-next-sibling (met 𝓤 H 𝓜 𝓖 𝓡)
+next-sibling-spec 𝓤 H 𝓜 𝓖 𝓡 = letter-meets Letter.N lead.name name code.env lead.routine 𝓤 H 𝓜 𝓖 𝓡 (code.unfolded 𝓤 H 𝓜 𝓡) code.calls-letter-moves·to-next-sibling (met 𝓤 H 𝓜 𝓖 𝓡)

@@ -9,4 +9,4 @@ use Rattle.letter_step.proofs.parent.Code as code
 
 pub parent-spec : {M : Type 1} → statement M
 unfolding code.routine
-parent-spec 𝓤 H 𝓜 𝓖 𝓡 = letter-meets Letter.U lead.name name code.env lead.routine 𝓤 H 𝓜 𝓖 𝓡 (code.unfolded 𝓤 H 𝓜 𝓡) code.calls-letter-arrival·arrive code.calls-letter-moves·to-parent (met 𝓤 H 𝓜 𝓖 𝓡)
+parent-spec 𝓤 H 𝓜 𝓖 𝓡 = letter-meets Letter.U lead.name name code.env lead.routine 𝓤 H 𝓜 𝓖 𝓡 (code.unfolded 𝓤 H 𝓜 𝓡) code.calls-letter-moves·to-parent (met 𝓤 H 𝓜 𝓖 𝓡)

@@ -9,4 +9,4 @@ use Rattle.letter_step.proofs.previous_sibling.Code as code
 
 pub previous-sibling-spec : {M : Type 1} → statement M
 unfolding code.routine
-previous-sibling-spec 𝓤 H 𝓜 𝓖 𝓡 = letter-meets Letter.P lead.name name code.env lead.routine 𝓤 H 𝓜 𝓖 𝓡 (code.unfolded 𝓤 H 𝓜 𝓡) code.calls-letter-arrival·arrive code.calls-letter-moves·to-previous-sibling (met 𝓤 H 𝓜 𝓖 𝓡)
+previous-sibling-spec 𝓤 H 𝓜 𝓖 𝓡 = letter-meets Letter.P lead.name name code.env lead.routine 𝓤 H 𝓜 𝓖 𝓡 (code.unfolded 𝓤 H 𝓜 𝓡) code.calls-letter-moves·to-previous-sibling (met 𝓤 H 𝓜 𝓖 𝓡)

@@ -9,4 +9,4 @@ use Rattle.letter_step.proofs.same.Code as code
 
 pub same-spec : {M : Type 1} → statement M
 unfolding code.routine
-same-spec 𝓤 H 𝓜 𝓖 𝓡 = letter-meets Letter.S lead.name name code.env lead.routine 𝓤 H 𝓜 𝓖 𝓡 (code.unfolded 𝓤 H 𝓜 𝓡) code.calls-letter-arrival·arrive code.calls-letter-moves·to-same (met 𝓤 H 𝓜 𝓖 𝓡)
+same-spec 𝓤 H 𝓜 𝓖 𝓡 = letter-meets Letter.S lead.name name code.env lead.routine 𝓤 H 𝓜 𝓖 𝓡 (code.unfolded 𝓤 H 𝓜 𝓡) code.calls-letter-moves·to-same (met 𝓤 H 𝓜 𝓖 𝓡)
