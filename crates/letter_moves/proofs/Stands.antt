@@ -20,7 +20,9 @@ use Rattle.letter_arrival.specs.declared.Landing.{Landing}
 use Rattle.facts.specs.Closes.{Closes}
 use Rattle.move_parts.specs.Moves.{Held, Kept, Node-has, Each, Fits}
 use Rattle.place_cells.specs.Cells.{Lies, placeLength}
-use Rattle.letter_arrival.specs.Arrived.{Fitting, Arrived}
+use Rattle.move_parts.specs.declared.Change.{Change}
+use Rattle.move_parts.specs.Change.{changeNode, Able}
+use Rattle.letter_arrival.specs.Arrived.{Fitting, Arriving, Arrived}
 use Rattle.place_cells.proofs.Stack.{cells-none, cells-top}
 use Rattle.place_cells.proofs.Writes.{length-cells}
 use Rattle.move_parts.proofs.Kept.{child-kept, sibling-kept, parent-kept, root-kept}
@@ -126,6 +128,10 @@ module _ {r : ℕ} {t s : List ℕ} {k p : ℕ} (S : Stands r t s k p) where
           stays = λ q. absurd (Option·none-ne-some x (sym q ∙ e));
           within = within-wider cellLength (placeLength (rowCount t)) (omega arith) (few (S .rows) x valid-node) (z .wrote .within);
         }
+
+  -- what the writing of its change asks
+  pub arriving : (l : Letter) {x : Change} → move (factsIn t) r l (p, cellsIn s k) ≡ some (changeNode (factsIn t) l x s) → Able t s l x → Arriving t s l x
+  arriving l e a = record { rows = rows-held (S .rows); able = a; fits = move-fitting l e }
 
   -- one that leads nowhere leaves the place
   pub stepped-nowhere : (l : Letter) → move (factsIn t) r l (p, cellsIn s k) ≡ none → Stepped r t l k p s s (record { at = record { used = k; rule = p }; answer = nowhere })

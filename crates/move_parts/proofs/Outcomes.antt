@@ -2,44 +2,76 @@
 -- Assumes nothing.
 use Prim.Native.Nat.{ℕ, zero, suc, _-_, _≤_, _<_}
 use native.Mathlib.Omega.{arith}
-use mathlib.Core.Path.{_≡_, refl, sym, ap, _∙_}
+use mathlib.Core.Path.{_≡_, refl, sym, ap, subst, _∙_}
 use mathlib.Core.Bool.{true, false, not, _&&_}
 use mathlib.Core.List.{List, _∷_}
 use mathlib.Core.Option.{Option, none, some, Option·map}
 use lib.Dec.{eqb}
 use borrow.Author.Tests.{eq-eqb, ne-eqb}
-use Rattle.forest.specs.Place.{Cells, Side, cellRow, cellSpine, cellRun}
+use Rattle.forest.proofs.Cases.{by-bool}
+use Rattle.forest.specs.Place.{Cells, Side, cellRow, cellSpine, cellRun, other}
+use Rattle.forest.specs.Letter.{Letter}
 use Rattle.forest.specs.Position.{orElse}
 use Rattle.forest.specs.Walk.{cellAt, cellsIn}
 use Rattle.model.specs.Facts.{Facts}
-use Rattle.model.specs.Model.{Node, outer, innerOf, standing, tail, popRun, besideTop, beside, opened, enter, continuing, inward, under, partAt, isPart, outward, belowRow, nodeAt, parent}
+use Rattle.model.specs.Model.{Node, outer, innerOf, standing, tail, popRun, run, besideTop, beside, opened, enter, continuing, inward, under, partAt, isPart, outward, belowRow, nodeAt, parent}
 use Rattle.model.specs.Neighbour.{isNil, numberOf}
 use Rattle.model.proofs.Cells.{topKind}
-use Rattle.place_cells.specs.declared.Stem.{Stem}
-use Rattle.place_cells.specs.declared.Change.{Change}
 use Rattle.move_parts.specs.declared.Reach.{Reach}
+use Rattle.move_parts.specs.declared.Change.{Change}
 use Rattle.move_parts.specs.declared.Outcome.{Outcome}
+use Rattle.facts.specs.Facts.{In, factsIn}
 use Rattle.place_cells.specs.Cells.{cell, runCell}
-use Rattle.place_cells.specs.Changes.{add, stemNode, changeNode}
-use Rattle.move_parts.specs.Moves.{reached, outcome}
+use Rattle.place_cells.specs.Changes.{add}
+use Rattle.move_parts.specs.Moves.{Turning}
+use Rattle.move_parts.specs.Change.{turnedAt, entered, spineSide, entrySide, changeNode, outcome, Able, AbleChild, AbleSibling, AbleTo, Decided, rowOutcome, reached, Turned, Reached}
 use Rattle.place_cells.proofs.Stack.{cells-none, cells-top, add-some, run-begins}
 
 -- what an answer of the code says
-pub found : {r : Reach} {x : Stem} {y : Option Node} (s : List ℕ) → reached r s ≡ y → r ≡ Reach.Part x → y ≡ some (stemNode x s)
-unfolding reached
-found s e q = sym e ∙ ap (λ (z : Reach). reached z s) q
+module _ {t s : List ℕ} {r : Reach} {y : Option Node} (h : Reached t s r y) where
+  pub found-turn : {k v : ℕ} → r ≡ Reach.Turn k v → (y ≡ some (turnedAt (factsIn t) Side.left v (cellsIn s k))) × Turning t s k Side.left v
+  unfolding reached Turned
+  found-turn q = (sym (h .node) ∙ ap (λ (z : Reach). reached (factsIn t) z s) q, subst (Turned t s) q (h .turned))
 
-pub found-none : {r : Reach} {y : Option Node} (s : List ℕ) → reached r s ≡ y → r ≡ Reach.Off → y ≡ none
-unfolding reached
-found-none s e q = sym e ∙ ap (λ (z : Reach). reached z s) q
+  pub found-kept : {k a : ℕ} → r ≡ Reach.Kept k a → y ≡ some (a, cellsIn s k)
+  unfolding reached
+  found-kept q = sym (h .node) ∙ ap (λ (z : Reach). reached (factsIn t) z s) q
 
-pub took : {r : Outcome} {x : Change} {y : Option Node} (s : List ℕ) → outcome r s ≡ y → r ≡ Outcome.Node x → y ≡ some (changeNode x s)
-unfolding outcome
-took s e q = sym e ∙ ap (λ (z : Outcome). outcome z s) q
+  pub found-none : r ≡ Reach.Off → y ≡ none
+  unfolding reached
+  found-none q = sym (h .node) ∙ ap (λ (z : Reach). reached (factsIn t) z s) q
 
-pub took-none : {r : Outcome} {y : Option Node} (s : List ℕ) → outcome r s ≡ y → r ≡ Outcome.Nowhere → y ≡ none
-unfolding outcome
-took-none s e q = sym e ∙ ap (λ (z : Outcome). outcome z s) q
+module _ {t s : List ℕ} {l : Letter} {r : Outcome} {y : Option Node} (h : Decided t s l r y) where
+  pub took : {x : Change} → r ≡ Outcome.Node x → (y ≡ some (changeNode (factsIn t) l x s)) × Able t s l x
+  unfolding outcome AbleTo
+  took q = (sym (h .node) ∙ ap (λ (z : Outcome). outcome (factsIn t) l z s) q, subst (AbleTo t s l) q (h .able))
+
+  pub took-none : r ≡ Outcome.Nowhere → y ≡ none
+  unfolding outcome
+  took-none q = sym (h .node) ∙ ap (λ (z : Outcome). outcome (factsIn t) l z s) q
+
+-- a decision to a node, and to nowhere
+pub decided : {t s : List ℕ} {l : Letter} (x : Change) {y : Option Node} → some (changeNode (factsIn t) l x s) ≡ y → Able t s l x → Decided t s l (Outcome.Node x) y
+unfolding outcome AbleTo
+decided x e a = record { node = e; able = a }
+
+pub decided-none : {t s : List ℕ} {l : Letter} {y : Option Node} → none ≡ y → Decided t s l Outcome.Nowhere y
+unfolding outcome AbleTo
+decided-none e = record { node = e; able = tt }
+
+pub decided-is : {t s : List ℕ} {l : Letter} {r r′ : Outcome} {y y′ : Option Node} → r ≡ r′ → y ≡ y′ → Decided t s l r′ y → Decided t s l r y′
+decided-is {t} {s} {l} e q h = rw (e, sym q) h
+
+-- what leads down leads on from a sibling too, whose row is entered from the other side
+pub down-beside : {t s : List ℕ} (d : Side) (r : Outcome) {y : Option Node} → Decided t s (Letter.child (other d)) r y → Decided t s (Letter.sibling d) r y
+unfolding outcome AbleTo Able AbleChild AbleSibling changeNode spineSide entrySide
+down-beside d Outcome.Nowhere h = decided-none (h .node)
+down-beside d (Outcome.Node (Change.Kept k a)) h = absurd (h .able)
+down-beside d (Outcome.Node (Change.Turn k v)) h = record { node = h .node; able = h .able }
+down-beside d (Outcome.Node (Change.Tree k v)) h = absurd (h .able)
+down-beside d (Outcome.Node (Change.Beside k v n o)) h = absurd (h .able)
+down-beside d (Outcome.Node (Change.Row k n o)) h = record { node = h .node; able = h .able }
+down-beside d (Outcome.Node (Change.Spine k a)) h = record { node = h .node; able = h .able }
 
 -- one of two answers
 pub else-some : {x : Option Node} {y : Node} (z : Option Node) → x ≡ some y → orElse x z ≡ some y
@@ -82,18 +114,19 @@ module _ (F : Facts) where
       (ap (add (runCell F Side.left (outer F a))) (add-some (cell (cellSpine, a, 0, 0)) cs refl)
       ∙ run-begins F Side.left (outer F a) ((cellSpine, a, 0, 0) ∷ cs) (spine-no-run Side.left))
 
+  -- the run across a row that is opened
+  pub row-run : (s : Side) (d v : ℕ) (cs : Cells) → add (runCell F s v) (add (cell (cellRow, d, v, 0)) cs) ≡ run F s v ((cellRow, d, v, 0) ∷ cs)
+  unfolding topKind
+  row-run s d v cs = ap (add (runCell F s v)) (add-some (cell (cellRow, d, v, 0)) cs refl) ∙ run-begins F s v ((cellRow, d, v, 0) ∷ cs) (row-no-run s)
+
   module _ (s : Side) (d a : ℕ) (cs : Cells) where
     pub enter-empty : F .isEmpty a ≡ true → enter F s d a cs ≡ none
     unfolding enter
     enter-empty e = rw e
 
-    pub enter-cells : F .isEmpty a ≡ false → let r = F .representative a in
-        enter F s d a cs ≡ some (opened F (F .last s r) (add (runCell F s r) (add (cell (cellRow, d, r, 0)) cs)))
-    unfolding enter topKind
-    enter-cells e =
-        let r = F .representative a in
-        rw e (ap (λ (l : Cells). some (opened F (F .last s r) l))
-        (sym (ap (add (runCell F s r)) (add-some (cell (cellRow, d, r, 0)) cs refl) ∙ run-begins F s r ((cellRow, d, r, 0) ∷ cs) (row-no-run s))))
+    pub enter-some : F .isEmpty a ≡ false → enter F s d a cs ≡ some (entered F s d (F .representative a) cs)
+    unfolding enter entered
+    enter-some e = rw e
 
   pub inward-part : (cs : Cells) {x : Node} → besideTop F Side.right (popRun Side.right cs) ≡ some x → inward F cs ≡ some x
   unfolding inward beside orElse
@@ -149,3 +182,23 @@ module _ (F : Facts) where
     pub node-here : 0 < k → nodeAt F (cellsIn s k) ≡ some (standing F (cellsIn s k), cellsIn s k)
     unfolding nodeAt
     node-here h = rw (cells-top s k h)
+
+-- a rule's row entered, and that it is a decision of each letter that may enter one
+module _ (F : Facts) (k n a : ℕ) where
+  pub row-empty : F .isEmpty a ≡ true → rowOutcome F k n a ≡ Outcome.Nowhere
+  unfolding rowOutcome
+  row-empty e = rw e
+
+  pub row-some : F .isEmpty a ≡ false → rowOutcome F k n a ≡ Outcome.Node (Change.Row k n (F .representative a))
+  unfolding rowOutcome
+  row-some e = rw e
+
+module _ {t s : List ℕ} {l : Letter} (k n a : ℕ) where
+  pub row-decided : ((o : ℕ) → In t o → Able t s l (Change.Row k n o)) → In t (factsIn t .representative a)
+      → Decided t s l (rowOutcome (factsIn t) k n a) (enter (factsIn t) (entrySide l) n a (cellsIn s k))
+  unfolding changeNode
+  row-decided able within =
+      let F = factsIn t in
+      by-bool (F .isEmpty a)
+      (λ u. rw (row-empty F k n a u) (decided-none (sym (enter-empty F (entrySide l) n a (cellsIn s k) u))))
+      (λ u. rw (row-some F k n a u) (decided (Change.Row k n (F .representative a)) (sym (enter-some F (entrySide l) n a (cellsIn s k) u)) (able (F .representative a) within)))

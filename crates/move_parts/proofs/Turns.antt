@@ -16,7 +16,8 @@ use Rattle.place_cells.specs.declared.Cell.{Cell as Words}
 use Rattle.facts.specs.Facts.{factsIn}
 use Rattle.place_cells.specs.Cells.{cell, runCell}
 use Rattle.place_cells.specs.Changes.{add}
-use Rattle.move_parts.specs.Moves.{aboveTop}
+use Rattle.move_parts.specs.Moves.{aboveTop, Turning}
+use Rattle.move_parts.specs.Change.{turnedAt}
 use Rattle.place_cells.proofs.Stack.{cells-none, cells-top, add-some, add-run, run-some, apart-back, step-kind, run-begins, above-first}
 
 -- a cell of a known form in its own words
@@ -91,3 +92,7 @@ unfolding turned
 turned-cells F d v cs =
     let to = F .toward d v in
     ap (λ (l : Cells). let n : Node = (F .last (other d) to, l) in n) (run-begins F (other d) to (step d v to cs) (step-kind d v to cs))
+
+-- a run that turns leads beside
+pub turning-beside : {t s : List ℕ} {k : ℕ} {d : Side} {v : ℕ} → Turning t s k d v → besideTop (factsIn t) d (cellsIn s k) ≡ some′ (turnedAt (factsIn t) d v (cellsIn s k))
+turning-beside {t} {s} {k} {d} {v} h = rw (h .1) (beside-turns t s k d (h .0 .some) (h .0 .kind))

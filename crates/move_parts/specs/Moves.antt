@@ -5,22 +5,11 @@ use mathlib.Core.List.{List, [], _∷_}
 use mathlib.Core.Option.{Option, none, some}
 use Rattle.forest.specs.Place.{Cell, Cells, Side, cellRow, cellRun, other}
 use Rattle.forest.specs.Walk.{cellAt, cellsIn}
-use Rattle.model.specs.Model.{Node, oneAbove}
+use Rattle.model.specs.Model.{Node, oneAbove, besideTop}
 use Rattle.facts.specs.Facts.{In, factsIn, Climbs}
 use Rattle.facts.specs.Closes.{Closes}
 use Rattle.place_cells.specs.Cells.{Lies}
-use Rattle.place_cells.specs.Changes.{stemNode, changeNode}
-use Rattle.move_parts.specs.declared.Reach.{Reach}
-use Rattle.move_parts.specs.declared.Outcome.{Outcome}
-
--- the node that is reached, as the model has it
-unfoldable pub reached : Reach → List ℕ → Option Node
-reached (Reach.Part x) s = some (stemNode x s)
-reached Reach.Off s = none
-
-unfoldable pub outcome : Outcome → List ℕ → Option Node
-outcome (Outcome.Node x) s = some (changeNode x s)
-outcome Outcome.Nowhere s = none
+use Rattle.move_parts.specs.declared.Above.{Above}
 
 -- P holds of every cell
 unfoldable pub Each : (Cell → Type 0) → Cells → Type 0
@@ -57,3 +46,12 @@ pub record Turns (t s : List ℕ) (k : ℕ) (side : Side) : Type 0 where
   pub held : Held t s k
   pub some : 0 < k
   pub kind : (cellAt s k) .0 ≡ cellRun (other side)
+
+-- and v is the rule above its last
+abbrev pub Turning : List ℕ → List ℕ → ℕ → Side → ℕ → Type 0
+Turning t s k side v = Turns t s k side × (v ≡ aboveTop t s k side)
+
+-- what lies beside on a side, where no run to that side is on top: the run on top turns at the rule above its last, or nothing does
+pub record Turnable (t s : List ℕ) (k : ℕ) (side : Side) (r : Above) : Type 0 where
+  pub turns : (v : ℕ) → r ≡ Above.Rule v → Turning t s k side v
+  pub off : r ≡ Above.Off → besideTop (factsIn t) side (cellsIn s k) ≡ none

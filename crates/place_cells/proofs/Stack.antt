@@ -3,6 +3,7 @@
 -- Assumes nothing.
 use Prim.Native.Nat.{ℕ, zero, suc, _+_, _-_, _≤_, _<_}
 use native.Mathlib.Omega.{arith}
+use native.Mathlib.Decide.{decLt}
 use mathlib.Core.Path.{_≡_, refl, sym, ap, _∙_}
 use mathlib.Core.Bool.{true, false}
 use mathlib.Core.List.{List, [], _∷_}
@@ -93,14 +94,21 @@ above-first F s a b h =
 
 -- a step onto cells 1 to k
 module _ (s : List ℕ) (k : ℕ) where
-  pub begins-none : (d : Side) (a b : ℕ) → k ≡ 0 → add (cell (cellRun d, a, b, 0)) (cellsIn s k) ≡ step d a b (cellsIn s k)
+  begins-none : (d : Side) (a b : ℕ) → k ≡ 0 → add (cell (cellRun d, a, b, 0)) (cellsIn s k) ≡ step d a b (cellsIn s k)
   unfolding topKind step
   begins-none d a b e = rw (cells-none s k e) (add-run d a b [])
 
-  pub begins-other : (d : Side) (a b : ℕ) → 0 < k → ((cellAt s k) .0 ≡ cellRun d → ⊥) → add (cell (cellRun d, a, b, 0)) (cellsIn s k) ≡ step d a b (cellsIn s k)
+  begins-other : (d : Side) (a b : ℕ) → 0 < k → ((cellAt s k) .0 ≡ cellRun d → ⊥) → add (cell (cellRun d, a, b, 0)) (cellsIn s k) ≡ step d a b (cellsIn s k)
   unfolding topKind
   begins-other d a b h e =
       rw (cells-top s k h) (add-run d a b (cellAt s k ∷ cellsIn s (k - 1)) ∙ sym (step-begins d a b (cellAt s k ∷ cellsIn s (k - 1)) (ne-eqb _ _ e)))
+
+  pub begins : (d : Side) (a b : ℕ) → (0 < k → (cellAt s k) .0 ≡ cellRun d → ⊥) → add (cell (cellRun d, a, b, 0)) (cellsIn s k) ≡ step d a b (cellsIn s k)
+  begins d a b e =
+      elim (decLt 0 k) as (λ (z : Dec (0 < k)). add (cell (cellRun d, a, b, 0)) (cellsIn s k) ≡ step d a b (cellsIn s k)) [
+        | yes more ↦ begins-other d a b more (e more)
+        | no none ↦ begins-none d a b (omega arith)
+      ]
 
   pub grows-top : (d : Side) (a b : ℕ) → 0 < k → (cellAt s k) .0 ≡ cellRun d
       → add (cell ((cellAt s k) .0, (cellAt s k) .1, b, (cellAt s k) .3)) (cellsIn s (k - 1)) ≡ step d a b (cellsIn s k)

@@ -1,9 +1,10 @@
 -- Cells in bytes: a cell that is written is read back, and the cells before it stay; so cells that are pushed one after the
 -- other stand there all.
 -- Assumes nothing.
-use Prim.Native.Nat.{ℕ, zero, suc, _+_, _*_, _^_, _≤_, _<_}
+use Prim.Native.Nat.{ℕ, zero, suc, _+_, _-_, _*_, _^_, _≤_, _<_}
 use native.Mathlib.Omega.{arith}
-use mathlib.Core.Path.{_≡_, refl, sym, ap, _∙_}
+use mathlib.Core.Path.{_≡_, refl, sym, ap, subst, _∙_}
+use mathlib.Core.Bool.{false}
 use mathlib.Core.List.{List, _∷_}
 use lib.ListN.{length}
 use lib.Dec.{eqb}
@@ -17,10 +18,9 @@ use Rattle.forest.specs.Place.{Cells}
 use Rattle.forest.specs.Walk.{cellLength, cellAt, cellsIn}
 use Rattle.forest.proofs.Cases.{by-bool}
 use Rattle.place_cells.specs.declared.Cell.{Cell as Words}
-use Rattle.place_cells.specs.declared.Stem.{Stem}
-use Rattle.place_cells.specs.declared.Change.{Change}
 use Rattle.place_cells.specs.Cells.{words, putCell}
-use Rattle.place_cells.specs.Changes.{add, stepCells, stemCells, changed, Wrote, high, stemHigh, changeHigh}
+use Rattle.place_cells.specs.Changes.{add, Wrote, Put, high}
+use Rattle.place_cells.proofs.Stack.{add-some}
 
 -- a cell that lies before what has changed, and cells 1 to k
 word-before : {a e : ℕ} {s t : List ℕ} → Within a e s t → (at : ℕ) → at + 2 ≤ a → number 2 t at ≡ number 2 s at
@@ -134,23 +134,9 @@ pub high-grows : (c : Words) (k : ℕ) → k ≤ high c k
 unfolding high
 high-grows c k = by-bool (eqb (c .kind) 0) (λ u. rw u (omega arith)) (λ u. rw u (omega arith))
 
-pub length-stem : (x : Stem) (s : List ℕ) → length (stemCells x s) ≡ stemHigh x
-unfolding stemCells stepCells stemHigh
-length-stem x s =
-    length-add (x .back) (add (x .step) (add (x .short) (cellsIn s (x .keep))))
-    ∙ ap (high (x .back)) (length-add (x .step) (add (x .short) (cellsIn s (x .keep)))
-    ∙ ap (high (x .step)) (length-add (x .short) (cellsIn s (x .keep))
-    ∙ ap (high (x .short)) (length-cells s (x .keep))))
-
-pub length-change : (x : Change) (s : List ℕ) → length (changed x s) ≡ changeHigh x
-unfolding changed changeHigh
-length-change x s =
-    let stem = stemCells (x .stem) s in
-    length-add (x .down) (add (x .spine) (add (x .across) (add (x .row) stem)))
-    ∙ ap (high (x .down)) (length-add (x .spine) (add (x .across) (add (x .row) stem))
-    ∙ ap (high (x .spine)) (length-add (x .across) (add (x .row) stem)
-    ∙ ap (high (x .across)) (length-add (x .row) stem
-    ∙ ap (high (x .row)) (length-stem (x .stem) s))))
+pub high-most : (c : Words) (k : ℕ) → high c k ≤ k + 1
+unfolding high
+high-most c k = by-bool (eqb (c .kind) 0) (λ u. rw u (omega arith)) (λ u. rw u (omega arith))
 
 -- cells that stand already, one cell more, and one cell more after others
 pub wrote-none : (s : List ℕ) (k : ℕ) → Wrote (cellsIn s k) s s
@@ -177,12 +163,20 @@ wrote-then c {cs} {k} {s} {t} {u} p e q =
       within = within-both (within-wider cellLength (cellLength * (length (add c cs) + 1)) (omega arith) (omega arith) (p .within)) (r .within);
     }
 
--- cells 1 to k are cs, and only they have changed
-abbrev pub Stands : Cells → List ℕ → List ℕ → ℕ → Type 0
-Stands cs s t k = (k ≡ length cs) × Wrote cs s t
+-- the cell on top written over
+pub put-top : (s : List ℕ) (k : ℕ) (c : Words) → 0 < k → cellLength * (k + 1) ≤ length s → Small c → eqb (c .kind) 0 ≡ false
+    → Put (add c (cellsIn s (k - 1))) s (putCell s k c) k
+put-top s k c some fits small is =
+    let e : k - 1 + 1 ≡ k = omega arith in
+    let w : Wrote (words c ∷ cellsIn s (k - 1)) s (putCell s k c) = rw e at (wrote-one s (k - 1) c (omega arith) small) in
+    let n : length (cellsIn s (k - 1)) ≡ k - 1 = length-cells s (k - 1) in
+    rw (add-some c (cellsIn s (k - 1)) is) (omega arith, w)
 
-pub stands-none : (s : List ℕ) (k : ℕ) → Stands (cellsIn s k) s s k
-stands-none s k = (sym (length-cells s k), wrote-none s k)
+pub put-none : (s : List ℕ) (k : ℕ) → Put (cellsIn s k) s s k
+put-none s k = (sym (length-cells s k), wrote-none s k)
 
-pub stands-more : (c : Words) {cs : Cells} {k r : ℕ} {s t u : List ℕ} → Stands cs s t k → (r ≡ high c k) × Wrote (add c (cellsIn t k)) t u → Stands (add c cs) s u r
-stands-more c {cs} p q = (q .0 ∙ ap (high c) (p .0) ∙ sym (length-add c cs), wrote-then c (p .1) (p .0) (q .1))
+pub put-more : (c : Words) {cs : Cells} {k r : ℕ} {s t u : List ℕ} → Put cs s t k → (r ≡ high c k) × Wrote (add c (cellsIn t k)) t u → Put (add c cs) s u r
+put-more c {cs} p q = (q .0 ∙ ap (high c) (p .0) ∙ sym (length-add c cs), wrote-then c (p .1) (p .0) (q .1))
+
+pub put-as : {cs cs′ : Cells} {s t : List ℕ} {k : ℕ} → cs ≡ cs′ → Put cs s t k → Put cs′ s t k
+put-as {s = s} {t = t} {k = k} e p = subst (λ (l : Cells). Put l s t k) e p

@@ -3,13 +3,14 @@ ghost use mathlib.Core.Path.{_≡_};
 ghost use Prim.Native.Nat.{ℕ, _+_, _*_, _≤_};
 ghost use mathlib.Core.List.{List};
 ghost use lib.ListN.{length};
-ghost use Rattle.forest.specs.Place.{cellRow, cellSpine, cellRun, rowOfPart, step};
+ghost use Rattle.words.specs.Number.{put};
+ghost use Rattle.record.specs.Record.{wordLength};
+ghost use Rattle.forest.specs.Place.{cellRow, cellSpine, cellRun, rowOfPart};
 ghost use Rattle.forest.specs.Walk.{cellLength, cellAt, cellsIn};
 ghost use Rattle.model.specs.Model.{tail, popRun, under, belowRow};
 ghost use Rattle.side.specs.Side.{sideOf};
 ghost use Rattle.place_cells.specs.Cells.{cell, putCell, noCell, Lies};
-ghost use Rattle.place_cells.specs.Changes.{add, stepCells, stemCells, changed, stemNode, changeNode, high, stemHigh};
-ghost use Rattle.place_cells.specs.Changes.{changeHigh, Wrote};
+ghost use Rattle.place_cells.specs.Changes.{add, high, Wrote};
 use side::Side;
 
 // The four 16-bit words of a cell.
@@ -18,25 +19,6 @@ pub struct Cell {
     pub one: u16,
     pub two: u16,
     pub three: u16,
-}
-
-// Cells kept, then a turn: a run one step shorter, a step, and a run back; a cell of kind 0 is none. The rule is the one reached.
-pub struct Stem {
-    pub keep: usize,
-    pub short: Cell,
-    pub step: Cell,
-    pub back: Cell,
-    pub rule: u16,
-}
-
-// A stem, then a row with the run across it, and a spine with the run down it.
-pub struct Change {
-    pub stem: Stem,
-    pub row: Cell,
-    pub across: Cell,
-    pub spine: Cell,
-    pub down: Cell,
-    pub rule: u16,
 }
 
 impl Cell {
@@ -116,7 +98,7 @@ impl Cell {
         words::write16(s, at, self.kind);
         words::write16(s, at + Cell::ONE, self.one);
         words::write16(s, at + Cell::TWO, self.two);
-        words::write16(s, at + Cell::THREE, self.three);
+        write_changed(s, at + Cell::THREE, self.three);
     }
 
     // No cell.
@@ -168,7 +150,7 @@ impl Cell {
     }
 
     // The run one step longer: it ends at the next rule.
-    fn grown(mut self, next: u16) -> Cell
+    pub fn grown(mut self, next: u16) -> Cell
         ensures { λ r. ⌜ r ≡ cell (self .kind, self .one, next, self .three) ⌝ }
     {
         self.two = next;
@@ -194,46 +176,13 @@ impl Cell {
     }
 }
 
-impl Stem {
-    // Cells kept, with nothing on them.
-    pub fn kept(keep: usize, rule: u16) -> Stem
-        ensures { λ r. ⌜ (r .rule ≡ rule) × ((s : List ℕ) → stemCells r s ≡ cellsIn s keep) ⌝ }
-    {
-        Stem {
-            keep,
-            short: Cell::none(),
-            step: Cell::none(),
-            back: Cell::none(),
-            rule,
-        }
-    }
-
-    // Cells kept, with a run on them.
-    fn on(keep: usize, run: Cell) -> Stem
-        ensures { λ r. ⌜ ((s : List ℕ) → stepCells r s ≡ add run (cellsIn s keep)) ⌝ }
-    {
-        Stem {
-            keep,
-            short: Cell::none(),
-            step: run,
-            back: Cell::none(),
-            rule: run.two,
-        }
-    }
-
-    // A stem with nothing more on it.
-    pub fn alone(self) -> Change
-        ensures { λ r. ⌜ ((s : List ℕ) → changeNode r s ≡ stemNode self s) ⌝ }
-    {
-        let rule = self.rule;
-        Change {
-            stem: self,
-            row: Cell::none(),
-            across: Cell::none(),
-            spine: Cell::none(),
-            down: Cell::none(),
-            rule,
-        }
+// A word into the two bytes from an offset on, where they hold another: a cell's last word seldom changes.
+fn write_changed(s: &mut [u8], at: usize, v: u16)
+    requires { ⌜ at + wordLength ≤ length (now s) ⌝ }
+    ensures { λ x. ⌜ now (s .exit) ≡ put wordLength (now (s .entry)) at v ⌝ }
+{
+    if words::read16(s, at) != v {
+        words::write16(s, at, v);
     }
 }
 
@@ -287,25 +236,8 @@ pub fn below_row(cursor: &[u8], k: usize) -> usize
     0
 }
 
-// A run of one step on the cells: a run to that side on top grows, else the run begins.
-pub fn joined(cursor: &[u8], k: usize, side: Side, run: Cell) -> Stem
-    requires { ⌜ Lies (now cursor) k × (run ≡ cell (cellRun (sideOf side), run .one, run .two, 0)) ⌝ }
-    ensures { λ r.
-        let cursor = now (cursor .entry) in
-        ⌜ stepCells r cursor ≡ step (sideOf side) (run .one) (run .two) (cellsIn cursor k) ⌝ }
-{
-    if k == 0 {
-        return Stem::on(k, run);
-    }
-    let top = Cell::read(cursor, k);
-    if top.kind == Cell::run_kind(side) {
-        return Stem::on(k - 1, top.grown(run.two));
-    }
-    Stem::on(k, run)
-}
-
 // A cell on top of k cells, if it is one; gives their number.
-fn push(cursor: &mut [u8], k: usize, cell: Cell) -> usize
+pub fn push(cursor: &mut [u8], k: usize, cell: Cell) -> usize
     requires { ⌜ Lies (now cursor) (high cell k) ⌝ }
     ensures { λ r.
         let cursor′ = now (cursor .exit) in
@@ -319,34 +251,4 @@ fn push(cursor: &mut [u8], k: usize, cell: Cell) -> usize
     let top = k + 1;
     cell.write(cursor, top);
     top
-}
-
-// The cells of a stem; gives their number.
-fn put_stem(cursor: &mut [u8], stem: Stem) -> usize
-    requires { ⌜ Lies (now cursor) (stemHigh stem) ⌝ }
-    ensures { λ r.
-        let cursor′ = now (cursor .exit) in
-        let cursor = now (cursor .entry) in
-        ⌜ (r ≡ stemHigh stem)
-        × Wrote (stemCells stem cursor) cursor cursor′ ⌝ }
-{
-    let k = push(cursor, stem.keep, stem.short);
-    let k = push(cursor, k, stem.step);
-    push(cursor, k, stem.back)
-}
-
-// The cells of a change; gives their number.
-pub fn write(cursor: &mut [u8], change: Change) -> usize
-    requires { ⌜ Lies (now cursor) (changeHigh change) ⌝ }
-    ensures { λ r.
-        let cursor′ = now (cursor .exit) in
-        let cursor = now (cursor .entry) in
-        ⌜ (r ≡ changeHigh change)
-        × Wrote (changed change cursor) cursor cursor′ ⌝ }
-{
-    let k = put_stem(cursor, change.stem);
-    let k = push(cursor, k, change.row);
-    let k = push(cursor, k, change.across);
-    let k = push(cursor, k, change.spine);
-    push(cursor, k, change.down)
 }

@@ -7,7 +7,7 @@ use mathlib.Core.List.{List, [], _∷_, _++_, append-assoc}
 use native.Mathlib.Nat.{add-zero, add-suc, suc-add, add-assoc, pow-suc}
 use native.Mathlib.Numerals.{add-two, add-four, add-six}
 use native.Mathlib.Omega.{arith}
-use lib.ListN.{length, getD, take, drop, set, length-append, length-drop}
+use lib.ListN.{length, getD, take, drop, set, length-append, length-drop, take-append-drop}
 use lib.Seq.{sets-eq, length-sets, length-take-le, getD-append-add, getD-set-other, getD-take, drop-cons, take-set-le, drop-set-lt, take-append-seam, drop-append-add, drop-drop}
 use Rattle.words.specs.Number.{base, number, bytes, put}
 
@@ -85,6 +85,12 @@ put-split w s at v fits =
 pub put-same : (w : ℕ) (s : List ℕ) (at v : ℕ) → at + w ≤ length s → v < base ^ w → number w (put w s at v) at ≡ v
 put-same w s at v fits small =
     rw (put-split w s at v fits) (number-bytes w v (take at s) (drop (at + w) s) at (length-take-le at s (omega arith)) small)
+
+-- what is there, put again, changes nothing
+pub put-there : (w : ℕ) (s : List ℕ) (at : ℕ) → at + w ≤ length s → ((i : ℕ) → getD s i 0 < base) → put w s at (number w s at) ≡ s
+put-there w s at fits small =
+    put-split w s at (number w s at) fits
+    ∙ rw (bytes-number w s at fits small, ← drop-drop w at s, take-append-drop w (drop at s)) (take-append-drop at s)
 
 -- a byte, and a number, that lies apart from what is put stays
 pub put-apart : (w : ℕ) (s : List ℕ) (at v i : ℕ) → (at ≤ i → at + w ≤ i) → getD (put w s at v) i 0 ≡ getD s i 0

@@ -5,7 +5,7 @@ use Rattle.forest.specs.Letter.{Letter}
 use Rattle.model.specs.Walk.{move}
 use Rattle.letter.specs.Letter.{moveOf}
 use Rattle.move_parts.proofs.Outcomes.{took, took-none}
-use Rattle.letter_moves.proofs.Stands.{held, from-none, from-cells, stepped-kept, stepped-node, move-fitting}
+use Rattle.letter_moves.proofs.Stands.{held, from-none, from-cells, stepped-kept, stepped-node, arriving}
 use borrow.Author.Needs.{needs}
 use Rattle.letter_moves.proofs.to_parent.Statement.{statement}
 use Rattle.letter_moves.proofs.to_parent.Tie as tie
@@ -36,13 +36,13 @@ returns-2 : tie.Need-returns-2
 unfolding move moveOf
 returns-2 c =
     let a = c .before .before .before .before .before .before .before .before .args in
-    stepped-kept (c .before .before .before .before .before .before .before .before .pre) _ (c .kept2 .ensures) (sym (from-cells (now (a .cursor)) (a .k) _ (c .before .before .before .before .before .if1 .left)) ∙ took-none (now (a .cursor)) (c .before .before .before .parent .ensures) (c .before .enum-told .given .1))
+    stepped-kept (c .before .before .before .before .before .before .before .before .pre) _ (c .kept2 .ensures) (sym (from-cells (now (a .cursor)) (a .k) _ (c .before .before .before .before .before .if1 .left)) ∙ took-none (c .before .before .before .parent .ensures) (c .before .enum-told .given .1))
 
-arrive-requires : tie.Need-arrive-requires
+arrive-parent-requires : tie.Need-arrive-parent-requires
 unfolding move moveOf
-arrive-requires c κs =
+arrive-parent-requires c κs =
     let a = c .before .before .before .before .before .before .before .before .before .args in
-    move-fitting (c .before .before .before .before .before .before .before .before .before .pre) Letter.parent (sym (from-cells (now (a .cursor)) (a .k) _ (c .before .before .before .before .before .before .if1 .left)) ∙ took (now (a .cursor)) (c .before .before .before .before .parent .ensures) (c .before .before .change .given .1))
+    arriving (c .before .before .before .before .before .before .before .before .before .pre) Letter.parent (sym (from-cells (now (a .cursor)) (a .k) _ (c .before .before .before .before .before .before .if1 .left)) ∙ took (c .before .before .before .before .parent .ensures) (c .before .before .change .given .1) .0) (took (c .before .before .before .before .parent .ensures) (c .before .before .change .given .1) .1)
 
 same-length-2 : tie.Need-same-length-2
 same-length-2 c = search needs
@@ -51,7 +51,7 @@ returns-3 : tie.Need-returns-3
 unfolding move moveOf
 returns-3 c =
     let a = c .before .before .before .before .before .before .before .before .before .before .before .before .args in
-    stepped-node (c .before .before .before .before .before .before .before .before .before .before .before .before .pre) _ (sym (from-cells (now (a .cursor)) (a .k) _ (c .before .before .before .before .before .before .before .before .before .if1 .left)) ∙ took (now (a .cursor)) (c .before .before .before .before .before .before .before .parent .ensures) (c .before .before .before .before .before .change .given .1)) (c .before .before .arrive .ensures)
+    stepped-node (c .before .before .before .before .before .before .before .before .before .before .before .before .pre) _ (sym (from-cells (now (a .cursor)) (a .k) _ (c .before .before .before .before .before .before .before .before .before .if1 .left)) ∙ took (c .before .before .before .before .before .before .before .parent .ensures) (c .before .before .before .before .before .change .given .1) .0) (c .before .before .arrive-parent .ensures)
 
 pub to-parent-spec : {M : Type 1} → statement M
 to-parent-spec =
@@ -65,6 +65,6 @@ to-parent-spec =
     kept-requires-2
     same-length
     returns-2
-    arrive-requires
+    arrive-parent-requires
     same-length-2
     returns-3)

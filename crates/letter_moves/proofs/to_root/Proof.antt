@@ -5,7 +5,7 @@ use Rattle.forest.specs.Letter.{Letter}
 use Rattle.model.specs.Walk.{move}
 use Rattle.side.specs.Side.{sideOf}
 use Rattle.move_parts.proofs.Outcomes.{took, took-none}
-use Rattle.letter_moves.proofs.Stands.{rows-held, walked-in, stepped-kept, stepped-node, move-fitting}
+use Rattle.letter_moves.proofs.Stands.{rows-held, walked-in, stepped-kept, stepped-node, arriving}
 use borrow.Author.Needs.{needs}
 use Rattle.letter_moves.proofs.to_root.Statement.{statement}
 use Rattle.letter_moves.proofs.to_root.Tie as tie
@@ -26,13 +26,13 @@ returns : tie.Need-returns
 unfolding move
 returns c =
     let a = c .before .before .before .before .before .before .args in
-    stepped-kept (c .before .before .before .before .before .before .pre) _ (c .kept .ensures) (took-none (now (a .cursor)) (c .before .before .before .root .ensures (now (a .cursor))) (c .before .enum-told .given .1))
+    stepped-kept (c .before .before .before .before .before .before .pre) _ (c .kept .ensures) (took-none (c .before .before .before .root .ensures (now (a .cursor)) (sideOf (a .side))) (c .before .enum-told .given .1))
 
-arrive-requires : tie.Need-arrive-requires
+arrive-root-requires : tie.Need-arrive-root-requires
 unfolding move
-arrive-requires c κs =
+arrive-root-requires c κs =
     let a = c .before .before .before .before .before .before .before .args in
-    move-fitting (c .before .before .before .before .before .before .before .pre) (Letter.root (sideOf (a .side))) (took (now (a .cursor)) (c .before .before .before .before .root .ensures (now (a .cursor))) (c .before .before .change .given .1))
+    arriving (c .before .before .before .before .before .before .before .pre) (Letter.root (sideOf (a .side))) (took (c .before .before .before .before .root .ensures (now (a .cursor)) (sideOf (a .side))) (c .before .before .change .given .1) .0) (took (c .before .before .before .before .root .ensures (now (a .cursor)) (sideOf (a .side))) (c .before .before .change .given .1) .1)
 
 same-length : tie.Need-same-length
 same-length c = search needs
@@ -41,7 +41,7 @@ returns-2 : tie.Need-returns-2
 unfolding move
 returns-2 c =
     let a = c .before .before .before .before .before .before .before .before .before .before .args in
-    stepped-node (c .before .before .before .before .before .before .before .before .before .before .pre) _ (took (now (a .cursor)) (c .before .before .before .before .before .before .before .root .ensures (now (a .cursor))) (c .before .before .before .before .before .change .given .1)) (c .before .before .arrive .ensures)
+    stepped-node (c .before .before .before .before .before .before .before .before .before .before .pre) _ (took (c .before .before .before .before .before .before .before .root .ensures (now (a .cursor)) (sideOf (a .side))) (c .before .before .before .before .before .change .given .1) .0) (c .before .before .arrive-root .ensures)
 
 pub to-root-spec : {M : Type 1} → statement M
 to-root-spec =
@@ -52,6 +52,6 @@ to-root-spec =
     enum-told
     kept-requires
     returns
-    arrive-requires
+    arrive-root-requires
     same-length
     returns-2)

@@ -5,7 +5,7 @@ use Rattle.forest.specs.Letter.{Letter}
 use Rattle.model.specs.Walk.{move}
 use Rattle.letter.specs.Letter.{moveOf}
 use Rattle.move_parts.proofs.Outcomes.{took, took-none}
-use Rattle.letter_moves.proofs.Stands.{from-none, from-cells, stepped-kept, stepped-node, move-fitting}
+use Rattle.letter_moves.proofs.Stands.{from-none, from-cells, stepped-kept, stepped-node, arriving}
 use borrow.Author.Needs.{needs}
 use Rattle.letter_moves.proofs.to_same.Statement.{statement}
 use Rattle.letter_moves.proofs.to_same.Tie as tie
@@ -33,13 +33,13 @@ returns-2 : tie.Need-returns-2
 unfolding move moveOf
 returns-2 c =
     let a = c .before .before .before .before .before .before .before .args in
-    stepped-kept (c .before .before .before .before .before .before .before .pre) _ (c .kept2 .ensures) (sym (from-cells (now (a .cursor)) (a .k) _ (c .before .before .before .before .if1 .left)) ∙ took-none (now (a .cursor)) (c .before .before .before .stay .ensures (now (a .cursor))) (c .before .enum-told .given .1))
+    stepped-kept (c .before .before .before .before .before .before .before .pre) _ (c .kept2 .ensures) (sym (from-cells (now (a .cursor)) (a .k) _ (c .before .before .before .before .if1 .left)) ∙ took-none (c .before .before .before .stay .ensures (now (a .rows)) (now (a .cursor))) (c .before .enum-told .given .1))
 
-arrive-requires : tie.Need-arrive-requires
+arrive-same-requires : tie.Need-arrive-same-requires
 unfolding move moveOf
-arrive-requires c κs =
+arrive-same-requires c κs =
     let a = c .before .before .before .before .before .before .before .before .args in
-    move-fitting (c .before .before .before .before .before .before .before .before .pre) Letter.stay (sym (from-cells (now (a .cursor)) (a .k) _ (c .before .before .before .before .before .if1 .left)) ∙ took (now (a .cursor)) (c .before .before .before .before .stay .ensures (now (a .cursor))) (c .before .before .change .given .1))
+    arriving (c .before .before .before .before .before .before .before .before .pre) Letter.stay (sym (from-cells (now (a .cursor)) (a .k) _ (c .before .before .before .before .before .if1 .left)) ∙ took (c .before .before .before .before .stay .ensures (now (a .rows)) (now (a .cursor))) (c .before .before .change .given .1) .0) (took (c .before .before .before .before .stay .ensures (now (a .rows)) (now (a .cursor))) (c .before .before .change .given .1) .1)
 
 same-length : tie.Need-same-length
 same-length c = search needs
@@ -48,7 +48,7 @@ returns-3 : tie.Need-returns-3
 unfolding move moveOf
 returns-3 c =
     let a = c .before .before .before .before .before .before .before .before .before .before .before .args in
-    stepped-node (c .before .before .before .before .before .before .before .before .before .before .before .pre) _ (sym (from-cells (now (a .cursor)) (a .k) _ (c .before .before .before .before .before .before .before .before .if1 .left)) ∙ took (now (a .cursor)) (c .before .before .before .before .before .before .before .stay .ensures (now (a .cursor))) (c .before .before .before .before .before .change .given .1)) (c .before .before .arrive .ensures)
+    stepped-node (c .before .before .before .before .before .before .before .before .before .before .before .pre) _ (sym (from-cells (now (a .cursor)) (a .k) _ (c .before .before .before .before .before .before .before .before .if1 .left)) ∙ took (c .before .before .before .before .before .before .before .stay .ensures (now (a .rows)) (now (a .cursor))) (c .before .before .before .before .before .change .given .1) .0) (c .before .before .arrive-same .ensures)
 
 pub to-same-spec : {M : Type 1} → statement M
 to-same-spec =
@@ -61,6 +61,6 @@ to-same-spec =
     enum-told
     kept-requires-2
     returns-2
-    arrive-requires
+    arrive-same-requires
     same-length
     returns-3)

@@ -5,7 +5,7 @@ use Rattle.forest.specs.Letter.{Letter}
 use Rattle.model.specs.Walk.{move}
 use Rattle.side.specs.Side.{sideOf}
 use Rattle.move_parts.proofs.Outcomes.{took, took-none}
-use Rattle.letter_moves.proofs.Stands.{held, from-none, from-cells, stepped-kept, stepped-node, move-fitting}
+use Rattle.letter_moves.proofs.Stands.{held, from-none, from-cells, stepped-kept, stepped-node, arriving}
 use borrow.Author.Needs.{needs}
 use Rattle.letter_moves.proofs.to_sibling.Statement.{statement}
 use Rattle.letter_moves.proofs.to_sibling.Tie as tie
@@ -36,13 +36,13 @@ returns-2 : tie.Need-returns-2
 unfolding move
 returns-2 c =
     let a = c .before .before .before .before .before .before .before .before .args in
-    stepped-kept (c .before .before .before .before .before .before .before .before .pre) _ (c .kept2 .ensures) (sym (from-cells (now (a .cursor)) (a .k) _ (c .before .before .before .before .before .if1 .left)) ∙ took-none (now (a .cursor)) (c .before .before .before .sibling .ensures) (c .before .enum-told .given .1))
+    stepped-kept (c .before .before .before .before .before .before .before .before .pre) _ (c .kept2 .ensures) (sym (from-cells (now (a .cursor)) (a .k) _ (c .before .before .before .before .before .if1 .left)) ∙ took-none (c .before .before .before .sibling .ensures) (c .before .enum-told .given .1))
 
-arrive-requires : tie.Need-arrive-requires
+arrive-sibling-requires : tie.Need-arrive-sibling-requires
 unfolding move
-arrive-requires c κs =
+arrive-sibling-requires c κs =
     let a = c .before .before .before .before .before .before .before .before .before .args in
-    move-fitting (c .before .before .before .before .before .before .before .before .before .pre) (Letter.sibling (sideOf (a .side))) (sym (from-cells (now (a .cursor)) (a .k) _ (c .before .before .before .before .before .before .if1 .left)) ∙ took (now (a .cursor)) (c .before .before .before .before .sibling .ensures) (c .before .before .change .given .1))
+    arriving (c .before .before .before .before .before .before .before .before .before .pre) (Letter.sibling (sideOf (a .side))) (sym (from-cells (now (a .cursor)) (a .k) _ (c .before .before .before .before .before .before .if1 .left)) ∙ took (c .before .before .before .before .sibling .ensures) (c .before .before .change .given .1) .0) (took (c .before .before .before .before .sibling .ensures) (c .before .before .change .given .1) .1)
 
 same-length-2 : tie.Need-same-length-2
 same-length-2 c = search needs
@@ -51,7 +51,7 @@ returns-3 : tie.Need-returns-3
 unfolding move
 returns-3 c =
     let a = c .before .before .before .before .before .before .before .before .before .before .before .before .args in
-    stepped-node (c .before .before .before .before .before .before .before .before .before .before .before .before .pre) _ (sym (from-cells (now (a .cursor)) (a .k) _ (c .before .before .before .before .before .before .before .before .before .if1 .left)) ∙ took (now (a .cursor)) (c .before .before .before .before .before .before .before .sibling .ensures) (c .before .before .before .before .before .change .given .1)) (c .before .before .arrive .ensures)
+    stepped-node (c .before .before .before .before .before .before .before .before .before .before .before .before .pre) _ (sym (from-cells (now (a .cursor)) (a .k) _ (c .before .before .before .before .before .before .before .before .before .if1 .left)) ∙ took (c .before .before .before .before .before .before .before .sibling .ensures) (c .before .before .before .before .before .change .given .1) .0) (c .before .before .arrive-sibling .ensures)
 
 pub to-sibling-spec : {M : Type 1} → statement M
 to-sibling-spec =
@@ -65,6 +65,6 @@ to-sibling-spec =
     kept-requires-2
     same-length
     returns-2
-    arrive-requires
+    arrive-sibling-requires
     same-length-2
     returns-3)

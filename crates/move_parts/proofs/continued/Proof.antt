@@ -2,19 +2,19 @@
 use Prim.Native.Nat.{ℕ}
 use mathlib.Core.Path.{_≡_, sym, ap, _∙_}
 use native.Mathlib.Omega.{arith}
-use mathlib.Core.Option.{none, some, Option·map}
+use mathlib.Core.Option.{Option·map}
 use denote.Ref.{now}
 use Rattle.forest.specs.Place.{cellSpine}
 use Rattle.forest.specs.Walk.{cellAt, cellsIn}
-use Rattle.model.specs.Model.{Node, opened, innerOf, continuing}
+use Rattle.model.specs.Model.{opened, innerOf, continuing}
 use Rattle.facts.specs.Facts.{factsIn, In}
-use Rattle.place_cells.specs.Changes.{add}
-use Rattle.move_parts.specs.Moves.{outcome}
+use Rattle.move_parts.specs.declared.Change.{Change}
+use Rattle.move_parts.specs.Change.{Able, AbleChild, changeNode}
 use Rattle.place_cells.proofs.Stack.{top-kind, top-one}
 use Rattle.move_parts.proofs.Held.{held-top}
 use Rattle.facts.proofs.Closes.{named-inner}
 use Rattle.facts.proofs.Rules.{other-inner}
-use Rattle.move_parts.proofs.Outcomes.{continuing-none, continuing-other, continuing-spine}
+use Rattle.move_parts.proofs.Outcomes.{decided, decided-none, continuing-none, continuing-other, continuing-spine}
 use borrow.Author.Needs.{needs}
 use Rattle.move_parts.proofs.continued.Statement.{statement}
 use Rattle.move_parts.proofs.continued.Tie as tie
@@ -28,19 +28,17 @@ spine c =
     ∙ ap innerOf (sym (c .rule-at .ensures ∙ ap (F .rule) (top-one r)))
 
 returns : tie.Need-returns
-unfolding outcome
-returns c =
+returns c d =
     let a = c .before .before .before .args in let F = factsIn (now (a .work)) in let cs = cellsIn (now (a .cursor)) (a .k) in
-    sym (ap (Option·map (λ (v : ℕ). opened F v cs)) (continuing-none F (now (c .before .before .before .args .cursor)) (c .before .before .before .args .j) (c .if1 .taken)))
+    decided-none (sym (ap (Option·map (λ (v : ℕ). opened F v cs)) (continuing-none F (now (a .cursor)) (a .j) (c .if1 .taken))))
 
 read-requires : tie.Need-read-requires
 read-requires c κs = search needs
 
 returns-2 : tie.Need-returns-2
-unfolding outcome
-returns-2 c =
+returns-2 c d =
     let a = c .before .before .before .before .before .before .args in let F = factsIn (now (a .work)) in let cs = cellsIn (now (a .cursor)) (a .k) in
-    sym (ap (Option·map (λ (v : ℕ). opened F v cs)) (continuing-other F (now (c .before .before .before .before .before .before .args .cursor)) (c .before .before .before .before .before .before .args .j) (omega arith) (λ q. c .if2 .taken (top-kind (c .before .before .read .ensures) ∙ q))))
+    decided-none (sym (ap (Option·map (λ (v : ℕ). opened F v cs)) (continuing-other F (now (a .cursor)) (a .j) (omega arith) (λ q. c .if2 .taken (top-kind (c .before .before .read .ensures) ∙ q)))))
 
 rule-at-requires : tie.Need-rule-at-requires
 rule-at-requires c κs =
@@ -51,34 +49,21 @@ enum-known-inner : tie.Need-enum-known-inner
 enum-known-inner c = search needs
 
 returns-3 : tie.Need-returns-3
-unfolding outcome
-returns-3 c =
+returns-3 c d =
     let a = c .before .before .before .before .before .before .before .before .args in let F = factsIn (now (a .work)) in let cs = cellsIn (now (a .cursor)) (a .k) in
-    sym (ap (Option·map (λ (v : ℕ). opened F v cs)) (spine (c .before) ∙ other-inner (c .before .rule-at .result) (c .match .keys2)))
-
-kept-requires : tie.Need-kept-requires
-kept-requires c κs = search needs
-
-none-requires : tie.Need-none-requires
-none-requires c κs = search needs
-
-none-requires-2 : tie.Need-none-requires-2
-none-requires-2 c κs = search needs
-
-opened-requires : tie.Need-opened-requires
-opened-requires c κs =
-    let h = c .before .before .before .before .before .before .before .before .before .before .before .before .before .pre in let F = factsIn (now (c .before .before .before .before .before .before .before .before .before .before .before .before .before .args .work)) in
-    let top = cellAt (now (c .before .before .before .before .before .before .before .before .before .before .before .before .before .args .cursor)) (c .before .before .before .before .before .before .before .before .before .before .before .before .before .args .j) in
-    let e : top .0 ≡ cellSpine = sym (top-kind (c .before .before .before .before .before .before .before .before .before .read .ensures)) ∙ c .before .before .before .before .before .before .before .if2 .left in
-    (h .rows, named-inner (In (now (c .before .before .before .before .before .before .before .before .before .before .before .before .before .args .work))) (sym (c .before .before .before .before .before .before .rule-at .ensures ∙ ap (F .rule) (top-one (c .before .before .before .before .before .before .before .before .before .read .ensures))) ∙ c .before .before .before .before .inner .given .1) (h .rows .names (top .1) (held-top h (omega arith) .one (λ q. omega arith))))
+    decided-none (sym (ap (Option·map (λ (v : ℕ). opened F v cs)) (spine (c .before) ∙ other-inner (c .before .rule-at .result) (c .match .keys2))))
 
 returns-4 : tie.Need-returns-4
-unfolding outcome add innerOf
-returns-4 c =
-    let a = c .before .before .before .before .before .before .before .before .before .before .before .before .before .before .args in let F = factsIn (now (a .work)) in let s = now (a .cursor) in let cs = cellsIn s (a .k) in
-    let inner = c .before .before .before .before .before .inner .given .0 .1 .0 in
-    ap (λ (n : Node). some n) (c .opened .ensures s ∙ (λ i. opened F inner (add (c .before .none2 .ensures i) (add (c .before .before .none .ensures i) (c .before .before .before .kept .ensures .1 s i)))))
-    ∙ sym (ap (Option·map (λ (v : ℕ). opened F v cs)) (spine (c .before .before .before .before .before .before .before) ∙ ap innerOf (c .before .before .before .before .before .inner .given .1)))
+unfolding innerOf changeNode Able AbleChild
+returns-4 c d =
+    let h = c .before .before .before .before .before .before .before .before .before .before .pre in
+    let a = c .before .before .before .before .before .before .before .before .before .before .args in let F = factsIn (now (a .work)) in let s = now (a .cursor) in let cs = cellsIn s (a .k) in
+    let top = cellAt s (a .j) in
+    let read = c .before .before .before .before .before .before .read .ensures in
+    let e : top .0 ≡ cellSpine = sym (top-kind read) ∙ c .before .before .before .before .if2 .left in
+    decided (Change.Spine (a .k) (c .before .inner .given .0 .1 .0))
+    (sym (ap (Option·map (λ (v : ℕ). opened F v cs)) (spine (c .before .before .before) ∙ ap innerOf (c .before .inner .given .1))))
+    (named-inner (In (now (a .work))) (sym (c .before .before .before .rule-at .ensures ∙ ap (F .rule) (top-one read)) ∙ c .before .inner .given .1) (h .rows .names (top .1) (held-top h (omega arith) .one (λ q. omega arith))))
 
 pub continued-spec : {M : Type 1} → statement M
 continued-spec =
@@ -90,8 +75,4 @@ continued-spec =
     rule-at-requires
     enum-known-inner
     returns-3
-    kept-requires
-    none-requires
-    none-requires-2
-    opened-requires
     returns-4)

@@ -1,15 +1,17 @@
 -- The part beside in the spine, else the part under the spine's opening. Assumes nothing.
-use mathlib.Core.Path.{sym, ap, _∙_}
+use mathlib.Core.Path.{sym, ap, subst, _∙_}
+use mathlib.Core.Option.{Option}
 use native.Mathlib.Omega.{arith}
 use denote.Ref.{now}
 use Rattle.forest.specs.Place.{Side}
 use Rattle.forest.specs.Walk.{cellsIn}
-use Rattle.model.specs.Model.{besideTop, partAt, tail}
+use Rattle.model.specs.Model.{Node, besideTop, partAt, tail}
 use Rattle.side.specs.Side.{sideOf}
 use Rattle.facts.specs.Facts.{factsIn}
-use Rattle.move_parts.specs.Moves.{reached}
+use Rattle.move_parts.specs.Change.{reached, Turned, Reached}
 use Rattle.move_parts.proofs.Held.{held-less}
-use Rattle.move_parts.proofs.Outcomes.{found, found-none, outward-part, outward-off}
+use Rattle.move_parts.proofs.Turns.{turning-beside}
+use Rattle.move_parts.proofs.Outcomes.{outward-part, outward-off}
 use borrow.Author.Needs.{needs}
 use Rattle.move_parts.proofs.outward.Statement.{statement}
 use Rattle.move_parts.proofs.outward.Tie as tie
@@ -17,17 +19,21 @@ use Rattle.move_parts.proofs.outward.Tie as tie
 pop-run-requires : tie.Need-pop-run-requires
 pop-run-requires c κs = search needs
 
-beside-top-requires : tie.Need-beside-top-requires
-beside-top-requires c κs = held-less (c .before .before .before .pre) _ (c .pop-run .ensures .0)
+above-top-requires : tie.Need-above-top-requires
+above-top-requires c κs = held-less (c .before .before .before .pre) _ (c .pop-run .ensures .0)
 
-enum-known-stem : tie.Need-enum-known-stem
-enum-known-stem c = search needs
+enum-known-above : tie.Need-enum-known-above
+enum-known-above c = search needs
 
 returns : tie.Need-returns
-unfolding sideOf reached
+unfolding sideOf reached Turned
 returns c =
     let a = c .before .before .before .before .before .before .before .args in let F = factsIn (now (a .work)) in let s = now (a .cursor) in let cs = cellsIn s (a .k) in
-    sym (outward-part F cs (ap (besideTop F Side.left) (sym (c .before .before .before .before .pop-run .ensures .1)) ∙ found s (c .before .before .before .beside-top .ensures) (c .before .stem .given .1)))
+    let h = c .before .before .before .above-top .ensures .turns _ (c .before .above .given .1) in
+    record {
+      node = sym (outward-part F cs (ap (besideTop F Side.left) (sym (c .before .before .before .before .pop-run .ensures .1)) ∙ turning-beside h));
+      turned = h;
+    }
 
 enum-told : tie.Need-enum-told
 enum-told c = search needs
@@ -42,16 +48,18 @@ returns-2 : tie.Need-returns-2
 unfolding sideOf
 returns-2 c =
     let a = c .before .before .before .before .before .before .before .before .args in let F = factsIn (now (a .work)) in let s = now (a .cursor) in let cs = cellsIn s (a .k) in
-    c .part-at .ensures ∙ ap (partAt F) (c .before .tail .ensures .1 s ∙ ap tail (c .before .before .before .before .before .pop-run .ensures .1))
-    ∙ sym (outward-off F cs (ap (besideTop F Side.left) (sym (c .before .before .before .before .before .pop-run .ensures .1)) ∙ found-none s (c .before .before .before .before .beside-top .ensures) (c .before .before .enum-told .given .1)))
+    subst (λ (y : Option Node). Reached (now (a .work)) s (c .part-at .result) y)
+    (ap (partAt F) (c .before .tail .ensures .1 s ∙ ap tail (c .before .before .before .before .before .pop-run .ensures .1))
+    ∙ sym (outward-off F cs (ap (besideTop F Side.left) (sym (c .before .before .before .before .before .pop-run .ensures .1)) ∙ c .before .before .before .before .above-top .ensures .off (c .before .before .enum-told .given .1))))
+    (c .part-at .ensures)
 
 pub outward-spec : {M : Type 1} → statement M
 outward-spec =
     tie.close
     (tie.spec
     pop-run-requires
-    beside-top-requires
-    enum-known-stem
+    above-top-requires
+    enum-known-above
     returns
     enum-told
     tail-requires

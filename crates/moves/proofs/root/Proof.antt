@@ -1,24 +1,23 @@
 -- The row of the rule is entered on no cells. Assumes nothing.
-use mathlib.Core.Path.{ap, _∙_}
+use mathlib.Core.Path.{refl}
 use denote.Ref.{now}
 use Rattle.forest.specs.Place.{rowOfNode}
 use Rattle.forest.specs.Walk.{cellsIn}
-use Rattle.model.specs.Model.{enter, root}
-use Rattle.facts.specs.Facts.{factsIn}
-use Rattle.side.specs.Side.{sideOf}
+use Rattle.model.specs.Model.{root}
+use Rattle.move_parts.specs.Change.{entrySide, Able, AbleRoot}
+use Rattle.move_parts.proofs.Outcomes.{decided-is, row-decided}
 use borrow.Author.Needs.{needs}
 use Rattle.moves.proofs.root.Statement.{statement}
 use Rattle.moves.proofs.root.Tie as tie
 
-kept-requires : tie.Need-kept-requires
-kept-requires c κs = search needs
-
-enter-requires : tie.Need-enter-requires
-enter-requires c κs = search needs
+row-requires : tie.Need-row-requires
+row-requires c κs = search needs
 
 returns : tie.Need-returns
-unfolding root cellsIn
-returns c s = let a = c .before .before .before .args in c .enter .ensures s ∙ ap (enter (factsIn (now (a .work))) (sideOf (a .side)) rowOfNode (a .r)) (c .before .kept .ensures .1 s)
+unfolding root cellsIn entrySide Able AbleRoot
+returns c s d =
+    let a = c .before .before .args in
+    decided-is (c .row .ensures) refl (row-decided 0 rowOfNode (a .r) (λ o z. z) (c .before .before .pre .0 .represents (a .r) (c .before .before .pre .1)))
 
 pub root-spec : {M : Type 1} → statement M
-root-spec = tie.close (tie.spec kept-requires enter-requires returns)
+root-spec = tie.close (tie.spec row-requires returns)

@@ -28,11 +28,11 @@ add-write16-2 c = search needs
 write16-requires-3 : tie.Need-write16-requires-3
 write16-requires-3 c κs = search needs
 
-add-write16-3 : tie.Need-add-write16-3
-add-write16-3 c = search needs
+add-write-changed : tie.Need-add-write-changed
+add-write-changed c = search needs
 
-write16-requires-4 : tie.Need-write16-requires-4
-write16-requires-4 c κs = search needs
+write-changed-requires : tie.Need-write-changed-requires
+write-changed-requires c κs = search needs
 
 same-length : tie.Need-same-length
 same-length c = search needs
@@ -41,7 +41,7 @@ returns : tie.Need-returns
 unfolding putCell
 returns c =
     let a = c .before .before .before .before .before .before .before .before .before .before .before .before .before .before .before .before .before .args in
-    c .before .before .write164 .ensures
+    c .before .before .write-changed .ensures
     ∙ ap (λ (l : List ℕ). put wordLength l (cellLength * a .i + 3 * wordLength) (a .self .three)) (c .before .before .before .before .before .before .write163 .ensures
     ∙ ap (λ (l : List ℕ). put wordLength l (cellLength * a .i + 2 * wordLength) (a .self .two)) (c .before .before .before .before .before .before .before .before .before .before .write162 .ensures
     ∙ ap (λ (l : List ℕ). put wordLength l (cellLength * a .i + wordLength) (a .self .one)) (c .before .before .before .before .before .before .before .before .before .before .before .before .before .before .write16 .ensures)))
@@ -56,7 +56,7 @@ write-spec =
     write16-requires-2
     add-write16-2
     write16-requires-3
-    add-write16-3
-    write16-requires-4
+    add-write-changed
+    write-changed-requires
     same-length
     returns)
