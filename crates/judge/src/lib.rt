@@ -5,7 +5,9 @@ use refusal::Refusal;
 use rule::Rule;
 ghost use mathlib.Core.Path.{_≡_};
 ghost use Prim.Native.Nat.{_+_, _*_, _≤_, _<_};
+ghost use mathlib.Core.Bool.{_&&_};
 ghost use lib.ListN.{length};
+ghost use lib.Dec.{ltb};
 ghost use Rattle.record.specs.Record.{recordLength};
 ghost use Rattle.rule.specs.Rule.{kindEmpty, kindPair, kindNode, closed, holed, tree, rulesIn};
 ghost use Rattle.record.specs.Records.{recordsFrom, recordIn, kindAt};
@@ -89,6 +91,19 @@ fn verdict(i: u16, formed: bool, ranged: bool, sorted: bool, lower: bool) -> Tes
     if lower { Tested::Lower } else { Tested::Mixed }
 }
 
+// The same of a rule that names two.
+fn verdict_of_two(i: u16, n: u16, formed: bool, one: u16, two: u16, sorted: bool) -> Tested
+    ensures { λ t. ⌜ t ≡ verdict i formed (ltb one n && ltb two n) sorted (ltb one i && ltb two i) ⌝ }
+{
+    verdict(
+        i,
+        formed,
+        rule::both_below(one, two, n),
+        sorted,
+        rule::both_below(one, two, i),
+    )
+}
+
 // The test of a rule without a hole, kinds 0 to 2.
 fn test_rule(s: &[u8], format: Format, first: usize, n: u16, i: u16) -> Tested
     requires { ⌜ (first + recordLength format * n ≤ length (now s)) × (i < n) ⌝ }
@@ -103,12 +118,13 @@ fn test_rule(s: &[u8], format: Format, first: usize, n: u16, i: u16) -> Tested
     let unused = three == Record::UNUSED;
     let low = high == Record::UNUSED;
     if kind == Rule::PAIR {
-        return verdict(
+        return verdict_of_two(
             i,
+            n,
             unused & low,
-            (one < n) & (two < n),
+            one,
+            two,
             closed_at(s, format, first, n, one) & closed_at(s, format, first, n, two),
-            (one < i) & (two < i),
         );
     }
     if kind == Rule::NODE {
@@ -149,30 +165,33 @@ fn test_filled(s: &[u8], format: Format, first: usize, n: u16, i: u16, w: Record
     let high = w.high;
     let unused = (three == Record::UNUSED) & (high == Record::UNUSED);
     if kind == Rule::FILL {
-        return verdict(
+        return verdict_of_two(
             i,
+            n,
             unused,
-            (one < n) & (two < n),
+            one,
+            two,
             holed_at(s, format, first, n, one) & tree_at(s, format, first, n, two),
-            (one < i) & (two < i),
         );
     }
     if kind == Rule::PART {
-        return verdict(
+        return verdict_of_two(
             i,
+            n,
             Rule::label_fits(w, format),
-            (two < n) & (three < n),
+            two,
+            three,
             closed_at(s, format, first, n, two) & closed_at(s, format, first, n, three),
-            (two < i) & (three < i),
         );
     }
     if kind == Rule::JOIN {
-        return verdict(
+        return verdict_of_two(
             i,
+            n,
             unused,
-            (one < n) & (two < n),
+            one,
+            two,
             holed_at(s, format, first, n, one) & holed_at(s, format, first, n, two),
-            (one < i) & (two < i),
         );
     }
     Tested::Refused(Refusal::Malformed(i as usize))

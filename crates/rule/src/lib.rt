@@ -3,7 +3,8 @@ use record::Format;
 use record::Record;
 ghost use mathlib.Core.Path.{_≡_};
 ghost use Prim.Native.Nat.{_<_};
-ghost use lib.Dec.{leb};
+ghost use mathlib.Core.Bool.{_&&_};
+ghost use lib.Dec.{leb, ltb};
 ghost use Rattle.record.specs.Format.{mostLabel};
 ghost use Rattle.rule.specs.Rule.{kindNode, labelIn, decode, whole};
 
@@ -34,6 +35,13 @@ impl Decoded {
             Decoded::Malformed
         }
     }
+}
+
+// Whether two numbers are below a third: whether the larger is.
+pub fn both_below(one: u16, two: u16, n: u16) -> bool
+    ensures { λ x. ⌜ x ≡ (ltb one n && ltb two n) ⌝ }
+{
+    if one < two { two < n } else { one < n }
 }
 
 impl Rule {

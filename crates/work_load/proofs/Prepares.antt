@@ -15,14 +15,14 @@ use Rattle.rule.specs.declared.Rule.{Rule}
 use Rattle.rule.specs.Rule.{rulesIn}
 use Rattle.plan.specs.declared.Checked.{Checked}
 use Rattle.plan.specs.Check.{checked, rulesOf, formatOf, mostRules, trailerLength}
-use Rattle.plan.proofs.Sound.{Plan, checked-plan, plan-long}
+use Rattle.plan.proofs.Sound.{Plan, checked-plan, plan-long, plan-first, plan-decodes}
 use Rattle.forest.specs.Outcome.{enoughWork, workJudged, measuredWork}
 use Rattle.reach.specs.Order.{numbersFrom, lowerBelow}
 use Rattle.reach.proofs.Orders.{lower-orders, lower-test}
 use Rattle.reach_order.specs.Room.{rulesAt, Ready}
 use Rattle.reach_order.specs.Search.{Answered}
 use Rattle.reach_order.proofs.Runs.{answered-acyclic}
-use Rattle.work_rows.specs.Rows.{workLength, rowLength, Holds, Within, Loaded}
+use Rattle.work_rows.specs.Rows.{workLength, rowLength, Holds, Within, Formed, Loaded}
 use Rattle.work_rows.specs.Order.{orderAt, orderEnd, orderIn}
 use Rattle.work_rows.proofs.Rows.{within-both, within-wider, within-rule}
 use Rattle.work_rows.proofs.Work.{work-refused, work-lent, rules-first, beyond-work}
@@ -41,6 +41,9 @@ module _ {s : List ℕ} {n : ℕ} {work : List ℕ} (A : Arrangeable s n work) w
 
   pub loadable : (recordLength (formatOf s) * n + trailerLength ≤ length s) × (rowLength * n ≤ length work)
   loadable = let room = A .room in (plan-long mostRules s n (A .start) plan, omega arith)
+
+  pub formed : Formed (formatOf s) s (length s - trailerLength - recordLength (formatOf s) * n) n
+  formed i below = rw (first-rules, ← (plan-first mostRules s n (A .start) plan)) (plan-decodes mostRules s n (A .start) plan i below)
 
   pub orderable : orderEnd n ≤ length work
   orderable = let room = A .room in omega arith

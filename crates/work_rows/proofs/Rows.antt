@@ -1,8 +1,8 @@
 -- Laws of rows. A field is a number in a list of bytes, so what a write leaves alone is known from one frame, `Within`: equal bytes
 -- before it and after it. A rule's four fields lie apart in their row, so they are read back as written. Assumes nothing.
-use Prim.Native.Nat.{ℕ, zero, suc, _+_, _-_, _*_, _^_, _≤_, _<_}
-use mathlib.Core.Bool.{_&&_, _||_, and-true}
-use mathlib.Core.Path.{_≡_, refl, ap, _∙_}
+use Prim.Native.Nat.{ℕ, zero, suc, _+_, _-_, _*_, _/_, _%_, _^_, _≤_, _<_}
+use mathlib.Core.Bool.{true, false, cond, _&&_, _||_, and-true}
+use mathlib.Core.Path.{_≡_, refl, sym, ap, _∙_}
 use mathlib.Core.List.{List}
 use native.Mathlib.Omega.{arith}
 use native.Mathlib.Decide.{decLt}
@@ -12,8 +12,12 @@ use borrow.Author.Tests.{lt-ltb, le-ltb}
 use Rattle.words.specs.Number.{base}
 use Rattle.words.proofs.Laws.{length-put, put-same, put-other}
 pub use Rattle.words.proofs.Within.{within-none, within-both, within-wider, within-number, within-number-put}
+use Rattle.record.specs.declared.Format.{Format}
+use Rattle.record.specs.declared.Record.{Record}
 use Rattle.rule.specs.declared.Rule.{Rule}
-use Rattle.rule.specs.Rule.{kindEmpty, every}
+use Rattle.rule.specs.declared.Decoded.{Decoded}
+use Rattle.rule.specs.Rule.{kindEmpty, kindNode, kindPart, highPart, labelIn, decode, encode, every}
+use Rattle.rule.proofs.Decode.{encode-decode}
 use Rattle.rule.specs.Sound.{rule}
 use Rattle.work_rows.specs.declared.Row.{Row}
 use Rattle.work_rows.specs.Rows.{rowLength, field, putField, ownEnd, atKind, atLabel, atOne, atTwo, rowOf, ruleFrom, rowAt, putRow, ruleAt, ruleIn, Holds, Within, Beyond, Stored, Loaded}
@@ -153,6 +157,34 @@ stored s t r o x w e fits small p =
       keeps = ap ruleFrom (rowAt-putRow s r o w fits small ∙ e) ∙ ruleFrom-rowOf x;
       within = within-putRow s r o w fits small;
     })
+
+-- a record's words as a row: those of the rule that it means
+unfoldable recordRow : Record → Row
+recordRow w =
+    cond (eqb (w .kind) kindNode || eqb (w .kind) kindPart) (record { kind = w .kind; label = labelIn w; one = w .two; two = w .three })
+    (record { kind = w .kind; label = 0; one = w .one; two = w .two })
+
+encoded-row : (x : Rule) → recordRow (encode x) ≡ rowOf x
+unfolding recordRow encode rowOf labelIn
+encoded-row Rule.Empty = refl
+encoded-row (Rule.Pair b c) = refl
+encoded-row (Rule.Node a c) = let e : a % highPart + highPart * (a / highPart) ≡ a = omega arith in rw e
+encoded-row (Rule.Fill b c) = refl
+encoded-row (Rule.Part a b c) = let e : a % highPart + highPart * (a / highPart) ≡ a = omega arith in rw e
+encoded-row (Rule.Join b c) = refl
+
+module _ (w : Record) (small : w .one < highPart) (f : Format) (x : Rule) (means : decode f w ≡ Decoded.Whole x) where
+  recorded-row : recordRow w ≡ rowOf x
+  recorded-row = ap recordRow (sym (encode-decode f w x small means)) ∙ encoded-row x
+
+  -- with a label, and without
+  pub labelled-row : (eqb (w .kind) kindNode || eqb (w .kind) kindPart) ≡ true → record { kind = w .kind; label = labelIn w; one = w .two; two = w .three } ≡ rowOf x
+  unfolding recordRow
+  labelled-row e = rw e at recorded-row
+
+  pub unlabelled-row : (eqb (w .kind) kindNode || eqb (w .kind) kindPart) ≡ false → record { kind = w .kind; label = 0; one = w .one; two = w .two } ≡ rowOf x
+  unfolding recordRow
+  unlabelled-row e = rw e at recorded-row
 
 -- the words of a row tell whether its rule names only rules below i
 one-below : (c i : ℕ) → (ltb c i && ltb 0 i) ≡ ltb c i

@@ -1,14 +1,18 @@
 -- The rows of work: a row for each rule, which begins with the rule itself. Above this crate nobody reads a plan's bytes.
 use Prim.Native.Nat.{ℕ, zero, suc, _+_, _*_, _<_}
 use mathlib.Core.Path.{_≡_}
-use mathlib.Core.Bool.{cond}
+use mathlib.Core.Bool.{Bool, cond}
 use mathlib.Core.List.{List, [], _∷_}
-use lib.Dec.{eqb}
+use lib.Dec.{eqb, ltb}
 use Rattle.words.specs.Number.{number, put}
 pub use Rattle.words.specs.Within.{Within}
+use Rattle.record.specs.declared.Format.{Format}
+use Rattle.record.specs.declared.Record.{Record}
 use Rattle.rule.specs.declared.Rule.{Rule}
-use Rattle.record.specs.Record.{wordLength}
-use Rattle.rule.specs.Rule.{kindEmpty, kindPair, kindNode, kindFill, kindPart, kindJoin}
+use Rattle.rule.specs.declared.Decoded.{Decoded}
+use Rattle.record.specs.Record.{wordLength, recordLength, recordAt}
+use Rattle.record.specs.Records.{recordsFrom}
+use Rattle.rule.specs.Rule.{kindEmpty, kindPair, kindNode, kindFill, kindPart, kindJoin, decode, every, rulesIn}
 use Rattle.rule.specs.Sound.{rule}
 use Rattle.forest.specs.Outcome.{ruleWork}
 use Rattle.work_rows.specs.declared.Row.{Row}
@@ -110,6 +114,19 @@ Beyond i s t = Within 0 (rowLength * i) s t
 pub record Stored (r o : ℕ) (x : Rule) (s t : List ℕ) : Type 0 where
   pub keeps : ruleAt t r o ≡ x
   pub within : Within (rowLength * r + o) (rowLength * r + o + ownEnd) s t
+
+-- of a record v that means a rule, in either format: w is the row of that rule
+abbrev pub RowMeant : Record → Row → Type 0
+RowMeant v w = (f : Format) (x : Rule) → decode f v ≡ Decoded.Whole x → w ≡ rowOf x
+
+-- row r begins with that rule, and lower tells whether it names only rules below r
+abbrev pub RecordPut : ℕ → Record → Bool → List ℕ → List ℕ → Type 0
+RecordPut r v lower s t = (f : Format) (x : Rule) → decode f v ≡ Decoded.Whole x → Stored r 0 x s t × (lower ≡ every (λ k. ltb k r) x)
+
+-- each of the n records from an offset on is well formed: it means its rule
+abbrev pub Formed : Format → List ℕ → ℕ → ℕ → Type 0
+Formed f s first n =
+    (i : ℕ) → i < n → decode f (recordAt f s (first + recordLength f * i)) ≡ Decoded.Whole (rule (rulesIn f (recordsFrom f s first n)) i)
 
 -- the rows of n rules hold the rules R, and nothing beyond them has changed
 pub record Loaded (R : List Rule) (n : ℕ) (s t : List ℕ) : Type 0 where

@@ -5,19 +5,18 @@ ghost use lib.ListN.{length, getD};
 ghost use lib.Dec.{eqb, ltb};
 ghost use mathlib.Core.Bool.{_&&_, _||_};
 ghost use Rattle.record.specs.Format.{wordLength, recordLength};
-ghost use Rattle.rule.specs.Rule.{kindEmpty, ruleOf, rulesIn, every};
+ghost use Rattle.rule.specs.Rule.{kindEmpty, rulesIn};
 ghost use Rattle.record.specs.Records.{recordsFrom};
 ghost use Rattle.plan.specs.Check.{trailerLength, formatOf};
 ghost use Rattle.forest.specs.Outcome.{workWords, enoughWork, cleared};
 ghost use Rattle.work_rows.specs.Rows.{workLength, rowLength, ownEnd, field, putField, rowOf, ruleFrom, rowAt, putRow};
-ghost use Rattle.work_rows.specs.Rows.{ruleAt, ruleIn, Stored, Loaded};
+ghost use Rattle.work_rows.specs.Rows.{ruleAt, ruleIn, Stored, RowMeant, RecordPut, Formed, Loaded};
 ghost use Rattle.reach.specs.Order.{numbersFrom, lowerBelow};
 ghost use Rattle.work_rows.specs.Rows.{Within};
 ghost use Rattle.work_rows.specs.Order.{orderAt, orderEnd, orderIn};
 use plan::Trailer;
 use record::Format;
 use record::Record;
-use rule::Decoded;
 use rule::Rule;
 
 // What a row keeps of its rule: the kind, the label and the rules named.
@@ -99,6 +98,20 @@ impl Row {
         }
     }
 
+    // What a row keeps of the rule that a record means, straight from its words: unused ones are 0, and a label stands before the names.
+    fn of_record(w: Record) -> Row
+        ensures { λ r. ⌜ RowMeant w r ⌝ }
+    {
+        let kind = w.kind;
+        let one = w.one;
+        let two = w.two;
+        let three = w.three;
+        if (kind == Rule::NODE) | (kind == Rule::PART) {
+            return Row::with(kind, Rule::label(w), two, three);
+        }
+        Row::with(kind, 0, one, two)
+    }
+
     // The rule that a row keeps.
     fn rule(self) -> Rule
         ensures { λ x. ⌜ x ≡ ruleFrom self ⌝ }
@@ -142,7 +155,7 @@ impl Row {
     fn names_below(self, i: u16) -> bool
         ensures { λ x. ⌜ x ≡ (eqb (self .kind) kindEmpty || (ltb (self .one) i && ltb (self .two) i)) ⌝ }
     {
-        (self.kind == Rule::EMPTY) | ((self.one < i) & (self.two < i))
+        (self.kind == Rule::EMPTY) | rule::both_below(self.one, self.two, i)
     }
 
     // What row r keeps of a rule at an offset.
@@ -195,29 +208,21 @@ pub fn put_rule_in(work: &mut [u8], r: u16, offset: usize, rule: Rule)
     row.write(work, r, offset);
 }
 
-// A rule to the beginning of row r; and whether it names only rules below r.
-fn put_rule(work: &mut [u8], r: u16, rule: Rule) -> bool
+// The rule that a record means to the beginning of row r; and whether it names only rules below r.
+fn put_record(work: &mut [u8], r: u16, w: Record) -> bool
     requires { ⌜ rowLength * (r + 1) ≤ length (now work) ⌝ }
-    ensures { λ x.
-        ⌜ Stored r 0 rule (now (work .entry)) (now (work .exit)) × (x ≡ every (λ k. ltb k r) rule) ⌝ }
+    ensures { λ x. ⌜ RecordPut r w x (now (work .entry)) (now (work .exit)) ⌝ }
 {
-    put_rule_in(work, r, 0, rule);
-    Row::of(rule).names_below(r)
+    let row = Row::of_record(w);
+    row.write(work, r, 0);
+    row.names_below(r)
 }
 
-// The rule that a record means, and the empty rule where it means none.
-fn rule_of(d: Decoded) -> Rule
-    ensures { λ x. ⌜ x ≡ ruleOf d ⌝ }
-{
-    match d {
-        Decoded::Whole(rule) => rule,
-        Decoded::Malformed => Rule::Empty,
-    }
-}
-
-// The plan's n rules, whose records begin at first, into the rows of work; and whether each names only lower ones.
+// The plan's n rules, whose records begin at first and are well formed, into the rows of work; and whether each names only lower ones.
 fn load(plan: &[u8], format: Format, first: usize, n: u16, work: &mut [u8]) -> bool
-    requires { ⌜ (first + recordLength format * n ≤ length (now plan)) × (rowLength * n ≤ length (now work)) ⌝ }
+    requires { ⌜ (first + recordLength format * n ≤ length (now plan))
+        × (rowLength * n ≤ length (now work))
+        × Formed format (now plan) first n ⌝ }
     ensures { λ x.
         let rules = rulesIn format (recordsFrom format (now (plan .entry)) first n) in
         ⌜ Loaded rules n (now (work .entry)) (now (work .exit)) × (x ≡ lowerBelow rules n) ⌝ }
@@ -227,7 +232,7 @@ fn load(plan: &[u8], format: Format, first: usize, n: u16, work: &mut [u8]) -> b
     let mut i: u16 = 0;
     while i < n {
         let record = Record::read(plan, format, first + length * (i as usize));
-        let below = put_rule(work, i, rule_of(Rule::decode(record, format)));
+        let below = put_record(work, i, record);
         lower = lower & below;
         i += 1;
     }
@@ -294,7 +299,8 @@ pub fn order_by_number(work: &mut [u8], n: u16)
 // An accepted plan's n rules, which stand right before its trailer, into the rows of work; and whether each names only lower ones.
 pub fn load_rules(plan: &[u8], work: &mut [u8], n: u16) -> bool
     requires { ⌜ (recordLength (formatOf (now plan)) * n + trailerLength ≤ length (now plan))
-        × (rowLength * n ≤ length (now work)) ⌝ }
+        × (rowLength * n ≤ length (now work))
+        × Formed (formatOf (now plan)) (now plan) (length (now plan) - trailerLength - recordLength (formatOf (now plan)) * n) n ⌝ }
     ensures { λ x.
         let s = now (plan .entry) in
         let f = formatOf s in

@@ -15,13 +15,13 @@ holed-at-requires c κs = search needs
 tree-at-requires : tie.Need-tree-at-requires
 tree-at-requires c κs = search needs
 
-verdict-requires : tie.Need-verdict-requires
-verdict-requires c κs = search needs
+verdict-of-two-requires : tie.Need-verdict-of-two-requires
+verdict-of-two-requires c κs = search needs
 
 returns : tie.Need-returns
 unfolding every sorts
 returns c =
-    c .verdict .ensures
+    c .verdict-of-two .ensures
     ∙ rw (c .before .before .holed-at .ensures, c .before .tree-at .ensures)
     (sym (tested-as _ _ _ _ _ _ (let a = c .before .before .before .before .before .args in records-length (a .format) (now (a .s)) (a .first) (a .n)) (c .before .before .before .before .before .pre .2) (decode-fill _ _ (c .before .before .before .if1 .taken))))
 
@@ -34,13 +34,13 @@ closed-at-requires c κs = search needs
 closed-at-requires-2 : tie.Need-closed-at-requires-2
 closed-at-requires-2 c κs = search needs
 
-verdict-requires-2 : tie.Need-verdict-requires-2
-verdict-requires-2 c κs = search needs
+verdict-of-two-requires-2 : tie.Need-verdict-of-two-requires-2
+verdict-of-two-requires-2 c κs = search needs
 
 returns-2 : tie.Need-returns-2
 unfolding every sorts
 returns-2 c =
-    c .verdict2 .ensures
+    c .verdict-of-two2 .ensures
     ∙ rw (c .before .before .closed-at .ensures, c .before .closed-at2 .ensures, c .before .before .before .label-fits .ensures)
     (sym (tested-as _ _ _ _ _ _ (let a = c .before .before .before .before .before .before .before .args in records-length (a .format) (now (a .s)) (a .first) (a .n)) (c .before .before .before .before .before .before .before .pre .2) (decode-part _ _ (c .before .before .before .before .if2 .taken))))
 
@@ -50,13 +50,13 @@ holed-at-requires-2 c κs = search needs
 holed-at-requires-3 : tie.Need-holed-at-requires-3
 holed-at-requires-3 c κs = search needs
 
-verdict-requires-3 : tie.Need-verdict-requires-3
-verdict-requires-3 c κs = search needs
+verdict-of-two-requires-3 : tie.Need-verdict-of-two-requires-3
+verdict-of-two-requires-3 c κs = search needs
 
 returns-3 : tie.Need-returns-3
 unfolding every sorts
 returns-3 c =
-    c .verdict3 .ensures
+    c .verdict-of-two3 .ensures
     ∙ rw (c .before .before .holed-at2 .ensures, c .before .holed-at3 .ensures)
     (sym (tested-as _ _ _ _ _ _ (let a = c .before .before .before .before .before .before .before .args in records-length (a .format) (now (a .s)) (a .first) (a .n)) (c .before .before .before .before .before .before .before .pre .2) (decode-join _ _ (c .before .before .before .if3 .taken))))
 
@@ -71,15 +71,15 @@ test-filled-spec =
     (tie.spec
     holed-at-requires
     tree-at-requires
-    verdict-requires
+    verdict-of-two-requires
     returns
     label-fits-requires
     closed-at-requires
     closed-at-requires-2
-    verdict-requires-2
+    verdict-of-two-requires-2
     returns-2
     holed-at-requires-2
     holed-at-requires-3
-    verdict-requires-3
+    verdict-of-two-requires-3
     returns-3
     returns-4)

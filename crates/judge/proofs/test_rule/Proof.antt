@@ -29,13 +29,13 @@ closed-at-requires c κs = search needs
 closed-at-requires-2 : tie.Need-closed-at-requires-2
 closed-at-requires-2 c κs = search needs
 
-verdict-requires : tie.Need-verdict-requires
-verdict-requires c κs = search needs
+verdict-of-two-requires : tie.Need-verdict-of-two-requires
+verdict-of-two-requires c κs = search needs
 
 returns : tie.Need-returns
 unfolding every sorts
 returns c =
-    c .verdict .ensures
+    c .verdict-of-two .ensures
     ∙ rw (c .before .before .closed-at .ensures, c .before .closed-at2 .ensures)
     (sym (tested-as _ _ _ _ _ _ (let a = c .before .before .before .before .before .before .before .args in records-length (a .format) (now (a .s)) (a .first) (a .n)) (let a = c .before .before .before .before .before .before .before .args in record-read (a .format) (now (a .s)) (a .first) (a .n) (a .i) (c .before .before .before .before .before .before .before .pre .1) (rw (c .before .before .before .before .before .length .ensures) at (c .before .before .before .before .read .ensures))) (decode-pair _ _ (c .before .before .before .if1 .taken))))
 
@@ -45,23 +45,23 @@ label-fits-requires c κs = search needs
 closed-at-requires-3 : tie.Need-closed-at-requires-3
 closed-at-requires-3 c κs = search needs
 
-verdict-requires-2 : tie.Need-verdict-requires-2
-verdict-requires-2 c κs = search needs
+verdict-requires : tie.Need-verdict-requires
+verdict-requires c κs = search needs
 
 returns-2 : tie.Need-returns-2
 unfolding every sorts
 returns-2 c =
-    c .verdict2 .ensures
+    c .verdict .ensures
     ∙ rw (c .before .closed-at3 .ensures, c .before .before .label-fits .ensures)
     (sym (tested-as _ _ _ _ _ _ (let a = c .before .before .before .before .before .before .before .before .args in records-length (a .format) (now (a .s)) (a .first) (a .n)) (let a = c .before .before .before .before .before .before .before .before .args in record-read (a .format) (now (a .s)) (a .first) (a .n) (a .i) (c .before .before .before .before .before .before .before .before .pre .1) (rw (c .before .before .before .before .before .before .length .ensures) at (c .before .before .before .before .before .read .ensures))) (decode-node _ _ (c .before .before .before .if2 .taken))))
 
-verdict-requires-3 : tie.Need-verdict-requires-3
-verdict-requires-3 c κs = search needs
+verdict-requires-2 : tie.Need-verdict-requires-2
+verdict-requires-2 c κs = search needs
 
 returns-3 : tie.Need-returns-3
 unfolding every sorts
 returns-3 c =
-    c .verdict3 .ensures ∙ sym (tested-as _ _ _ _ _ _ (let a = c .before .before .before .before .before .before .before .args in records-length (a .format) (now (a .s)) (a .first) (a .n)) (let a = c .before .before .before .before .before .before .before .args in record-read (a .format) (now (a .s)) (a .first) (a .n) (a .i) (c .before .before .before .before .before .before .before .pre .1) (rw (c .before .before .before .before .before .length .ensures) at (c .before .before .before .before .read .ensures))) (decode-empty _ _ (c .before .if3 .taken)))
+    c .verdict2 .ensures ∙ sym (tested-as _ _ _ _ _ _ (let a = c .before .before .before .before .before .before .before .args in records-length (a .format) (now (a .s)) (a .first) (a .n)) (let a = c .before .before .before .before .before .before .before .args in record-read (a .format) (now (a .s)) (a .first) (a .n) (a .i) (c .before .before .before .before .before .before .before .pre .1) (rw (c .before .before .before .before .before .length .ensures) at (c .before .before .before .before .read .ensures))) (decode-empty _ _ (c .before .if3 .taken)))
 
 test-filled-requires : tie.Need-test-filled-requires
 test-filled-requires c κs = (c .before .before .before .before .before .before .pre .0, c .before .before .before .before .before .before .pre .1, (let a = c .before .before .before .before .before .before .args in record-read (a .format) (now (a .s)) (a .first) (a .n) (a .i) (c .before .before .before .before .before .before .pre .1) (rw (c .before .before .before .before .length .ensures) at (c .before .before .before .read .ensures))), c .if3 .left, c .before .before .if1 .left, c .before .if2 .left)
@@ -79,13 +79,13 @@ test-rule-spec =
     read-requires
     closed-at-requires
     closed-at-requires-2
-    verdict-requires
+    verdict-of-two-requires
     returns
     label-fits-requires
     closed-at-requires-3
-    verdict-requires-2
+    verdict-requires
     returns-2
-    verdict-requires-3
+    verdict-requires-2
     returns-3
     test-filled-requires
     returns-4)

@@ -1,8 +1,8 @@
 -- The loop's invariant: rows below i hold their rules, nothing else has changed, and lower is the test of the rules below i.
 -- Assumes nothing.
-use mathlib.Core.Path.{_≡_, sym, ap, _∙_}
+use mathlib.Core.Path.{_≡_, ap, _∙_}
 use denote.Ref.{now}
-use Rattle.rule.specs.Rule.{decode, ruleOf, rulesIn}
+use Rattle.rule.specs.Rule.{decode, rulesIn}
 use Rattle.rule.specs.Sound.{rule}
 use Prim.Native.Nat.{_-_, _≤_}
 use native.Mathlib.Omega.{arith}
@@ -10,7 +10,6 @@ use Rattle.record.specs.Records.{recordsFrom}
 use Rattle.reach.specs.Order.{lowerBelow}
 use Rattle.work_rows.specs.Rows.{Loaded}
 use Rattle.record.proofs.Formats.{record-lies}
-use Rattle.rule.proofs.Rules.{rule-recorded}
 use Rattle.reach.proofs.Orders.{lower-none-below, lower-one-more}
 use Rattle.work_rows.proofs.Rows.{loaded-none, loaded-more}
 use Rattle.work_rows.proofs.load.Statement.{statement}
@@ -41,14 +40,8 @@ add-read c = let lies = record-lies (c .before .before .before .before .before .
 read-requires : tie.Need-read-requires Inv-loop μ-loop
 read-requires c κs = let lies = record-lies (c .before .before .before .before .before .args .format) (c .loop-test .taken) in let p = c .before .before .before .before .before .pre .0 in rw (c .before .before .length .ensures) (omega (arith, lies, p))
 
-decode-requires : tie.Need-decode-requires Inv-loop μ-loop
-decode-requires c κs = tt
-
-rule-of-requires : tie.Need-rule-of-requires Inv-loop μ-loop
-rule-of-requires c κs = tt
-
-put-rule-requires : tie.Need-put-rule-requires Inv-loop μ-loop
-put-rule-requires c κs = omega arith
+put-record-requires : tie.Need-put-record-requires Inv-loop μ-loop
+put-record-requires c κs = omega arith
 
 add-i : tie.Need-add-i Inv-loop μ-loop
 add-i c = omega arith
@@ -58,17 +51,14 @@ loop-less c = omega arith
 
 loop-again : tie.Need-loop-again Inv-loop μ-loop
 loop-again c =
-    let a = c .before .before .before .before .before .before .before .before .before .before .before .before .args in
+    let a = c .before .before .before .before .before .before .before .before .before .before .args in
     let f = a .format in
-    let i = c .before .before .before .before .before .before .before .before .loop .i in
+    let i = c .before .before .before .before .before .before .loop .i in
     let R = rulesIn f (recordsFrom f (now (a .plan)) (a .first) (a .n)) in
-    let means : c .before .before .before .rule-of .result ≡ rule R i
-    = c .before .before .before .rule-of .ensures
-    ∙ ap ruleOf (c .before .before .before .before .decode .ensures ∙ ap (decode f) (rw (c .before .before .before .before .before .before .before .before .before .length .ensures) at (c .before .before .before .before .before .before .read .ensures)))
-    ∙ sym (rule-recorded f (now (a .plan)) (a .first) (a .n) i (omega arith)) in
-    let v = c .before .before .before .before .before .before .before .before .loop .inv in
-    let put = c .before .before .put-rule .ensures in
-    (omega arith, loaded-more R _ _ _ i (v .1) (rw means at (put .0)), lower-one-more R i (v .2) (rw means at (put .1)))
+    let read = rw (c .before .before .before .before .before .before .before .length .ensures) at (c .before .before .before .before .read .ensures) in
+    let put = c .before .before .put-record .ensures f (rule R i) (ap (decode f) read ∙ c .before .before .before .before .before .before .before .before .before .before .pre .2 i (omega arith)) in
+    let v = c .before .before .before .before .before .before .loop .inv in
+    (omega arith, loaded-more R _ _ _ i (v .1) (put .0), lower-one-more R i (v .2) (put .1))
 
 same-length : tie.Need-same-length Inv-loop μ-loop
 same-length c = c .before .loop .inv .1 .beyond .same-length
@@ -88,9 +78,7 @@ load-spec =
     mul-read
     add-read
     read-requires
-    decode-requires
-    rule-of-requires
-    put-rule-requires
+    put-record-requires
     add-i
     loop-less
     loop-again

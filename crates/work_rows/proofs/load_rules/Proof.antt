@@ -12,7 +12,7 @@ first-requires : tie.Need-first-requires
 first-requires c κs = rw (c .format .ensures) (c .before .before .before .pre .0)
 
 load-requires : tie.Need-load-requires
-load-requires c κs = let p = c .before .before .before .before .before .pre in (rw (c .before .first .ensures, c .before .before .format .ensures) (omega (arith, p .0)), p .1)
+load-requires c κs = let p = c .before .before .before .before .before .pre in (rw (c .before .first .ensures, c .before .before .format .ensures) (omega (arith, p .0)), p .1, rw (c .before .first .ensures, c .before .before .format .ensures) (p .2))
 
 same-length : tie.Need-same-length
 same-length c = search needs
