@@ -5,8 +5,9 @@ set -eu
 cd "$(dirname "$0")/.."
 build=$(mktemp -d)
 trap 'rm -rf "$build"' EXIT
-rt staticlib mealplan >"$build/log" 2>&1 || { cat "$build/log"; exit 1; }
-gcc -std=c99 -pedantic -O1 -Wall -Wextra -Werror -Iinclude -o "$build/copy" examples/copy.c target/staticlib/libmealplan.a
+bash tests/library >"$build/log" 2>&1 || { cat "$build/log"; exit 1; }
+# shellcheck disable=SC2086
+gcc -std=c99 -pedantic -O1 -Wall -Wextra -Werror ${SANITIZE:-} -Iinclude -o "$build/copy" examples/copy.c target/staticlib/libmealplan.a
 
 # shows STATUS ARGUMENTS..: with these it must print what stands on standard input and end with STATUS
 shows() {

@@ -4,6 +4,7 @@ set -eu
 cd "$(dirname "$0")/.."
 build=$(mktemp -d)
 trap 'rm -rf "$build"' EXIT
-rt staticlib mealplan >"$build/log" 2>&1 || { cat "$build/log"; exit 1; }
-gcc -std=c99 -pedantic -O1 -Wall -Wextra -Werror -Iinclude -o "$build/interface" tests/interface.c target/staticlib/libmealplan.a
+bash tests/library >"$build/log" 2>&1 || { cat "$build/log"; exit 1; }
+# shellcheck disable=SC2086
+gcc -std=c99 -pedantic -O1 -Wall -Wextra -Werror ${SANITIZE:-} -Iinclude -o "$build/interface" tests/interface.c target/staticlib/libmealplan.a
 "$build/interface" samples/plan.bin samples/wide.bin

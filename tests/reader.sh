@@ -4,8 +4,9 @@ set -eu
 cd "$(dirname "$0")/.."
 build=$(mktemp -d)
 trap 'rm -rf "$build"' EXIT
-rt staticlib mealplan >"$build/log" 2>&1 || { cat "$build/log"; exit 1; }
-gcc -std=c99 -pedantic -O1 -Wall -Wextra -Werror -Iinclude -o "$build/reader" examples/reader.c target/staticlib/libmealplan.a
+bash tests/library >"$build/log" 2>&1 || { cat "$build/log"; exit 1; }
+# shellcheck disable=SC2086
+gcc -std=c99 -pedantic -O1 -Wall -Wextra -Werror ${SANITIZE:-} -Iinclude -o "$build/reader" examples/reader.c target/staticlib/libmealplan.a
 
 # Shows KEYS on PLAN, which must print what stands on standard input and end with STATUS.
 shows() { # PLAN KEYS STATUS

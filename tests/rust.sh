@@ -8,6 +8,6 @@ cd "$(dirname "$0")/.."
 log=$(mktemp)
 trap 'rm -f "$log"' EXIT
 command -v cargo >/dev/null 2>&1 || { echo "rust: cargo is not installed"; exit 1; }
-rt staticlib mealplan >"$log" 2>&1 || { cat "$log"; exit 1; }
+bash tests/library >"$log" 2>&1 || { cat "$log"; exit 1; }
 export MEALPLAN_LIB="$PWD/target/staticlib"
 nice cargo test --manifest-path rust/Cargo.toml --package reference --package trials --release --offline --locked --jobs 1 --tests -- --nocapture

@@ -20,11 +20,10 @@ static size_t words_len, plan_len;
 static uint64_t trees, entries, levels, written, position;
 static uint32_t verdict, pairs, result;
 
-/* The library's memset is this one, so that the figures are the library's own. */
-void *memset(void *s, int value, size_t length) {
-    for (volatile uint8_t *p = s; length; length--) *p++ = (uint8_t)value;
-    return s;
-}
+/* The library's memset is this one, which takes no stack but its return address: so the figures are the library's own. */
+__asm__(".text\n.globl memset\n.type memset, @function\n"
+        "memset: mov %rdi, %r8\n mov %esi, %eax\n mov %rdx, %rcx\n rep stosb\n mov %r8, %rax\n ret\n"
+        ".size memset, .-memset\n");
 
 /* Notes the stack pointer where it is called. */
 static uint8_t *called;
@@ -288,8 +287,12 @@ static int on_rows(void) {
     return failed | bad;
 }
 
-int main(void) {
-    int few = measured(functions, MEALPLAN_FEW_RULES, 0), many = measured(functions, MEALPLAN_MOST_RULES, MEALPLAN_STACK_MANY);
+/* With a word behind its name it tries plans of few rules alone, which takes a second. */
+int main(int argc, char **argv) {
+    (void)argv;
+    int few = measured(functions, MEALPLAN_FEW_RULES, 0);
+    if (argc > 1) return few | on_rows();
+    int many = measured(functions, MEALPLAN_MOST_RULES, MEALPLAN_STACK_MANY);
     int copied = measured(functions + FUNCTIONS - 1, MEALPLAN_MOST_COPIED, MEALPLAN_STACK_MANY);
     return few | many | copied | on_rows();
 }

@@ -5,12 +5,14 @@
 #   The room for more than 1,024 rules lies in the frame of one function alone, judge::judge_many, which check and seal call for such
 #   plans and for no others: the sum without it is held to the bounds for few rules. That it isn't called for few rules is read off the code of
 #   crates/plan and crates/seal, not off the machine code; what shows it here is the second way.
-# - Painted, on plans of 1,024 rules, of 4,096 and of 16,384 and on lists of rows (tests/stack.c): what was used of it, each held to its bound.
+# - Painted, on plans of 1,024 rules, of 4,096 and of 16,384 and on lists of rows (tests/stack.c): what was used of it, each held to its bound, and
+#   to the sum.
+# What was found is left in target/stack.txt, below the sum of the library that it was found of: a release has it.
 set -eu
 cd "$(dirname "$0")/.."
 build=$(mktemp -d)
 trap 'rm -rf "$build"' EXIT
-rt staticlib mealplan >"$build/log" 2>&1 || { cat "$build/log"; exit 1; }
+bash tests/library >"$build/log" 2>&1 || { cat "$build/log"; exit 1; }
 library=target/staticlib/libmealplan.a
 functions="check seal unseal measure spread walk compare class copy"
 
@@ -26,7 +28,7 @@ stated() { echo "MEALPLAN_$1" | gcc -E -P -include include/mealplan.h - | tail -
 within() {
     local bound
     bound=$(stated "$3")
-    echo "$1: $2 bytes, $bound stated"
+    echo "$1: $2 bytes, $bound stated" | tee -a "$build/figures"
     [ "$2" -le "$bound" ] && [ $((2 * $2)) -ge "$bound" ] || fail "the bound of the header doesn't fit"
 }
 
@@ -81,10 +83,22 @@ depths() {
 }
 depths "" >"$build/any"
 depths "$many" >"$build/few"
-for sums in any few; do [ "$(wc -l <"$build/$sums")" -eq 9 ] || fail "the chains of calls were not found"; done
+for sums in any few; do
+    sort -o "$build/$sums" "$build/$sums"
+    [ "$(wc -l <"$build/$sums")" -eq 9 ] || fail "the chains of calls were not found"
+done
 grep -v '^class ' "$build/any" >"$build/plans"
 while read -r f bytes; do within "stack of plan_$f along its calls, any plan" "$bytes" STACK_MANY; done <"$build/plans"
 while read -r f bytes; do within "stack of plan_$f along its calls, without those through $many" "$bytes" "STACK_${f^^}"; done <"$build/few"
 
 gcc -std=gnu99 -O0 -Wall -Wextra -Werror -Iinclude -o "$build/stack" tests/stack.c "$library"
-"$build/stack"
+"$build/stack" | tee "$build/painted"
+[ "${PIPESTATUS[0]}" -eq 0 ] || fail "on a painted stack"
+grep ', painted' "$build/painted" | sed 's/^plan_\([a-z]*\), painted\(, on plans of \([0-9]*\) rules\)*: \([0-9]*\) .*/\1 \4 \3/' >"$build/used"
+[ "$(wc -l <"$build/used")" -eq 18 ] || fail "the painted figures were not found"
+while read -r f bytes rules; do
+    sums=any
+    [ "$rules" != 1024 ] || sums=few
+    [ "$bytes" -le "$(awk -v f="$f" '$1 == f { print $2 }' "$build/$sums")" ] || fail "plan_$f uses more than the sum along its calls"
+done <"$build/used"
+{ sha256sum "$library" && cat "$build/figures" && grep ', painted' "$build/painted"; } >target/stack.txt

@@ -1,11 +1,16 @@
-//! The C interface as include/mealplan.h declares it. Every pointer is valid for its length and never null, also where the length
-//! is 0; what is written lies apart from everything else in the call.
+//! The C interface as include/mealplan.h declares and describes it, for who lends memory that no slice can have. Every pointer is valid for its
+//! length and never null, also where the length is 0; what is written lies apart from everything else in the call. Each function returns 0, or a
+//! refusal's number with the position behind the last pointer.
 
 use crate::LabelRow;
 
+pub(crate) mod calls;
+
 unsafe extern "C" {
+    /// [`check`](crate::check), unsafe.
     pub fn plan_check(plan: *const u8, plan_len: usize, n: *mut u16, start: *mut u16, position: *mut u64) -> u32;
 
+    /// [`seal`](crate::seal), unsafe.
     pub fn plan_seal(
         words: *const u8,
         words_len: usize,
@@ -17,6 +22,7 @@ unsafe extern "C" {
         position: *mut u64,
     ) -> u32;
 
+    /// [`unseal`](crate::unseal), unsafe.
     pub fn plan_unseal(
         plan: *const u8,
         plan_len: usize,
@@ -28,6 +34,7 @@ unsafe extern "C" {
         position: *mut u64,
     ) -> u32;
 
+    /// [`measure`](crate::measure), unsafe.
     pub fn plan_measure(
         plan: *const u8,
         plan_len: usize,
@@ -39,6 +46,7 @@ unsafe extern "C" {
         position: *mut u64,
     ) -> u32;
 
+    /// [`spread`](crate::spread), unsafe.
     pub fn plan_spread(
         plan: *const u8,
         plan_len: usize,
@@ -50,6 +58,7 @@ unsafe extern "C" {
         position: *mut u64,
     ) -> u32;
 
+    /// [`walk`](crate::walk), unsafe.
     pub fn plan_walk(
         plan: *const u8,
         plan_len: usize,
@@ -64,6 +73,7 @@ unsafe extern "C" {
         position: *mut u64,
     ) -> u32;
 
+    /// [`compare`](crate::compare), unsafe.
     pub fn plan_compare(
         plan: *const u8,
         plan_len: usize,
@@ -79,8 +89,10 @@ unsafe extern "C" {
         position: *mut u64,
     ) -> u32;
 
+    /// [`class`](crate::class), unsafe.
     pub fn plan_class(rows: *const LabelRow, rows_len: usize, label: u32, class: *mut u16, position: *mut u64) -> u32;
 
+    /// [`copy`](crate::copy), unsafe.
     pub fn plan_copy(
         plan: *const u8,
         plan_len: usize,

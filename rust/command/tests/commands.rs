@@ -1,0 +1,282 @@
+//! The command as it is called: what it prints, what it says on standard error, and its exit status.
+use std::ffi::OsStr;
+use std::fs;
+use std::io::Write;
+use std::os::unix::ffi::OsStrExt;
+use std::path::PathBuf;
+use std::process::{Command, Output, Stdio};
+
+fn sample(name: &str) -> String {
+    format!("{}/../../samples/{name}", env!("CARGO_MANIFEST_DIR"))
+}
+
+/// A file of this test's own.
+fn file(name: &str, bytes: &[u8]) -> String {
+    let path = PathBuf::from(env!("CARGO_TARGET_TMPDIR")).join(name);
+    fs::write(&path, bytes).expect("a file in the temporary folder");
+    path.to_str().expect("a path of characters").to_owned()
+}
+
+fn run_with(words: &[&str], input: &[u8]) -> Output {
+    let mut command = Command::new(env!("CARGO_BIN_EXE_mealplan"));
+    command.args(words).stdin(Stdio::piped()).stdout(Stdio::piped()).stderr(Stdio::piped());
+    let mut running = command.spawn().expect("the command");
+    // A command that doesn't read it is no fault.
+    let _ = running.stdin.take().expect("its input").write_all(input);
+    running.wait_with_output().expect("its output")
+}
+
+fn run(words: &[&str]) -> Output {
+    run_with(words, b"")
+}
+
+/// What a command prints that is done.
+fn prints(words: &[&str]) -> String {
+    let output = run(words);
+    assert_eq!((output.status.code(), &output.stderr[..]), (Some(0), &b""[..]), "{words:?}: {output:?}");
+    String::from_utf8(output.stdout).expect("text")
+}
+
+/// What a command says that ends with this status and prints nothing.
+fn says(words: &[&str], status: i32) -> String {
+    let output = run(words);
+    assert_eq!((output.status.code(), &output.stdout[..]), (Some(status), &b""[..]), "{words:?}: {output:?}");
+    String::from_utf8(output.stderr).expect("text")
+}
+
+/// The sample plan's rules.
+const RULES: &str = "narrow
+start 7
+0 = empty
+1 = node 97 0
+2 = node 98 0
+3 = pair 1 2
+4 = part 99 3 2
+5 = join 4 4
+6 = fill 5 1
+7 = pair 6 3
+";
+
+#[test]
+fn check_and_measure() {
+    assert_eq!(prints(&["check", &sample("plan.bin")]), "format narrow\nrules 8\nstart 7\ncover 0\n");
+    assert_eq!(prints(&["check", &sample("wide.bin")]), "format wide\nrules 8\nstart 7\ncover 0\n");
+    assert_eq!(prints(&["measure", &sample("wide.bin")]), "trees 3\nentries 11\nlevels 3\n");
+    let covered = [b"cover".as_slice(), &fs::read(sample("plan.bin")).expect("the sample")].concat();
+    let output = run_with(&["check", "-"], &covered);
+    assert_eq!(String::from_utf8_lossy(&output.stdout), "format narrow\nrules 8\nstart 7\ncover 5\n");
+}
+
+#[test]
+fn spread() {
+    assert_eq!(prints(&["spread", &sample("plan.bin")]), "(c(a)(b)(c(a)(b)(a)(b))(b))(a)(b)");
+    assert_eq!(prints(&["spread", "--decimal", &sample("plan.bin")]), "(99(97)(98)(99(97)(98)(97)(98))(98))(97)(98)");
+    assert_eq!(run(&["spread", "--most", "55", &sample("wide.bin")]).stdout.len(), 55);
+    assert!(says(&["spread", "--most=54", &sample("wide.bin")], 1).contains("refused 11 at 0: "));
+}
+
+#[test]
+fn rules_and_seal() {
+    assert_eq!(prints(&["rules", &sample("plan.bin")]), RULES);
+    for name in ["plan.bin", "wide.bin"] {
+        let text = file(&format!("{name}.txt"), prints(&["rules", &sample(name)]).as_bytes());
+        let plan = fs::read(sample(name)).expect("the sample");
+        assert_eq!(run(&["seal", &text]).stdout, plan);
+        let sealed = file(&format!("{name}.sealed"), b"");
+        assert_eq!(prints(&["seal", "-o", &sealed, &text]), "");
+        assert_eq!(fs::read(&sealed).expect("it was written"), plan);
+    }
+    let output = run_with(&["seal", "-"], b"# a leaf\n1 = node 65536 0\n0 = empty\n");
+    assert_eq!(&output.stdout[output.stdout.len() - 2..], b"mq");
+}
+
+#[test]
+fn faulty_rules_are_told_with_their_line() {
+    let seal = |name, text: &str| says(&["seal", &file(name, text.as_bytes())], 1);
+    assert!(
+        seal("cycle", "# one\n0 = pair 0 0\n")
+            .ends_with("cycle, line 2: refused 12 at 0: rule 0 reaches itself through the rules it names\n")
+    );
+    assert!(
+        seal("sort", "1 = pair 0 2\n0 = empty\n2 = part 1 0 0\nstart 0").contains("sort, line 1: refused 6 at 1: ")
+    );
+    assert!(seal("below", "0 = node 1 3").contains("below, line 1: refused 5 at 0: "));
+    assert!(seal("label", "narrow\n0 = empty\n1 = node 256 0").contains("label, line 3: refused 4 at 1: "));
+    assert!(seal("start", "0 = empty\nstart 1").contains("start: refused 7 at 0: "));
+    assert!(seal("nothing", "").contains("nothing: refused 2 at 0: "));
+    assert!(seal("gap", "0 = empty\n2 = empty").contains("gap, line 2: there is a rule 2, but no rule 1"));
+    assert!(
+        seal("many", &(0..16_385).map(|rule| format!("{rule} = empty\n")).collect::<String>())
+            .contains("refused 2 at 0")
+    );
+    assert!(says(&["seal", &sample("plan.bin")], 1).contains("line 1: this is no"));
+}
+
+#[test]
+fn show() {
+    let all = "99 c\n  97 a\n  98 b\n  99 c\n    97 a\n    98 b\n    97 a\n    98 b\n  98 b\n97 a\n98 b\n";
+    assert_eq!(prints(&["show", &sample("plan.bin")]), all);
+    assert_eq!(prints(&["show", "--depth", "1", &sample("plan.bin")]), "99 c ...\n97 a\n98 b\n");
+    assert_eq!(prints(&["show", "--lines=2", &sample("plan.bin")]), "99 c\n  97 a\n... and more\n");
+    assert_eq!(
+        prints(&["show", "--at", "afnn", "--lines", "2", &sample("wide.bin")]),
+        "16777215\n  65535\n... and more\n"
+    );
+    assert!(says(&["show", "--at", "f", &sample("wide.bin")], 1).contains("keys f: refused 10 at 0: "));
+    assert!(says(&["show", "--at", "afx", &sample("wide.bin")], 1).contains("keys afx: refused 9 at 2: "));
+}
+
+#[test]
+fn a_forest_that_nobody_unfolds() {
+    let doubled: String = (1..=900).map(|row| format!("{} = pair {row} {row}\n", row + 1)).collect();
+    let text = file("large.txt", format!("0 = empty\n1 = node 97 0\n{doubled}902 = node 98 901\n").as_bytes());
+    let plan = file("large.bin", &run(&["seal", &text]).stdout);
+    assert_eq!(prints(&["show", "--lines", "3", &plan]), "98 b\n  97 a\n  97 a\n... and more\n");
+    assert_eq!(prints(&["show", "--depth", "1", &plan]), "98 b ...\n");
+    assert_eq!(prints(&["walk", &plan, "alpn"]), "a 98\nl 97\np 97\nn 97\n");
+    assert!(
+        says(&["measure", &plan], 1)
+            .ends_with("refused 11 at 0: the output is too short, or there are over 2^64 - 1 nodes\n")
+    );
+    assert_eq!(prints(&["rules", &plan]).lines().count(), 905);
+}
+
+#[test]
+fn walk() {
+    let answers = "a 99\nf 97\nn 98\nn 99\nf 97\nn 98\nn 97\nn 98\nn -\nu 99\nn 98\nu 99\nn 97\nn 98\nn -\n";
+    assert_eq!(prints(&["walk", &sample("plan.bin"), "afnnfnnnnununnn"]), answers);
+    assert_eq!(prints(&["walk", &sample("plan.bin"), ""]), "");
+    let refused = "refused 9 at 1: byte 1, counted from 0, is outside a z f l n p u s\n";
+    assert!(says(&["walk", &sample("plan.bin"), "aéf"], 1).ends_with(refused));
+}
+
+#[test]
+fn compare() {
+    let plan = sample("plan.bin");
+    assert_eq!(prints(&["compare", &plan, "a", "a"]), "same 9\n");
+    assert_eq!(prints(&["compare", &plan, "a", "afnn"]), "differ 4\n");
+    assert_eq!(prints(&["compare", "--budget", "3", &plan, "a", "afnn"]), "spent 3\n");
+    assert!(says(&["compare", &plan, "f", "a"], 1).contains("plan.bin: refused 10 at 0: "));
+    assert!(says(&["compare", "--budget", "4294967296", &plan, "a", "a"], 2).contains("usage: mealplan compare "));
+}
+
+#[test]
+fn classes_and_copy() {
+    let list = sample("classes.txt");
+    assert_eq!(prints(&["classes", &list]), "rows 3\n");
+    assert_eq!(prints(&["classes", &list, "97", "98", "16777215"]), "97 0\n98 2\n16777215 1\n");
+    assert!(says(&["classes", &list, "16777216"], 1).contains("label 16777216: refused 4 at 0: "));
+    assert!(says(&["classes", &list, "x"], 2).contains("'x' is no number"));
+    let gap = file("gap.txt", b"0 97 0\n# no 98\n99 16777215 1\n");
+    assert!(says(&["classes", &gap], 1).contains("gap.txt, line 3: refused 14 at 1: "));
+    let short = file("short.txt", b"0 97 0\n");
+    assert!(says(&["classes", &short], 1).contains("short.txt: refused 14 at 1: "));
+
+    let copy = file("copy.bin", &run(&["copy", &sample("plan.bin"), &list, "1"]).stdout);
+    assert_eq!(prints(&["show", &copy]), "99 c\n  97 a\n  99 c\n    97 a\n    97 a\n97 a\n");
+    assert_eq!(prints(&["copy", "-o", &copy, &sample("plan.bin"), &list, "0"]), "");
+    assert_eq!(prints(&["show", &copy]), "97 a\n");
+    assert!(says(&["copy", &sample("plan.bin"), &list, "4"], 1).contains("class 4: refused 13 at 0: "));
+    assert!(says(&["copy", &sample("plan.bin"), &gap, "4"], 1).contains("gap.txt, line 3: refused 14 at 1: "));
+    assert!(says(&["copy", &gap, &list, "4"], 1).contains("gap.txt: refused 1 at 0: "));
+    assert!(says(&["copy", &sample("plan.bin"), &list, "65536"], 2).contains("the class: '65536' is no number"));
+}
+
+#[test]
+fn plans_are_refused_in_words() {
+    let plan = fs::read(sample("plan.bin")).expect("the sample");
+    let damaged = |name, at: usize, byte: u8| {
+        let mut plan = plan.clone();
+        plan[at] = byte;
+        file(name, &plan)
+    };
+    for command in ["check", "measure", "spread", "rules", "show"] {
+        let refused = |name, at, byte| says(&[command, &damaged(name, at, byte)], 1);
+        assert!(refused("mark", 73, 0).contains("mark: refused 1 at 0: fewer than 10 bytes"));
+        assert!(refused("distance", 68, 65).contains("distance: refused 3 at 0: "));
+        assert!(refused("kind", 16, 6).contains("kind: refused 4 at 2: rule 2 has a kind above 5"));
+        assert!(refused("start", 66, 4).contains("start: refused 7 at 0: "));
+    }
+    assert!(says(&["check", &file("empty", b"")], 1).contains("refused 1 at 0"));
+}
+
+#[test]
+fn calls_that_are_wrong_end_with_2() {
+    for words in [
+        &[][..],
+        &["mend"],
+        &["check"],
+        &["check", "a", "b"],
+        &["walk", "a"],
+        &["show", "--deep", "a"],
+        &["show", "--depth"],
+    ] {
+        assert!(says(words, 2).contains("mealplan: "), "{words:?}");
+    }
+    assert!(says(&["check", "no such file"], 2).starts_with("mealplan: no such file: "));
+    assert!(
+        says(&["seal", "-o", "/no such folder/plan", &file("one.txt", b"0 = empty")], 2)
+            .contains("/no such folder/plan: ")
+    );
+    assert!(says(&["read", &sample("plan.bin")], 2).contains("a reader needs a terminal"));
+    assert!(says(&["read", "-"], 2).contains("the plan is in a file"));
+    let output = Command::new(env!("CARGO_BIN_EXE_mealplan"))
+        .arg("check")
+        .arg(OsStr::from_bytes(b"\xFF"))
+        .output()
+        .expect("the command");
+    assert_eq!(output.status.code(), Some(2));
+}
+
+#[test]
+fn every_command_has_help() {
+    let overview = prints(&["--help"]);
+    let names: Vec<&str> = overview
+        .lines()
+        .filter(|line| line.starts_with("  "))
+        .filter_map(|line| line.split_whitespace().next())
+        .collect();
+    assert_eq!(
+        names,
+        ["check", "measure", "spread", "rules", "seal", "show", "walk", "compare", "classes", "copy", "read"]
+    );
+    for name in names {
+        assert!(prints(&[name, "--help"]).starts_with(&format!("usage: mealplan {name} ")));
+        assert_eq!(prints(&["help", name]), prints(&[name, "-h"]));
+    }
+    assert!(prints(&["--version"]).starts_with("mealplan 0."));
+}
+
+#[test]
+fn an_output_that_nobody_reads_is_no_fault() {
+    let mut command = Command::new(env!("CARGO_BIN_EXE_mealplan"));
+    let mut running = command.args(["show", &sample("plan.bin")]).stdout(Stdio::piped()).spawn().expect("the command");
+    drop(running.stdout.take());
+    assert_eq!(running.wait().expect("its end").code(), Some(0));
+}
+
+/// Bytes with one of them changed, in each place, in two ways.
+fn damaged(bytes: &[u8]) -> impl Iterator<Item = Vec<u8>> {
+    (0..2 * bytes.len()).map(|i| {
+        let mut damaged = bytes.to_vec();
+        damaged[i / 2] ^= [1, 0x84][i % 2];
+        damaged
+    })
+}
+
+#[test]
+fn whatever_is_damaged_is_told_or_taken() {
+    let told_or_taken = |words: &[&str], input: &[u8]| {
+        let output = run_with(words, input);
+        assert!(matches!(output.status.code(), Some(0 | 1)), "{words:?} on {input:?}: {output:?}");
+    };
+    for name in ["plan.bin", "wide.bin"] {
+        for plan in damaged(&fs::read(sample(name)).expect("the sample")) {
+            told_or_taken(&["rules", "-"], &plan);
+            told_or_taken(&["show", "-"], &plan);
+        }
+    }
+    damaged(RULES.as_bytes()).for_each(|text| told_or_taken(&["seal", "-"], &text));
+    let list = fs::read(sample("classes.txt")).expect("the sample");
+    damaged(&list).for_each(|text| told_or_taken(&["classes", "-"], &text));
+}

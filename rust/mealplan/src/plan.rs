@@ -1,0 +1,151 @@
+//! A checked plan.
+use crate::{Checked, Format, Refused, Rule, TRAILER, check, words_bytes};
+#[cfg(feature = "alloc")]
+use crate::{Classes, Measured, Walker, copy, copy_bytes, measure, spread, text_bytes, work_bytes};
+#[cfg(feature = "alloc")]
+use alloc::{vec, vec::Vec};
+use core::slice::ChunksExact;
+
+/// A plan: bytes that were checked, so that nobody need ask again.
+///
+/// ```
+/// use mealplan::{Format, Plan, Rule};
+/// # let bytes = std::fs::read(concat!(env!("CARGO_MANIFEST_DIR"), "/../../samples/plan.bin")).unwrap();
+/// let plan = Plan::new(&bytes)?;
+/// assert_eq!((plan.n(), plan.start(), plan.format()), (8, 7, Format::Narrow));
+/// assert_eq!(plan.rule(7), Some(Rule::Pair(6, 3)));
+/// assert_eq!(plan.rule(8), None);
+/// # Ok::<(), mealplan::Refused>(())
+/// ```
+#[derive(Clone, Copy, PartialEq, Eq, Debug)]
+pub struct Plan<'a> {
+    bytes: &'a [u8],
+    checked: Checked,
+}
+
+impl<'a> Plan<'a> {
+    /// Checks a plan's bytes, with its cover if it has one. Refused with 1 to 7 or 12.
+    pub fn new(bytes: &'a [u8]) -> Result<Plan<'a>, Refused> {
+        check(bytes).map(|checked| Plan { bytes, checked })
+    }
+
+    /// The bytes as they were lent.
+    pub fn bytes(self) -> &'a [u8] {
+        self.bytes
+    }
+
+    /// The number of rules.
+    pub fn n(self) -> u16 {
+        self.checked.n
+    }
+
+    /// The start rule.
+    pub fn start(self) -> u16 {
+        self.checked.start
+    }
+
+    /// What its mark says: narrow or wide.
+    pub fn format(self) -> Format {
+        Format::from_accepted(self.bytes)
+    }
+
+    /// The bytes before the first rule and those of the rules. A checked plan has both.
+    fn parts(self) -> (&'a [u8], &'a [u8]) {
+        let rules = self.bytes.len().saturating_sub(TRAILER);
+        let first = rules.saturating_sub(words_bytes(self.n().into(), self.format()));
+        self.bytes.split_at_checked(rules).unwrap_or_default().0.split_at_checked(first).unwrap_or_default()
+    }
+
+    /// The rules' records, rule 0's first.
+    fn records(self) -> ChunksExact<'a, u8> {
+        self.parts().1.chunks_exact(self.format().record_length().into())
+    }
+
+    /// The bytes before the first rule, which no function reads: document 01's cover.
+    pub fn prefix(self) -> &'a [u8] {
+        self.parts().0
+    }
+
+    /// The rules, rule 0 first.
+    pub fn rules(self) -> impl ExactSizeIterator<Item = Rule> + 'a {
+        self.records().map(Rule::from_record)
+    }
+
+    /// A rule by its number.
+    pub fn rule(self, number: u16) -> Option<Rule> {
+        self.records().nth(number.into()).map(Rule::from_record)
+    }
+}
+
+impl<'a> TryFrom<&'a [u8]> for Plan<'a> {
+    type Error = Refused;
+
+    fn try_from(bytes: &'a [u8]) -> Result<Plan<'a>, Refused> {
+        Plan::new(bytes)
+    }
+}
+
+/// The operations on a plan, each lending what it needs.
+#[cfg(feature = "alloc")]
+impl<'a> Plan<'a> {
+    fn work(self) -> Vec<u8> {
+        vec![0; work_bytes(self.n().into())]
+    }
+
+    /// Counts trees, entries and levels. Refused with 11 for more than 2^64 − 1 nodes.
+    ///
+    /// ```
+    /// # let bytes = std::fs::read(concat!(env!("CARGO_MANIFEST_DIR"), "/../../samples/plan.bin")).unwrap();
+    /// let size = mealplan::Plan::new(&bytes)?.measure()?;
+    /// assert_eq!((size.trees, size.entries, size.levels), (3, 11, 3));
+    /// # Ok::<(), mealplan::Refused>(())
+    /// ```
+    pub fn measure(self) -> Result<Measured, Refused> {
+        measure(self.bytes, &mut self.work())
+    }
+
+    /// The forest as text, of at most so many bytes. Refused with 11 where it is longer, or where there is no memory for it.
+    ///
+    /// ```
+    /// # let bytes = std::fs::read(concat!(env!("CARGO_MANIFEST_DIR"), "/../../samples/plan.bin")).unwrap();
+    /// let plan = mealplan::Plan::new(&bytes)?;
+    /// assert_eq!(plan.spread(1_000)?, b"(c(a)(b)(c(a)(b)(a)(b))(b))(a)(b)");
+    /// assert_eq!(plan.spread(32).unwrap_err().number, 11);
+    /// # Ok::<(), mealplan::Refused>(())
+    /// ```
+    pub fn spread(self, most: usize) -> Result<Vec<u8>, Refused> {
+        let room = crate::Refusal::Room.at(0);
+        let mut work = self.work();
+        let nodes = measure(self.bytes, &mut work)?.entries;
+        let length = text_bytes(nodes, self.format()).filter(|length| *length <= most).ok_or(room)?;
+        let mut text = Vec::new();
+        text.try_reserve_exact(length).map_err(|_| room)?;
+        text.resize(length, 0);
+        spread(self.bytes, &mut work, &mut text)?;
+        Ok(text)
+    }
+
+    /// The copy of the plan for a client of a class, a wide plan without cover: its forest is this one's with every node of a higher class gone
+    /// and all below it. Refused with 13 for a class above 3, with 16 for a plan of more than 4,096 rules.
+    ///
+    /// ```
+    /// use mealplan::{Classes, LAST_LABEL, LabelRow, Plan};
+    /// # let bytes = std::fs::read(concat!(env!("CARGO_MANIFEST_DIR"), "/../../samples/plan.bin")).unwrap();
+    /// let rows = [LabelRow::new(0, 97, 0), LabelRow::new(98, 98, 2), LabelRow::new(99, LAST_LABEL, 1)];
+    /// let copy = Plan::new(&bytes)?.copy(Classes::new(&rows)?, 1)?;
+    /// // Of the eleven entries five have label 98, which a client of class 1 doesn't see.
+    /// assert_eq!(Plan::new(&copy)?.measure()?.entries, 6);
+    /// # Ok::<(), mealplan::Refused>(())
+    /// ```
+    pub fn copy(self, classes: Classes, class: u16) -> Result<Vec<u8>, Refused> {
+        let mut out = vec![0; copy_bytes(self.n().into())];
+        let length = copy(self.bytes, classes.rows(), class, &mut self.work(), &mut out)?;
+        out.truncate(length);
+        Ok(out)
+    }
+
+    /// A walker above the plan's forest.
+    pub fn walker(self) -> Walker<'a> {
+        Walker::new(self)
+    }
+}

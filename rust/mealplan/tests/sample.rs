@@ -1,0 +1,219 @@
+//! The crate on the sample plans: its values, lengths, places and refusals.
+use mealplan::*;
+
+/// The rules of document 01's sample plan with labels for 97, 98 and 99.
+fn rules([a, b, c]: [Label; 3]) -> [Rule; 8] {
+    [
+        Rule::Empty,
+        Rule::Node(a, 0),
+        Rule::Node(b, 0),
+        Rule::Pair(1, 2),
+        Rule::Part(c, 3, 2),
+        Rule::Join(4, 4),
+        Rule::Fill(5, 1),
+        Rule::Pair(6, 3),
+    ]
+}
+
+/// The sample plans, with their format and rules.
+fn samples() -> [(Vec<u8>, Format, [Rule; 8]); 2] {
+    let read = |name| std::fs::read(format!("{}/../../samples/{name}", env!("CARGO_MANIFEST_DIR"))).expect(name);
+    [
+        (read("plan.bin"), Format::Narrow, rules([97, 98, 99])),
+        (read("wide.bin"), Format::Wide, rules([65_535, 66_051, 16_777_215])),
+    ]
+}
+
+#[test]
+fn plans_are_what_their_bytes_say() {
+    for (bytes, format, rules) in samples() {
+        let plan = Plan::try_from(&bytes[..]).expect("the sample");
+        assert_eq!((plan.n(), plan.start(), plan.format()), (8, 7, format));
+        assert!(plan.rules().eq(rules) && plan.rules().len() == 8);
+        assert_eq!(plan.rule(6), Some(Rule::Fill(5, 1)));
+        assert_eq!((plan.rule(8), plan.rule(65_535)), (None, None));
+        assert_eq!((plan.bytes(), plan.prefix()), (&bytes[..], &[][..]));
+        assert_eq!(seal_rules(&rules, format, 7).as_ref(), Ok(&bytes));
+        let covered = [b"a cover", &bytes[..]].concat();
+        let plan = Plan::new(&covered).expect("a cover is no fault");
+        assert!(plan.rules().eq(rules));
+        assert_eq!(plan.prefix(), b"a cover");
+    }
+}
+
+#[test]
+fn rules_tell_what_they_name() {
+    let named = |rule: Rule| (rule.named().collect::<Vec<u16>>(), rule.label(), rule.is_holed());
+    assert_eq!(named(Rule::Empty), (vec![], None, false));
+    assert_eq!(named(Rule::Node(5, 1)), (vec![1], Some(5), false));
+    assert_eq!(named(Rule::Part(6, 3, 2)), (vec![3, 2], Some(6), true));
+    assert_eq!(named(Rule::Join(4, 4)), (vec![4, 4], None, true));
+    assert_eq!(named(Rule::Pair(1, 2)), (vec![1, 2], None, false));
+}
+
+#[test]
+fn labels_that_a_format_has_not_are_refused_where_the_rule_is() {
+    let sealed = |label, format| seal_rules(&[Rule::Empty, Rule::Empty, Rule::Node(label, 0)], format, 2);
+    for (format, most) in [(Format::Narrow, 255), (Format::Wide, LAST_LABEL)] {
+        assert_eq!(format.most_label(), most);
+        assert!(sealed(most, format).is_ok());
+        for label in [most + 1, 65_536 + most + 1, 1 << 24, u32::MAX] {
+            assert_eq!(sealed(label, format), Err(Refusal::Malformed.at(2)));
+        }
+    }
+    assert_eq!(seal_rules(&[], Format::Wide, 0), Err(Refusal::Count.at(0)));
+    assert_eq!(seal_rules(&vec![Rule::Empty; MOST_RULES + 1], Format::Narrow, 0), Err(Refusal::Count.at(0)));
+    assert!(seal_rules(&vec![Rule::Empty; MOST_RULES], Format::Narrow, 0).is_ok());
+    assert_eq!(seal_rules(&vec![Rule::Empty; 70_000], Format::Narrow, 0), Err(Refusal::Count.at(0)));
+}
+
+#[test]
+fn every_length_is_the_least_that_is_accepted() {
+    for (bytes, format, _) in samples() {
+        let n = 8;
+        let (mut work, mut cursor) = (vec![0; work_bytes(n)], vec![0; cursor_bytes(n)]);
+        let (mut answers, mut text) = ([0; answers_bytes(2)], vec![0; text_bytes(11, format).expect("it is small")]);
+        let (mut words, mut plan) = (vec![0; words_bytes(n, format)], vec![0; plan_bytes(n, format)]);
+        let mut out = vec![0; copy_bytes(n)];
+        let rows = [LabelRow::new(0, LAST_LABEL, 0)];
+        let less = |slice: &mut [u8]| slice.len() - 1;
+        let lent = Err(Refusal::Lent.at(0));
+        let room = Refusal::Room.at(0);
+
+        let short = less(&mut work);
+        assert_eq!(walk(&bytes, &mut work[..short], &mut cursor, b"af", &mut answers), lent);
+        let short = less(&mut cursor);
+        assert_eq!(walk(&bytes, &mut work, &mut cursor[..short], b"af", &mut answers), lent);
+        let short = less(&mut answers);
+        assert_eq!(walk(&bytes, &mut work, &mut cursor, b"af", &mut answers[..short]), lent);
+        assert_eq!(walk(&bytes, &mut work, &mut cursor, b"af", &mut answers), Ok(()));
+        let short = less(&mut text);
+        assert_eq!(spread(&bytes, &mut work, &mut text[..short]), Err(room));
+        assert_eq!(spread(&bytes, &mut work, &mut text), Ok(text.len() as u64));
+        let short = less(&mut words);
+        assert_eq!(unseal(&bytes, &mut words[..short]), Err(room));
+        let unsealed = unseal(&bytes, &mut words).expect("a plan");
+        assert_eq!(Format::from_record_length(unsealed.record_length), Some(format));
+        let short = less(&mut plan);
+        assert_eq!(seal(&words, format.record_length(), 7, &mut plan[..short]), Err(room));
+        assert_eq!(seal(&words, format.record_length(), 7, &mut plan), Ok(bytes.len() as u64));
+        assert_eq!(plan, bytes);
+        let short = less(&mut out);
+        assert_eq!(copy(&bytes, &rows, 0, &mut work, &mut out[..short]).map(|_| ()), lent);
+        assert!(copy(&bytes, &rows, 0, &mut work, &mut out).is_ok());
+    }
+    assert_eq!(text_bytes(u64::MAX, Format::Wide), None);
+    assert_eq!(Format::from_record_length(9), None);
+}
+
+#[test]
+fn a_walker_answers_as_document_01_says() {
+    for (bytes, _, rules) in samples() {
+        let [a, b, c] = [1, 2, 4].map(|rule: usize| rules[rule].label());
+        let plan = Plan::new(&bytes).expect("the sample");
+        let mut walker = plan.walker();
+        let answers = walker.walk(b"afnnfnnnnununnn").expect("letters");
+        assert_eq!(answers, [c, a, b, c, a, b, a, b, None, c, b, c, a, b, None]);
+        assert_eq!((walker.label(), walker.cell_count()), (b, 3));
+        walker.leave();
+        assert_eq!((walker.label(), walker.cell_count(), walker.place()), (None, 0, Place::above()));
+        for nowhere in [Walker::first_child, Walker::last_child, Walker::next_sibling, Walker::parent] {
+            assert_eq!((nowhere(&mut walker), walker.label()), (None, None));
+        }
+        assert_eq!([walker.last_root(), walker.previous_sibling(), walker.previous_sibling()], [b, a, c]);
+        assert_eq!([walker.last_child(), walker.previous_sibling(), walker.last_child()], [b, c, b]);
+        assert_eq!([walker.parent(), walker.parent(), walker.parent(), walker.label()], [c, c, None, c]);
+        assert_eq!(walker.walk(b""), Ok(vec![]));
+        assert_eq!(walker.label(), c);
+        assert_eq!(walker.plan(), plan);
+    }
+}
+
+#[test]
+fn places_have_document_01s_cells() {
+    let [(bytes, ..), _] = samples();
+    let mut walker = Plan::new(&bytes).expect("the sample").walker();
+    assert_eq!((walker.place().to_string(), walker.place().is_empty()), (String::new(), true));
+    walker.walk(b"afnnfnn").expect("letters");
+    let place = walker.place();
+    assert_eq!(place.to_string(), "(1, 0, 7, 0) (3, 7, 6, 0) (2, 6, 0, 0) (4, 5, 4, 0) (2, 1, 0, 0)");
+    assert_eq!((place.len(), place.as_bytes().len(), place.cells().count()), (5, 48, 5));
+    assert_eq!(format!("{walker:?}"), format!("Walker {{ place: {place}, label: Some(97) }}"));
+}
+
+#[test]
+fn a_place_that_is_none_moves_nothing() {
+    let [(bytes, ..), (wide, ..)] = samples();
+    let mut walker = Plan::new(&bytes).expect("the sample").walker();
+    walker.walk(b"afn").expect("letters");
+    let kept = walker.place();
+    let refused = Refusal::Place.at(0);
+    let mut damaged =
+        vec![vec![], vec![1], vec![0; 7], vec![1, 0], vec![255; 8], vec![255; 700_000], vec![0, 0, 1, 0, 0, 0, 0, 0]];
+    for byte in 0..kept.as_bytes().len() {
+        damaged.push(kept.to_bytes());
+        damaged.last_mut().expect("one was pushed")[byte] ^= 1;
+    }
+    damaged.push(kept.as_bytes()[..kept.as_bytes().len() - 1].to_vec());
+    for bytes in &damaged {
+        let place = Place::from_bytes(bytes);
+        assert_eq!(walker.go_to(&place), Err(refused), "{bytes:?}");
+        assert_eq!(walker.compare(&place, 9), Err(refused));
+        assert_eq!((walker.place(), walker.label()), (kept.clone(), Some(98)));
+    }
+    // What stands behind the used cells isn't looked at, and above the forest is a place to go to, but not to compare with.
+    assert_eq!(walker.go_to(&Place::from_bytes(&[kept.as_bytes(), &[7; 9]].concat())), Ok(Some(98)));
+    assert_eq!(walker.compare(&Place::default(), 9), Err(refused));
+    assert_eq!(walker.go_to(&Place::default()), Ok(None));
+    assert_eq!(walker.compare(&kept, 9), Err(refused));
+    // A place of one plan is one of another where the rules are the same but for labels.
+    assert_eq!(Plan::new(&wide).expect("the sample").walker().go_to(&kept), Ok(Some(66_051)));
+}
+
+#[test]
+fn texts_and_copies_of_the_samples() {
+    let rows = [LabelRow::new(0, 97, 0), LabelRow::new(98, 98, 2), LabelRow::new(99, LAST_LABEL, 1)];
+    let classes = Classes::try_from(&rows[..]).expect("a sound list");
+    assert_eq!(
+        (classes.class_of(LAST_LABEL), classes.class_of(LAST_LABEL + 1)),
+        (Ok(1), Err(Refusal::Malformed.at(0)))
+    );
+    assert_eq!(classes.rows(), rows);
+    let [(bytes, ..), (wide, ..)] = samples();
+    let plan = Plan::new(&bytes).expect("the sample");
+    assert_eq!(plan.spread(33).as_deref(), Ok(&b"(c(a)(b)(c(a)(b)(a)(b))(b))(a)(b)"[..]));
+    assert_eq!(Plan::new(&wide).and_then(|wide| wide.spread(54)), Err(Refusal::Room.at(0)));
+    let entries =
+        |class| plan.copy(classes, class).and_then(|copy| Plan::new(&copy)?.measure()).map(|size| size.entries);
+    assert_eq!([0, 1, 2, 3].map(entries), [Ok(1), Ok(6), Ok(11), Ok(11)]);
+    assert_eq!(entries(4), Err(Refusal::Row.at(0)));
+}
+
+#[test]
+fn a_forest_that_nobody_unfolds() {
+    // A row doubled 900 times.
+    let mut rules = vec![Rule::Empty, Rule::Node(97, 0)];
+    rules.extend((1..=900).map(|row| Rule::Pair(row, row)));
+    let bytes = seal_rules(&rules, Format::Narrow, 901).expect("a plan");
+    let plan = Plan::new(&bytes).expect("it was sealed");
+    assert_eq!((plan.measure(), plan.spread(usize::MAX)), (Err(Refusal::Room.at(0)), Err(Refusal::Room.at(0))));
+    let mut walker = plan.walker();
+    assert_eq!([walker.last_root(), walker.next_sibling(), walker.previous_sibling()], [Some(97), None, Some(97)]);
+}
+
+#[test]
+fn refusals_in_words() {
+    for (i, refusal) in Refusal::ALL.into_iter().enumerate() {
+        assert_eq!(refusal.number(), i as u32 + 1);
+        let refused = refusal.at(41);
+        assert_eq!(refused.refusal(), Some(refusal));
+        let text = refused.to_string();
+        assert!(text.starts_with(&format!("refused {} at 41: ", i + 1)) && text.len() > 44, "{text}");
+        let tells = text.matches("41").count() == 2;
+        assert_eq!(tells, [4, 5, 6, 9, 12, 13, 14, 15].contains(&refused.number), "{text}");
+    }
+    let other = Refused { number: 17, position: 0 };
+    assert_eq!((other.refusal(), other.to_string()), (None, "refused 17 at 0: no such refusal".into()));
+    let boxed: Box<dyn std::error::Error + Send + Sync> = Box::new(Refusal::Cycle.at(3));
+    assert_eq!(boxed.to_string(), "refused 12 at 3: rule 3 reaches itself through the rules it names");
+}

@@ -1,0 +1,41 @@
+//! The part of the crate that calls no C function: lengths, formats, rules, answers, places and the words of refusals. Miri can run it.
+use mealplan::*;
+
+#[test]
+fn lengths_by_the_header() {
+    assert_eq!((work_bytes(1_024), work_bytes(1_025)), (65_536, 82_000));
+    assert_eq!((cursor_bytes(8), answers_bytes(3), copy_bytes(8)), (288, 12, 330));
+    assert_eq!((plan_bytes(8, Format::Narrow), plan_bytes(8, Format::Wide)), (74, 90));
+    assert_eq!((words_bytes(8, Format::Narrow), words_bytes(8, Format::Wide)), (64, 80));
+    assert_eq!((text_bytes(11, Format::Narrow), text_bytes(11, Format::Wide)), (Some(33), Some(55)));
+    assert_eq!(text_bytes(u64::MAX / 3 + 1, Format::Narrow), None);
+}
+
+#[test]
+fn rules_in_words() {
+    let label = 0x00_02_01_07;
+    assert_eq!(Rule::Node(label, 9).words(Format::Wide), [2, 0x0107, 9, 0, 2]);
+    assert_eq!(Rule::Part(255, 3, 2).words(Format::Narrow), [4, 255, 3, 2, 0]);
+    assert_eq!(Rule::Part(label, 3, 2).words(Format::Narrow), [4, 65_535, 3, 2, 0]);
+    assert_eq!(Rule::Join(3, 2).words(Format::Wide), [5, 3, 2, 0, 0]);
+}
+
+#[test]
+fn places_of_any_bytes() {
+    for length in 0..40 {
+        let bytes: Vec<u8> =
+            (0..length).map(|byte| if byte == 0 { 2 } else { (byte % 2) as u8 * byte as u8 }).collect();
+        let place = Place::from_bytes(&bytes);
+        assert!(bytes.starts_with(place.as_bytes()) && place.as_bytes().len() <= 8 + 8 * 0x0102);
+        assert_eq!(place.cells().count(), (place.as_bytes().len() / 8).saturating_sub(1));
+    }
+    assert_eq!(Place::from_bytes(&[1, 0, 0, 0, 0, 0, 0, 0, 2, 0, 1, 2, 0, 0, 0, 0, 9]).to_string(), "(2, 513, 0, 0)");
+}
+
+#[test]
+fn answers_and_words() {
+    assert!(labels(&[]).next().is_none());
+    assert!(labels(&[1, 2, 3, 0, 255, 255, 255, 255, 1, 2, 3]).eq([Some(197_121), None]));
+    assert_eq!(Refusal::from_number(0), None);
+    assert!(Refusal::ALL.iter().all(|refusal| refusal.at(3).to_string().contains(" at 3: ")));
+}

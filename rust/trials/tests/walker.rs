@@ -1,0 +1,72 @@
+//! Crate `mealplan`'s plans, walkers and places on generated plans, held to the reference by rules.
+use mealplan::{Compared, Place, Plan, Walker};
+use reference::plan::{cursor_bytes, work_bytes};
+use trials::draft::Draft;
+use trials::random::Random;
+use trials::{families, random_plans};
+
+const LETTERS: &[u8; 8] = b"azflnpus";
+
+/// One move by the method that has the letter; none for s.
+fn moved(walker: &mut Walker, letter: u8) -> Option<u32> {
+    match letter {
+        b'a' => walker.first_root(),
+        b'z' => walker.last_root(),
+        b'f' => walker.first_child(),
+        b'l' => walker.last_child(),
+        b'n' => walker.next_sibling(),
+        b'p' => walker.previous_sibling(),
+        b'u' => walker.parent(),
+        _ => walker.label(),
+    }
+}
+
+/// The reference's answers and the place that it ends at.
+fn reference(draft: &Draft, letters: &[u8]) -> (Vec<Option<u32>>, Vec<u8>) {
+    let (mut work, mut cursor) = (vec![0; work_bytes(draft.n())], vec![0; cursor_bytes(draft.n())]);
+    let mut answers = vec![0; 4 * letters.len()];
+    reference::rules::walk(&draft.plan(), &mut work, &mut cursor, letters, &mut answers).expect("an accepted plan");
+    (mealplan::labels(&answers).collect(), cursor)
+}
+
+#[test]
+fn methods_answer_as_the_reference_does() {
+    let mut random = Random::new(Random::seed());
+    let mut moves = 0;
+    for round in 0..300 {
+        let draft = if round % 2 == 0 { families::any(&mut random, 60) } else { random_plans::any(&mut random, 40) };
+        let draft = if round % 3 == 0 { random_plans::widened(&draft, &mut random) } else { draft };
+        let bytes = draft.plan();
+        let plan = Plan::new(&bytes).expect("a generated plan");
+        assert_eq!((usize::from(plan.n()), plan.start()), (draft.n(), draft.start));
+        assert_eq!(plan.prefix(), draft.prefix);
+        let own: Vec<[u16; 5]> = plan.rules().map(|rule| rule.words(plan.format())).collect();
+        assert_eq!(own, draft.records);
+
+        let letters: Vec<u8> = (0..40).map(|_| random.pick(LETTERS)).collect();
+        let (expected, cursor) = reference(&draft, &letters);
+        let mut walker = plan.walker();
+        let mut kept = Vec::new();
+        let answers: Vec<Option<u32>> = letters
+            .iter()
+            .map(|letter| {
+                let answer = moved(&mut walker, *letter);
+                kept.push((walker.place(), walker.label()));
+                answer
+            })
+            .collect();
+        assert_eq!(answers, expected);
+        assert_eq!(walker.place(), Place::from_bytes(&cursor));
+        assert_eq!(plan.walker().walk(&letters), Ok(expected));
+        moves += answers.iter().flatten().count();
+
+        // Every place that was kept is gone back to, and is the same as itself.
+        for (place, label) in kept {
+            assert_eq!(walker.go_to(&place), Ok(label));
+            assert_eq!(walker.place(), place);
+            let compared = walker.compare(&place, 1_000);
+            assert!(matches!(compared, Ok(Compared::Same(_) | Compared::Spent(1_000))) || label.is_none());
+        }
+    }
+    assert!(moves > 3_000, "only {moves} letters led to a node");
+}
