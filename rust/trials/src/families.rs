@@ -98,15 +98,28 @@ pub fn nodes(n: usize) -> Draft {
 pub fn spine(growth: Growth, n: usize) -> Draft {
     let mut draft = Draft::default();
     let (_, leaf) = ground(&mut draft);
-    let part = draft.add(Rule::Part(u32::from(b'c'), leaf, leaf));
+    grow_spine(&mut draft, growth, n, [leaf, leaf]);
+    draft
+}
+
+/// The same with nothing before the hole, so that f goes down the spine.
+pub fn left_spine(growth: Growth, n: usize) -> Draft {
+    let mut draft = Draft::default();
+    let (empty, leaf) = ground(&mut draft);
+    grow_spine(&mut draft, growth, n, [empty, leaf]);
+    draft
+}
+
+/// Grows a spine from a part with these arms, up to n rules, with the second in its hole.
+fn grow_spine(draft: &mut Draft, growth: Growth, n: usize, [before, behind]: [u16; 2]) {
+    let part = draft.add(Rule::Part(u32::from(b'c'), before, behind));
     let mut spine = part;
     let growth = if growth == Growth::OneSided { Growth::Doubled } else { growth };
     for step in 0..n.saturating_sub(4) {
         let (b, c) = growth.sides(step, spine, part, part);
         spine = draft.add(Rule::Join(b, c));
     }
-    draft.add(Rule::Fill(spine, leaf));
-    draft
+    draft.add(Rule::Fill(spine, behind));
 }
 
 /// Spines in the last holes of spines: each rule's C is the tree before it, and by turns one arm of the part is empty.

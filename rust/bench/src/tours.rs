@@ -38,6 +38,19 @@ pub fn repeating(draft: &Draft, letter: u8, count: usize) -> Tour {
     Tour { begin: Vec::new(), letters: one.into_iter().cycle().take(count).collect() }
 }
 
+/// One letter for as long as it leads somewhere, at most 1,000 times, and another as often to come back; over and over.
+pub fn there_and_back(draft: &Draft, there: u8, back: u8, count: usize) -> Tour {
+    let steps = lap(draft, b"a", there).len() - 1;
+    let one = [there, back].map(|letter| vec![letter; steps]).concat();
+    Tour { begin: b"a".to_vec(), letters: one.into_iter().cycle().take(count).collect() }
+}
+
+/// The label asked for again and again where f leads no further.
+pub fn staying_below(draft: &Draft, count: usize) -> Tour {
+    let begin = [b"a", &vec![b'f'; draft.n()][..]].concat();
+    Tour { begin, letters: vec![b's'; count] }
+}
+
 /// The parent asked for again and again from the middle of the forest's own row, or 500 trees from its start.
 pub fn up_from_the_middle(draft: &Draft, count: usize) -> Tour {
     let row = lap(draft, b"a", b'n').len();

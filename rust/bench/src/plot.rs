@@ -8,7 +8,7 @@ const MARGIN: f64 = 50.0;
 
 /// The plot: a place for each number of entries to the right, nanoseconds up.
 pub fn by_entries(points: &[(String, Times)]) -> String {
-    let highest = points.iter().map(|(_, times)| times.library.max(times.reference)).fold(10.0, f64::max);
+    let highest = points.iter().map(|(_, times)| times.library.max(times.other)).fold(10.0, f64::max);
     let mut plot = Plot { svg: String::new(), places: points.len(), top: (highest / 10.0).ceil() * 10.0 };
     plot.put(&format!(
         "<svg xmlns=\"http://www.w3.org/2000/svg\" width=\"{WIDTH}\" height=\"{HEIGHT}\" font-family=\"sans-serif\" font-size=\"12\">"
@@ -26,7 +26,7 @@ pub fn by_entries(points: &[(String, Times)]) -> String {
     plot.label(MARGIN, 24.0, "start", "nanoseconds a letter");
     plot.label(WIDTH / 2.0, HEIGHT - 10.0, "middle", "entries");
     plot.line(points.iter().map(|(_, times)| times.library), "#b03030", "library", WIDTH - 210.0);
-    plot.line(points.iter().map(|(_, times)| times.reference), "#3050b0", "reference", WIDTH - 130.0);
+    plot.line(points.iter().map(|(_, times)| times.other), "#3050b0", "reference", WIDTH - 130.0);
     plot.put("</svg>");
     plot.svg
 }

@@ -1,11 +1,14 @@
 //! Measures the proved library against the reference by rules, in one run and on the same buffers; prints the tables and writes them to
 //! docs/bench.md, with a plot in docs/bench.svg. `bench check` only prints the times of check by the order of the rules, `bench compare` those
-//! of compare, `bench rows` those of the class of a label, `bench copy` those of copy. It ends in an error where a copy takes longer than five
-//! measures of the same plan.
+//! of compare, `bench rows` those of the class of a label, `bench copy` those of copy, `bench baseline` those beside the archive that `BASELINE`
+//! named when this was built. It ends in an error where a copy takes longer than five measures of the same plan.
+mod archive;
+mod baseline;
 mod compares;
 mod copies;
 mod plot;
 mod report;
+mod setting;
 mod timing;
 mod tours;
 
@@ -43,12 +46,13 @@ fn main() -> io::Result<()> {
             "check" => orders(&mut report),
             "compare" => compares::all(&mut report),
             "rows" => classes(&mut report),
+            "baseline" => baseline::all(&mut report),
             "copy" => {
                 let most = copies::all(&mut report);
                 print!("{}", report.text());
                 return copies::few_measures(most);
             }
-            _ => return Err(io::Error::other("bench [check | compare | rows | copy]")),
+            _ => return Err(io::Error::other("bench [check | compare | rows | copy | baseline]")),
         }
         print!("{}", report.text());
         return Ok(());
@@ -63,6 +67,7 @@ fn main() -> io::Result<()> {
     compares::all(&mut report);
     classes(&mut report);
     let most = copies::all(&mut report);
+    baseline::all(&mut report);
     print!("{}", report.text());
     let docs: PathBuf = [env!("CARGO_MANIFEST_DIR"), "..", "..", "docs"].iter().collect();
     fs::write(docs.join("bench.svg"), plot::by_entries(&by_entries))?;
@@ -128,7 +133,7 @@ fn entries(report: &mut Report) -> Vec<(String, Times)> {
         }
     }
     for ((name, start), (_, times)) in starts.iter().zip(&costs) {
-        report.row(name, (*start).into(), &[times.shown()]);
+        report.row(name, *start, &[times.shown()]);
     }
     costs
 }

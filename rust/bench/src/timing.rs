@@ -1,4 +1,4 @@
-//! The clock: both implementations in turn on the same buffers, the best of many rounds.
+//! The clock: two implementations in turn on the same buffers, the best of many rounds.
 use mealplan::LabelRow;
 use reference::Refused;
 use reference::copy::{Client, copy_bytes};
@@ -10,44 +10,49 @@ use trials::call::{ByRules, Call, Implementation, Operation, Outcome, Slices, Va
 use trials::draft::Draft;
 use trials::library::Library;
 
-const ROUNDS: usize = 100;
+pub const ROUNDS: usize = 100;
 
-/// Nanoseconds.
+/// Nanoseconds of the library, and of what it is timed beside: the reference, or the baseline.
 #[derive(Clone, Copy)]
 pub struct Times {
     pub library: f64,
-    pub reference: f64,
+    pub other: f64,
 }
 
 impl Times {
-    pub const WORST: Times = Times { library: f64::INFINITY, reference: f64::INFINITY };
+    pub const WORST: Times = Times { library: f64::INFINITY, other: f64::INFINITY };
 
     pub fn min(self, other: Times) -> Times {
-        Times { library: self.library.min(other.library), reference: self.reference.min(other.reference) }
+        Times { library: self.library.min(other.library), other: self.other.min(other.other) }
+    }
+
+    /// The one by the other.
+    pub fn ratio(self) -> f64 {
+        self.library / self.other
     }
 
     pub fn shown(self) -> String {
-        let Times { library, reference } = self;
-        if reference.is_infinite() {
+        let Times { library, other } = self;
+        if other.is_infinite() {
             let digits = if library < 10.0 { 2 } else { 1 };
             return format!("{library:.digits$} / –");
         }
-        let digits = if library.max(reference) < 10.0 { 2 } else { 1 };
-        format!("{library:.digits$} / {reference:.digits$} ({:.2})", library / reference)
+        let digits = if library.max(other) < 10.0 { 2 } else { 1 };
+        format!("{library:.digits$} / {other:.digits$} ({:.2})", self.ratio())
     }
 }
 
 impl Sub for Times {
     type Output = Times;
     fn sub(self, other: Times) -> Times {
-        Times { library: self.library - other.library, reference: self.reference - other.reference }
+        Times { library: self.library - other.library, other: self.other - other.other }
     }
 }
 
 impl Div<f64> for Times {
     type Output = Times;
     fn div(self, by: f64) -> Times {
-        Times { library: self.library / by, reference: self.reference / by }
+        Times { library: self.library / by, other: self.other / by }
     }
 }
 
@@ -134,14 +139,19 @@ impl Desk {
 
     /// The time of one call: the best of many rounds of `times` calls, library and reference by turns.
     pub fn time(&mut self, operation: Operation, times: usize) -> Times {
+        self.time_beside(&mut ByRules, operation, times)
+    }
+
+    /// The same with another implementation than the reference.
+    pub fn time_beside(&mut self, beside: &mut dyn Implementation, operation: Operation, times: usize) -> Times {
         let mut best = Times::WORST;
         for _ in 0..self.rounds {
             let (library, outcome) = self.round(&mut Library, operation, times);
             let (answers, cursor) = (self.call.answers.clone(), self.call.cursor.clone());
-            let (reference, expected) = self.round(&mut ByRules, operation, times);
+            let (other, expected) = self.round(beside, operation, times);
             let same = answers == self.call.answers && cursor == self.call.cursor && outcome == expected;
             assert!(same, "both do the same");
-            best = best.min(Times { library, reference });
+            best = best.min(Times { library, other });
         }
         best
     }
@@ -182,8 +192,8 @@ pub fn class(count: usize) -> Times {
     let mut best = Times::WORST;
     for _ in 0..ROUNDS {
         let library = timed(times, || mealplan::class(black_box(&lent), LAST_LABEL).ok() == expected);
-        let reference = timed(times, || in_order(black_box(&rows), LAST_LABEL).ok() == expected);
-        best = best.min(Times { library, reference });
+        let other = timed(times, || in_order(black_box(&rows), LAST_LABEL).ok() == expected);
+        best = best.min(Times { library, other });
     }
     best
 }
