@@ -17,16 +17,16 @@ use Rattle.spread_stack.specs.declared.State.{State}
 use Rattle.forest.specs.Spelling.{inBytes}
 use Rattle.spread_step.specs.Task.{parts, closeTask, taskHeight}
 use Rattle.spread_step.specs.Step.{saidBytes, tasksAt, stepIn}
-use Rattle.spread_stack.specs.Stack.{tasksSpoken, tasksText, tasksTurns, addTasks, tasksIn, taskOver, written, Turnable, TurnMade}
+use Rattle.spread_stack.specs.Stack.{tasksSpoken, tasksText, tasksTurns, addTasks, tasksIn, tasksHeld, written, Lifted, Turnable, TurnMade}
 use Rattle.spread_stack.specs.Run.{meant, stackAt, workEnd, stackText, Stacked, on, Runnable, Ran}
 use Rattle.spread_stack.proofs.Turns.{Turned, turn}
 use Rattle.spread_stack.proofs.Rows.{View, view, view-kept}
 
--- the task on top
-pub tasks-top : (t : List ℕ) (from k : ℕ) → 0 < k → tasksIn t from k ≡ taskOver t from (k - 1) ∷ tasksIn t from (k - 1)
-unfolding tasksIn
-tasks-top t from zero l = absurd (omega arith)
-tasks-top t from (suc k) l = let e : suc k - 1 ≡ k = omega arith in rw e
+-- the task in hand
+held-top : (v : ℕ) (t : List ℕ) (from k : ℕ) → 0 < k → tasksHeld v t from k ≡ v ∷ tasksIn t from (k - 1)
+unfolding tasksHeld
+held-top v t from zero l = absurd (omega arith)
+held-top v t from (suc k) l = let e : suc k - 1 ≡ k = omega arith in rw e
 
 pub tasks-length : (t : List ℕ) (from k : ℕ) → length (tasksIn t from k) ≡ k
 unfolding tasksIn
@@ -34,23 +34,24 @@ tasks-length t from zero = refl
 tasks-length t from (suc k) = ap suc (tasks-length t from k)
 
 -- the loop so far; s and out₀ are work and output where it begins, with the first tasks on the stack
-pub record Running (f : Format) (n first : ℕ) (s out₀ t out : List ℕ) (k at : ℕ) : Type 0 where
+pub record Running (f : Format) (n first : ℕ) (s out₀ t out : List ℕ) (v k at : ℕ) : Type 0 where
   pub within : Within (stackAt n) (workEnd n) s t
   pub long : length out ≡ length out₀
   pub far : at ≤ length out
-  pub text : take at out ++ tasksText f (meant s n) (tasksIn t (stackAt n) k) ≡ stackText f s n first
+  pub text : take at out ++ tasksText f (meant s n) (tasksHeld v t (stackAt n) k) ≡ stackText f s n first
   pub rest : drop (length (stackText f s n first)) out ≡ drop (length (stackText f s n first)) out₀
-  pub stacked : Stacked (meant s n) n (2 * n) (tasksIn t (stackAt n) k)
+  pub stacked : Stacked (meant s n) n (2 * n) (tasksHeld v t (stackAt n) k)
 
-pub running-start : (f : Format) (n first : ℕ) (s out : List ℕ) → Runnable f s out n first → Running f n first s out s out first 0
-running-start f n first s out a =
+pub running-start : {f : Format} {n first : ℕ} {s out : List ℕ} {x : State} → Runnable f s out n first → Lifted (stackAt n) first 0 x s
+    → Running f n first s out s out (x .task) (x .tasks) (x .at)
+running-start {n = n} {s = s} a p =
     record {
       within = within-none (stackAt n) (workEnd n) s;
       long = refl;
-      far = omega arith;
-      text = refl;
+      far = omega (arith, p .stays);
+      text = rw (p .tasks, p .stays);
       rest = refl;
-      stacked = a .stacked;
+      stacked = rw (p .tasks) (a .stacked);
     }
 
 -- what a stack's top and the rest are known to be
@@ -58,36 +59,42 @@ pub stacked-top : {E : ℕ → Expression} {n H v : ℕ} {vs : List ℕ} → Sta
     → ((v ≡ closeTask → ⊥) → v / parts < n) × (length vs ≤ H)
 stacked-top {E} {H = H} {v = v} {vs = vs} (on some a s) = (a .reads some, let l : length vs + 2 * taskHeight E v ≤ H = a .low some in omega arith)
 
-module _ {f : Format} {n first : ℕ} {s out₀ t out : List ℕ} {k at : ℕ} (a : Runnable f s out₀ n first) (p : Running f n first s out₀ t out k at) (some : 0 < k) where
-  top-task : ℕ
-  top-task = taskOver t (stackAt n) (k - 1)
+-- the tasks that a stack begins with lie within the work
+pub liftable : {f : Format} {n first : ℕ} {s out : List ℕ} → Runnable f s out n first → stackAt n + wordLength * first ≤ length s
+unfolding tasksIn
+liftable {first = zero} a = omega (arith, a .rows-tasked .room)
+liftable {n = n} {first = suc k} {s = s} a =
+    let top : length (tasksIn s (stackAt n) k) ≤ 2 * n = stacked-top (a .stacked) .1 in
+    let height : length (tasksIn s (stackAt n) k) ≡ k = tasks-length s (stackAt n) k in
+    omega (arith, a .rows-tasked .least, a .rows-tasked .room)
 
+module _ {f : Format} {n first : ℕ} {s out₀ t out : List ℕ} {v k at : ℕ} (a : Runnable f s out₀ n first) (p : Running f n first s out₀ t out v k at) (some : 0 < k) where
   below-top : List ℕ
   below-top = tasksIn t (stackAt n) (k - 1)
 
-  top-stacked : Stacked (meant s n) n (2 * n) (top-task ∷ below-top)
-  unfolding top-task below-top
-  top-stacked = rw (tasks-top t (stackAt n) k some) at (p .stacked)
+  top-stacked : Stacked (meant s n) n (2 * n) (v ∷ below-top)
+  unfolding below-top
+  top-stacked = rw (held-top v t (stackAt n) k some) at (p .stacked)
 
   rows : View (meant s n) n t
   rows = view-kept n (workEnd n) (p .within) (view s n (a .rows-tasked))
 
   -- the turn that follows, on the model
-  turned : Turned (inBytes f) (meant s n) n (2 * n) top-task below-top (stepIn t top-task)
+  turned : Turned (inBytes f) (meant s n) n (2 * n) v below-top (stepIn t v)
   turned =
-      turn (inBytes f) (meant s n) n (2 * n) (tasksAt t) (ruleIn t) (rows .stood) (rows .unfolds) (rows .named) top-task below-top top-stacked
+      turn (inBytes f) (meant s n) n (2 * n) (tasksAt t) (ruleIn t) (rows .stood) (rows .unfolds) (rows .named) v below-top top-stacked
 
-  top-text : take at out ++ (saidBytes f ((stepIn t top-task) .said) ++ tasksText f (meant s n) (addTasks (stepIn t top-task) below-top)) ≡ stackText f s n first
-  unfolding top-task below-top
+  top-text : take at out ++ (saidBytes f ((stepIn t v) .said) ++ tasksText f (meant s n) (addTasks (stepIn t v) below-top)) ≡ stackText f s n first
+  unfolding below-top
   top-text =
-      ap (λ (l : List ℕ). take at out ++ l) (sym (turned .text) ∙ ap (tasksText f (meant s n)) (sym (tasks-top t (stackAt n) k some)))
+      ap (λ (l : List ℕ). take at out ++ l) (sym (turned .text) ∙ ap (tasksText f (meant s n)) (sym (held-top v t (stackAt n) k some)))
       ∙ p .text
 
   -- its bytes end within the text
-  next-far : at + length (saidBytes f ((stepIn t top-task) .said)) ≤ length (stackText f s n first)
+  next-far : at + length (saidBytes f ((stepIn t v) .said)) ≤ length (stackText f s n first)
   next-far =
       let l : length (take at out) ≡ at = length-take-le at out (p .far) in
-      let e : length (take at out ++ (saidBytes f ((stepIn t top-task) .said) ++ tasksText f (meant s n) (addTasks (stepIn t top-task) below-top))) ≡ length (stackText f s n first) = ap length top-text in
+      let e : length (take at out ++ (saidBytes f ((stepIn t v) .said) ++ tasksText f (meant s n) (addTasks (stepIn t v) below-top))) ≡ length (stackText f s n first) = ap length top-text in
       omega (arith, simp length-append at e)
 
   -- and its tasks within the work
@@ -97,17 +104,16 @@ module _ {f : Format} {n first : ℕ} {s out₀ t out : List ℕ} {k at : ℕ} (
       let height : length below-top ≡ k - 1 = unfold below-top in tasks-length t (stackAt n) (k - 1) in
       omega (arith, a .rows-tasked .least)
 
-  pub turnable : Turnable f t out (stackAt n) (k - 1) at
-  unfolding top-task
+  pub turnable : Turnable f t out (stackAt n) v (k - 1) at
   turnable =
       let l : length t ≡ length s = p .within .same-length in
       let r : workEnd n ≤ length s = a .rows-tasked .room in
       record {
         steps = λ ruled.
-            let below : top-task / parts < n = stacked-top top-stacked .0 ruled in
+            let below : v / parts < n = stacked-top top-stacked .0 ruled in
             record {
               room = omega arith;
-              named = λ j m. let l : j < n = rows .named (top-task / parts) below j m in (omega arith, omega (arith, a .rows-tasked .few));
+              named = λ j m. let l : j < n = rows .named (v / parts) below j m in (omega arith, omega (arith, a .rows-tasked .few));
               few = omega (arith, a .rows-tasked .few);
             };
         stack = omega (arith, stack-below);
@@ -147,24 +153,24 @@ module _ (out : List ℕ) (at : ℕ) (bs : List ℕ) (fits : at + length bs ≤ 
       ∙ drop-drop (m - (at + length bs)) (at + length bs) out
       ∙ ap (λ (i : ℕ). drop i out) d
 
-module _ {f : Format} {n first : ℕ} {s out₀ t out u out′ : List ℕ} {k at : ℕ} {x : State} (a : Runnable f s out₀ n first) (p : Running f n first s out₀ t out k at) (some : 0 < k)
-    (made : TurnMade f (stackAt n) (k - 1) at x t u out out′) where
+module _ {f : Format} {n first : ℕ} {s out₀ t out u out′ : List ℕ} {v k at : ℕ} {x : State} (a : Runnable f s out₀ n first) (p : Running f n first s out₀ t out v k at) (some : 0 < k)
+    (made : TurnMade f (stackAt n) v (k - 1) at x t u out out′) where
   said : List ℕ
-  said = saidBytes f ((stepIn t (taskOver t (stackAt n) (k - 1))) .said)
+  said = saidBytes f ((stepIn t v) .said)
 
   roomy : at + length said ≤ length out
   unfolding said
   roomy = turnable a p some .fits
 
-  next-text : take (x .at) out′ ++ tasksText f (meant s n) (tasksIn u (stackAt n) (x .tasks)) ≡ stackText f s n first
+  next-text : take (x .at) out′ ++ tasksText f (meant s n) (tasksHeld (x .task) u (stackAt n) (x .tasks)) ≡ stackText f s n first
   unfolding said
   next-text =
       rw (made .moves, made .writes, made .tasks, written-take out at said roomy)
-      (append-assoc (take at out) said (tasksText f (meant s n) (addTasks (stepIn t (taskOver t (stackAt n) (k - 1))) (tasksIn t (stackAt n) (k - 1))))
-      ∙ (unfold top-task below-top in top-text a p some))
+      (append-assoc (take at out) said (tasksText f (meant s n) (addTasks (stepIn t v) (tasksIn t (stackAt n) (k - 1))))
+      ∙ (unfold below-top in top-text a p some))
 
-  pub running-more : Running f n first s out₀ u out′ (x .tasks) (x .at)
-  unfolding said top-task below-top
+  pub running-more : Running f n first s out₀ u out′ (x .task) (x .tasks) (x .at)
+  unfolding said below-top
   running-more =
       let moves : x .at ≡ at + length said = made .moves in
       let long : length out′ ≡ length out = ap length (made .writes) ∙ written-length out at said roomy in
@@ -178,15 +184,15 @@ module _ {f : Format} {n first : ℕ} {s out₀ t out u out′ : List ℕ} {k at
         stacked = rw (made .tasks) (turned a p some .stacked);
       }
 
-  pub running-less : tasksTurns (meant s n) (tasksIn u (stackAt n) (x .tasks)) < tasksTurns (meant s n) (tasksIn t (stackAt n) k)
-  unfolding top-task below-top
-  running-less = rw (made .tasks, tasks-top t (stackAt n) k some) (turned a p some .turns)
+  pub running-less : tasksTurns (meant s n) (tasksHeld (x .task) u (stackAt n) (x .tasks)) < tasksTurns (meant s n) (tasksHeld v t (stackAt n) k)
+  unfolding below-top
+  running-less = rw (made .tasks, held-top v t (stackAt n) k some) (turned a p some .turns)
 
 -- no task is left
-pub running-end : {f : Format} {n first : ℕ} {s out₀ t out : List ℕ} {k at : ℕ} → Running f n first s out₀ t out k at → k ≤ 0
+pub running-end : {f : Format} {n first : ℕ} {s out₀ t out : List ℕ} {v k at : ℕ} → Running f n first s out₀ t out v k at → k ≤ 0
     → Ran n (stackText f s n first) at s t out₀ out
-unfolding tasksIn tasksSpoken inFront
-running-end {f} {n} {first} {s} {out₀} {t} {out} {k} {at} p none =
+unfolding tasksHeld tasksSpoken inFront
+running-end {f} {n} {first} {s} {out₀} {t} {out} {v} {k} {at} p none =
     let z : k ≡ 0 = omega arith in
     let whole : take at out ≡ stackText f s n first = sym (append-nil (take at out)) ∙ (rw z at (p .text)) in
     let far : at ≡ length (stackText f s n first) = sym (length-take-le at out (p .far)) ∙ ap length whole in

@@ -1,6 +1,6 @@
--- The stack in bytes is the list of tasks, the top first: a word written over k tasks leaves those below it, and bytes written to the
--- output after others leave what stands before and after them. Assumes nothing.
-use Prim.Native.Nat.{ℕ, zero, suc, _+_, _*_, _/_, _%_, _^_, _≤_, _<_}
+-- The stack in bytes is the list of tasks, the top first, also where the top one is in hand: a word written over k tasks leaves those below
+-- it, and bytes written to the output after others leave what stands before and after them. Assumes nothing.
+use Prim.Native.Nat.{ℕ, zero, suc, _+_, _-_, _*_, _/_, _%_, _^_, _≤_, _<_}
 use native.Mathlib.Nat.{add-zero}
 use native.Mathlib.Numerals.{add-one, add-two}
 use native.Mathlib.Omega.{arith}
@@ -21,8 +21,9 @@ use Rattle.count_passes.specs.Says.{opening, opened}
 use Rattle.spread_step.specs.declared.Said.{Said}
 use Rattle.spread_step.specs.declared.Step.{Step}
 use Rattle.spread_step.specs.Task.{noTask}
-use Rattle.spread_step.specs.Step.{saidIn, saidBytes, stepIn, Decidable}
-use Rattle.spread_stack.specs.Stack.{addTask, addTasks, tasksIn, Pushed, AllPushed, written, taskOver, Turnable, TurnMade}
+use Rattle.spread_step.specs.Step.{saidIn, saidBytes, stepIn}
+use Rattle.spread_stack.specs.declared.State.{State}
+use Rattle.spread_stack.specs.Stack.{addTask, addTasks, tasksIn, tasksHeld, Pushed, AllPushed, Lifted, Held, written, taskOver, Turnable, TurnMade}
 
 -- tasks below a word that is written
 tasks-put : (s : List ℕ) (from v k j : ℕ) → j ≤ k → tasksIn (put wordLength s (from + wordLength * k) v) from j ≡ tasksIn s from j
@@ -108,23 +109,74 @@ pub label-wide : (out : List ℕ) (at a : ℕ)
 unfolding put bytes highLength
 label-wide out at a = let high : a / 65536 ≡ a / base / base = omega arith in rw (add-one at, add-two at, high)
 
+-- the top task in hand
+pub lifted-none : (t : List ℕ) (from k at : ℕ) {v : ℕ} → k ≡ 0 → Lifted from k at (record { task = v; tasks = 0; at = at }) t
+unfolding tasksHeld tasksIn
+lifted-none t from k at q = record { tasks = rw q; stays = refl }
+
+pub lifted-some : (t : List ℕ) (from k at : ℕ) {v : ℕ} → (k ≡ 0 → ⊥) → v ≡ taskOver t from (k - 1) → Lifted from k at (record { task = v; tasks = k; at = at }) t
+unfolding tasksHeld tasksIn
+lifted-some t from zero at some q = absurd (some refl)
+lifted-some t from (suc k) at some q =
+    let e : suc k - 1 ≡ k = omega arith in
+    record { tasks = ap (λ (w : ℕ). w ∷ tasksIn t from k) (rw e at q); stays = refl }
+
+-- the tasks of a step with the top one in hand
+module _ {from k at : ℕ} {s : List ℕ} (x : Step) where
+  pub held-high : {a b : ℕ} {t u : List ℕ} → (x .high ≡ noTask → ⊥) → Pushed from k (x .low) a s t → Pushed from a (x .mid) b t u
+      → Held from k x at (record { task = x .high; tasks = b + 1; at = at }) s u
+  unfolding addTask addTasks tasksHeld
+  held-high {a} {b} some p q =
+      let l : a ≤ k + 1 = p .grown in
+      record {
+        tasks = rw (ne-eqb (x .high) noTask some, add-one b) (ap (λ (vs : List ℕ). x .high ∷ vs) (q .tasks ∙ ap (addTask (x .mid)) (p .tasks)));
+        within =
+            within-both (within-wider from (from + wordLength * (k + 3)) (omega arith) (omega arith) (p .within))
+            (within-wider from (from + wordLength * (k + 3)) (omega arith) (omega arith) (q .within));
+        stays = refl;
+      }
+
+  pub held-mid : {a : ℕ} {t : List ℕ} → x .high ≡ noTask → (x .mid ≡ noTask → ⊥) → Pushed from k (x .low) a s t
+      → Held from k x at (record { task = x .mid; tasks = a + 1; at = at }) s t
+  unfolding addTask addTasks tasksHeld
+  held-mid {a} none some p =
+      record {
+        tasks = rw (eq-eqb (x .high) noTask none, ne-eqb (x .mid) noTask some, add-one a) (ap (λ (vs : List ℕ). x .mid ∷ vs) (p .tasks));
+        within = within-wider from (from + wordLength * (k + 3)) (omega arith) (omega arith) (p .within);
+        stays = refl;
+      }
+
+  pub held-low : x .high ≡ noTask → x .mid ≡ noTask → (x .low ≡ noTask → ⊥) → Held from k x at (record { task = x .low; tasks = k + 1; at = at }) s s
+  unfolding addTask addTasks tasksHeld
+  held-low none′ none some =
+      record {
+        tasks = rw (eq-eqb (x .high) noTask none′, eq-eqb (x .mid) noTask none, ne-eqb (x .low) noTask some, add-one k);
+        within = within-none from (from + wordLength * (k + 3)) s;
+        stays = refl;
+      }
+
+  pub held-below : {y : State} → x .high ≡ noTask → x .mid ≡ noTask → x .low ≡ noTask → Lifted from k at y s → Held from k x at y s s
+  unfolding addTask addTasks
+  held-below none″ none′ none p =
+      record {
+        tasks = rw (eq-eqb (x .high) noTask none″, eq-eqb (x .mid) noTask none′, eq-eqb (x .low) noTask none) (p .tasks);
+        within = within-none from (from + wordLength * (k + 3)) s;
+        stays = p .stays;
+      }
+
 -- a turn's parts put together
-pub turn-made : {f : Format} {from k at v next j : ℕ} {s t out out′ : List ℕ} {x : Step} → v ≡ taskOver s from k → x ≡ stepIn s v
-    → (next ≡ at + length (saidBytes f (x .said))) × (out′ ≡ written out at (saidBytes f (x .said))) → AllPushed from k x j s t
-    → TurnMade f from k at (record { tasks = j; at = next }) s t out out′
-turn-made {f} {from} {k} {at} {s = s} {out = out} {x = x} q r w p =
-    let e : x ≡ stepIn s (taskOver s from k) = r ∙ ap (stepIn s) q in
+pub turn-made : {f : Format} {from v k at next : ℕ} {s t out out′ : List ℕ} {x : Step} {y : State} → x ≡ stepIn s v
+    → (next ≡ at + length (saidBytes f (x .said))) × (out′ ≡ written out at (saidBytes f (x .said))) → Held from k x next y s t
+    → TurnMade f from v k at y s t out out′
+turn-made {f} {from} {v} {k} {at} {s = s} {out = out} e w p =
     record {
-      tasks = p .tasks ∙ ap (λ (y : Step). addTasks y (tasksIn s from k)) e;
+      tasks = p .tasks ∙ ap (λ (z : Step). addTasks z (tasksIn s from k)) e;
       within = p .within;
-      writes = w .1 ∙ ap (λ (y : Step). written out at (saidBytes f (y .said))) e;
-      moves = w .0 ∙ ap (λ (y : Step). at + length (saidBytes f (y .said))) e;
+      writes = w .1 ∙ ap (λ (z : Step). written out at (saidBytes f (z .said))) e;
+      moves = p .stays ∙ w .0 ∙ ap (λ (z : Step). at + length (saidBytes f (z .said))) e;
     }
 
--- what a turn may do, seen at the task that was read and the step that was decided
-pub turn-steps : {f : Format} {from k at v : ℕ} {s out : List ℕ} → Turnable f s out from k at → v ≡ taskOver s from k → Decidable s v
-turn-steps a q = rw q (a .steps)
-
-pub turn-fits : {f : Format} {from k at v : ℕ} {s out : List ℕ} {x : Step} → Turnable f s out from k at → v ≡ taskOver s from k → x ≡ stepIn s v
+-- what a turn may do, seen at the step that was decided
+pub turn-fits : {f : Format} {from v k at : ℕ} {s out : List ℕ} {x : Step} → Turnable f s out from v k at → x ≡ stepIn s v
     → at + length (saidBytes f (x .said)) ≤ length out
-turn-fits a q r = rw (r, q) (a .fits)
+turn-fits a q = rw q (a .fits)

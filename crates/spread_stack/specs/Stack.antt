@@ -58,19 +58,35 @@ pub record AllPushed (from k : ℕ) (x : Step) (j : ℕ) (s t : List ℕ) : Type
 abbrev pub taskOver : List ℕ → ℕ → ℕ → ℕ
 taskOver t from k = number wordLength t (from + wordLength * k)
 
--- a turn may be made: the task over k others can be read, its bytes fit the output after at others, its tasks fit the stack
-pub record Turnable (f : Format) (t out : List ℕ) (from k at : ℕ) : Type 0 where
-  pub steps : Decidable t (taskOver t from k)
+-- k tasks, the top one of them in hand: v, over the others
+unfoldable pub tasksHeld : ℕ → List ℕ → ℕ → ℕ → List ℕ
+tasksHeld v t from zero = []
+tasksHeld v t from (suc k) = v ∷ tasksIn t from k
+
+-- of k tasks the top one is taken in hand
+pub record Lifted (from k at : ℕ) (x : State) (t : List ℕ) : Type 0 where
+  pub tasks : tasksHeld (x .task) t from (x .tasks) ≡ tasksIn t from k
+  pub stays : x .at ≡ at
+
+-- the tasks of a step on k others, the top one in hand
+pub record Held (from k : ℕ) (x : Step) (at : ℕ) (y : State) (s t : List ℕ) : Type 0 where
+  pub tasks : tasksHeld (y .task) t from (y .tasks) ≡ addTasks x (tasksIn s from k)
+  pub within : Within from (from + wordLength * (k + 3)) s t
+  pub stays : y .at ≡ at
+
+-- a turn may be made: the task v over k others can be read, its bytes fit the output after at others, its tasks fit the stack
+pub record Turnable (f : Format) (t out : List ℕ) (from v k at : ℕ) : Type 0 where
+  pub steps : Decidable t v
   pub stack : from + wordLength * (k + 3) ≤ length t
-  pub fits : at + length (saidBytes f ((stepIn t (taskOver t from k)) .said)) ≤ length out
+  pub fits : at + length (saidBytes f ((stepIn t v) .said)) ≤ length out
 
 -- bytes written after at others
 abbrev pub written : List ℕ → ℕ → List ℕ → List ℕ
 written out at bs = take at out ++ (bs ++ drop (at + length bs) out)
 
 -- after a turn
-pub record TurnMade (f : Format) (from k at : ℕ) (x : State) (s t out out′ : List ℕ) : Type 0 where
-  pub tasks : tasksIn t from (x .tasks) ≡ addTasks (stepIn s (taskOver s from k)) (tasksIn s from k)
+pub record TurnMade (f : Format) (from v k at : ℕ) (x : State) (s t out out′ : List ℕ) : Type 0 where
+  pub tasks : tasksHeld (x .task) t from (x .tasks) ≡ addTasks (stepIn s v) (tasksIn s from k)
   pub within : Within from (from + wordLength * (k + 3)) s t
-  pub writes : out′ ≡ written out at (saidBytes f ((stepIn s (taskOver s from k)) .said))
-  pub moves : x .at ≡ at + length (saidBytes f ((stepIn s (taskOver s from k)) .said))
+  pub writes : out′ ≡ written out at (saidBytes f ((stepIn s v) .said))
+  pub moves : x .at ≡ at + length (saidBytes f ((stepIn s v) .said))

@@ -6,7 +6,7 @@ ghost use Rattle.words.specs.Number.{put};
 ghost use Rattle.record.specs.Format.{labelLength};
 ghost use Rattle.work_rows.specs.Rows.{ruleIn};
 ghost use Rattle.spread_step.specs.Step.{saidBytes, Steppable};
-ghost use Rattle.spread_stack.specs.Stack.{written, Pushed, AllPushed, Turnable, TurnMade};
+ghost use Rattle.spread_stack.specs.Stack.{written, Pushed, AllPushed, Lifted, Held, Turnable, TurnMade};
 ghost use Rattle.spread_stack.specs.Run.{meant, stackText, Taskable, TaskPut, Tasked, Runnable, Ran, Spreadable};
 ghost use Rattle.count_passes.specs.Says.{whole, says};
 use record::Format;
@@ -14,8 +14,9 @@ use spread_step::Said;
 use spread_step::Step;
 use work_rows::Row;
 
-// How far spread has come: tasks on the stack, and bytes written.
+// How far spread has come: the task in hand, how many tasks there are with it, and bytes written.
 struct State {
+    task: u16,
     tasks: usize,
     at: usize,
 }
@@ -80,22 +81,79 @@ fn say(out: &mut [u8], at: usize, said: Said, format: Format) -> usize
     }
 }
 
-// One turn: the task over k others is replaced by what it comes to.
-fn turn(work: &mut [u8], out: &mut [u8], from: usize, k: usize, at: usize, format: Format) -> State
-    requires { ⌜ Turnable format (now work) (now out) from k at ⌝ }
+// The top one of k tasks on the stack taken in hand, if there is one.
+fn lift(work: &[u8], from: usize, k: usize, at: usize) -> State
+    requires { ⌜ from + 2 * k ≤ length (now work) ⌝ }
+    ensures { λ x. ⌜ Lifted from k at x (now (work .entry)) ⌝ }
+{
+    if k == 0 {
+        return State {
+            task: Step::NONE,
+            tasks: 0,
+            at,
+        };
+    }
+    State {
+        task: words::read16(work, from + 2 * (k - 1)),
+        tasks: k,
+        at,
+    }
+}
+
+// The tasks of a step on k others, with the top one in hand and not on the stack.
+fn hold(work: &mut [u8], from: usize, k: usize, step: Step, at: usize) -> State
+    requires { ⌜ from + 2 * (k + 3) ≤ length (now work) ⌝ }
+    ensures { λ x. ⌜ Held from k step at x (now (work .entry)) (now (work .exit)) ⌝ }
+{
+    if step.high != Step::NONE {
+        let one = push(work, from, k, step.low);
+        let two = push(work, from, one, step.mid);
+        return State {
+            task: step.high,
+            tasks: two + 1,
+            at,
+        };
+    }
+    if step.mid != Step::NONE {
+        let under = push(work, from, k, step.low);
+        return State {
+            task: step.mid,
+            tasks: under + 1,
+            at,
+        };
+    }
+    if step.low != Step::NONE {
+        return State {
+            task: step.low,
+            tasks: k + 1,
+            at,
+        };
+    }
+    lift(work, from, k, at)
+}
+
+// One turn: the task in hand, over k others, is replaced by what it comes to.
+fn turn(
+    work: &mut [u8],
+    out: &mut [u8],
+    from: usize,
+    task: u16,
+    k: usize,
+    at: usize,
+    format: Format,
+) -> State
+    requires { ⌜ Turnable format (now work) (now out) from task k at ⌝ }
     ensures { λ x.
         let work′ = now (work .exit) in
         let out′ = now (out .exit) in
         let work = now (work .entry) in
         let out = now (out .entry) in
-        ⌜ TurnMade format from k at x work work′ out out′ ⌝ }
+        ⌜ TurnMade format from task k at x work work′ out out′ ⌝ }
 {
-    let task = words::read16(work, from + 2 * k);
     let step = spread_step::decide(work, task);
     let said = step.said;
     let next = say(out, at, said, format);
-    let tasks = push_all(work, from, k, step);
-    State { tasks, at: next }
+    hold(work, from, k, step, next)
 }
 
 // The task of row r's whole rule, written to the row.
@@ -128,10 +186,13 @@ fn run(work: &mut [u8], out: &mut [u8], n: u16, first: usize, format: Format) ->
         ⌜ Ran n text x (now (work .entry)) (now (work .exit)) (now (out .entry)) (now (out .exit)) ⌝ }
 {
     let from = Row::LENGTH * (n as usize);
-    let mut k = first;
-    let mut at: usize = 0;
+    let start = lift(work, from, first, 0);
+    let mut task = start.task;
+    let mut k = start.tasks;
+    let mut at = start.at;
     while 0 < k {
-        let state = turn(work, out, from, k - 1, at, format);
+        let state = turn(work, out, from, task, k - 1, at, format);
+        task = state.task;
         k = state.tasks;
         at = state.at;
     }

@@ -9,6 +9,7 @@ ghost use Rattle.work_rows.specs.Rows.{rowLength};
 ghost use Rattle.spread_step.specs.Task.{parts, noTask, taskLimit, taskWord, taskOf};
 ghost use Rattle.spread_step.specs.Step.{leaving, ruleStep, tasksAt, stepIn, Steppable, Decidable};
 use rule::Rule;
+use work_rows::Row;
 
 // What a step writes.
 pub enum Said {
@@ -187,5 +188,10 @@ pub fn decide(work: &[u8], task: u16) -> Step
         };
     }
     let r = task / Step::PARTS;
+    // What a task comes to doesn't depend on this test: it parts the kinds, so that the code made of it tells each by a few tests and not
+    // by a table of jumps.
+    if work_rows::field16(work, r, Row::KIND) < Rule::FILL {
+        return rule_step(work, r, task % Step::PARTS, work_rows::rule_at(work, r));
+    }
     rule_step(work, r, task % Step::PARTS, work_rows::rule_at(work, r))
 }

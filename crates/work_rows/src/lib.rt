@@ -64,7 +64,7 @@ impl Row {
     pub const LENGTH: usize = 32;
 
     // Where a row keeps its rule.
-    const KIND: usize = 0;
+    pub const KIND: usize = 0;
 
     const LABEL: usize = 2;
 
