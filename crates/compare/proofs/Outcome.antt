@@ -65,7 +65,7 @@ module _ {s : List ℕ} {n start : ℕ} {work first second : List ℕ} (L : Lend
     node-place x =
         record {
           walked = x .walked;
-          closed = rw same-rules at (x .node .opens .stands .rows .closed);
+          closed = rw same-rules at (x .node .opens .place .rows .closed);
           path = x .node .opens .path;
           same = rw same-rules at (x .node .opens .stood .same);
           least = x .node .least;
@@ -73,7 +73,7 @@ module _ {s : List ℕ} {n start : ℕ} {work first second : List ℕ} (L : Lend
 
     -- a node's cells lie in the cursor
     node-lies : {cursor : List ℕ} {h : Standing} → StandsAt (take (rowLength * n) t) n start cursor h → Lies cursor (h .used)
-    node-lies x = let few = stands-few (x .node .opens .stands) in let room = x .node .opens .stands .room in omega arith
+    node-lies x = let few = stands-few (x .node .opens .place) in let room = x .node .opens .place .room in omega arith
 
     node-judged : {cursor : List ℕ} {h : Standing} (x : StandsAt (take (rowLength * n) t) n start cursor h)
         → nodeJudged (placeJudged (rulesOf s) n start cursor) ≡ Begun.at n (x .walked) (x .node .opens .path)

@@ -1,2 +1,3 @@
 pub mod Puts
+pub mod Settles
 pub mod Arrives

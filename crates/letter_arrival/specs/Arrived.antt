@@ -1,5 +1,5 @@
 -- What a letter that leads to a node comes to.
-use Prim.Native.Nat.{ℕ}
+use Prim.Native.Nat.{ℕ, _+_, _*_, _≤_}
 use mathlib.Core.Path.{_≡_}
 use mathlib.Core.List.{List}
 use lib.ListN.{length}
@@ -7,24 +7,35 @@ use Rattle.forest.specs.Letter.{Letter}
 use Rattle.model.specs.Facts.{Facts}
 use Rattle.model.specs.Model.{Node}
 use Rattle.model.specs.Walk.{label}
-use Rattle.facts.specs.Facts.{In, factsIn}
+use Rattle.facts.specs.Facts.{rowCount, In, factsIn}
 use Rattle.facts.specs.Closes.{Closes}
-use Rattle.place_cells.specs.Cells.{Lies}
+use Rattle.forest.specs.Walk.{cellLength, cellsIn}
+use Rattle.work_rows.specs.Rows.{Within, rowLength}
+use Rattle.row_links.specs.Links.{Linkable, Linked}
 use Rattle.place_cells.specs.Changes.{Wrote}
 use Rattle.move_parts.specs.declared.Change.{Change}
-use Rattle.move_parts.specs.Change.{changeNode, Able}
+use Rattle.move_parts.specs.Change.{changeNode, Able, keepOf}
 use Rattle.letter_arrival.specs.declared.Landing.{Landing}
 use Rattle.letter_arrival.specs.declared.Standing.{Standing}
 
--- the cursor has room for a node's cells, and its rule has a row
-abbrev pub Fitting : List ℕ → List ℕ → Node → Type 0
-Fitting t s x = Lies s (length (x .1)) × In t (x .0)
+-- the most cells of a place
+abbrev pub mostCells : List ℕ → ℕ
+mostCells t = 3 * rowCount t
 
--- what the writing of a letter's change asks
-pub record Arriving (t s : List ℕ) (l : Letter) (x : Change) : Type 0 where
+-- from k cells with their links, of which some are kept, to n cells: there is room for these and for the links of all
+pub record Settling (t s : List ℕ) (k keep n : ℕ) : Type 0 where
+  pub linkable : Linkable t s (mostCells t)
+  pub here : k ≤ mostCells t
+  pub there : n ≤ mostCells t
+  pub keeps : keep ≤ k
+  pub linked : Linked t s (cellsIn s k)
+
+-- what the writing of a letter's change from k cells asks
+pub record Arriving (t s : List ℕ) (k : ℕ) (l : Letter) (x : Change) : Type 0 where
   pub rows : Closes t
   pub able : Able t s l x
-  pub fits : Fitting t s (changeNode (factsIn t) l x s)
+  pub rule : In t ((changeNode (factsIn t) l x s) .0)
+  pub settles : Settling t s k (keepOf x) (length ((changeNode (factsIn t) l x s) .1))
 
 -- the used cells, the standing rule and the answer at a node
 abbrev pub landingAt : Facts → Node → Landing
@@ -35,7 +46,16 @@ pub record Stood (x : Node) (s s′ : List ℕ) (r : Standing) : Type 0 where
   pub there : r ≡ record { used = length (x .1); rule = x .0 }
   pub wrote : Wrote (x .1) s s′
 
--- the node's cells are written, and nothing past them
-pub record Arrived (F : Facts) (x : Node) (s s′ : List ℕ) (r : Landing) : Type 0 where
-  pub landed : r ≡ landingAt F x
-  pub wrote : Wrote (x .1) s s′
+-- and has their links
+pub record Settled (t : List ℕ) (x : Node) (s s′ : List ℕ) (r : Standing) : Type 0 where
+  pub there : r ≡ record { used = length (x .1); rule = x .0 }
+  pub cells : cellsIn s′ (length (x .1)) ≡ x .1
+  pub within : Within cellLength (length t + rowLength) s s′
+  pub linked : Linked t s′ (x .1)
+
+-- the node's cells and their links are written, and nothing past them
+pub record Arrived (t : List ℕ) (x : Node) (s s′ : List ℕ) (r : Landing) : Type 0 where
+  pub landed : r ≡ landingAt (factsIn t) x
+  pub cells : cellsIn s′ (length (x .1)) ≡ x .1
+  pub within : Within cellLength (length t + rowLength) s s′
+  pub linked : Linked t s′ (x .1)

@@ -13,8 +13,8 @@ ghost use Rattle.facts.specs.Closes.{Closes};
 ghost use Rattle.place_cells.specs.Cells.{Lies};
 ghost use Rattle.place_cells.specs.Changes.{Put};
 ghost use Rattle.move_parts.specs.Moves.{aboveTop, Turns, Turning};
-ghost use Rattle.move_parts.specs.Change.{turnedAt, entered, changeNode};
-ghost use Rattle.letter_arrival.specs.Arrived.{Stood, Arriving, Arrived};
+ghost use Rattle.move_parts.specs.Change.{turnedAt, entered, changeNode, keepOf};
+ghost use Rattle.letter_arrival.specs.Arrived.{Arriving, Settling, Stood, Settled, Arrived};
 use move_parts::Change;
 use place_cells::Cell;
 use rule::Rule;
@@ -138,112 +138,126 @@ fn put_beside_tree(work: &[u8], cursor: &mut [u8], k: usize, side: Side, above: 
     put_tree(work, cursor, at.used, at.rule)
 }
 
-// The run on top of k cells turned to the left, and the root of the first or last tree of a row on that.
-fn put_beside_row(
-    work: &[u8],
-    cursor: &mut [u8],
-    k: usize,
-    above: u16,
-    side: Side,
-    number: u16,
-    over: u16,
-) -> Standing
-    requires { ⌜ Turning (now work) (now cursor) k place.Side.left above × In (now work) over
-        × Lies (now cursor) (length ((entered (factsIn (now work)) (sideOf side) number over
-        ((turnedAt (factsIn (now work)) place.Side.left above (cellsIn (now cursor) k)) .1)) .1)) ⌝ }
-    ensures { λ r.
-        let cursor′ = now (cursor .exit) in
-        let cursor = now (cursor .entry) in
-        let work = now (work .entry) in
-        ⌜ Stood (entered (factsIn work) (sideOf side) number over
-        ((turnedAt (factsIn work) place.Side.left above (cellsIn cursor k)) .1)) cursor cursor′ r ⌝ }
-{
-    let at = put_turn(work, cursor, k, Side::Left, above);
-    put_row(work, cursor, at.used, side, number, over)
-}
-
 // The cells of the root of the first or last tree, by its change. Here and below, a letter has only some of the changes, and another is
 // never met.
-fn put_root(work: &[u8], cursor: &mut [u8], change: Change, side: Side) -> Standing
-    requires { ⌜ Arriving (now work) (now cursor) (Letter.root (sideOf side)) change ⌝ }
+fn put_root(work: &[u8], cursor: &mut [u8], k: usize, change: Change, side: Side) -> Standing
+    requires { ⌜ Arriving (now work) (now cursor) k (Letter.root (sideOf side)) change × (keepOf change ≡ 0) ⌝ }
     ensures { λ r.
         let cursor′ = now (cursor .exit) in
         let cursor = now (cursor .entry) in
         let work = now (work .entry) in
-        ⌜ Stood (changeNode (factsIn work) (Letter.root (sideOf side)) change cursor) cursor cursor′ r ⌝ }
+        ⌜ Settled work (changeNode (factsIn work) (Letter.root (sideOf side)) change cursor) cursor cursor′ r ⌝ }
 {
     match change {
-        Change::Row { keep, number, over } => put_row(work, cursor, keep, side, number, over),
+        Change::Row { keep, number, over } => {
+            row_links::fill(work, cursor, 0);
+            row_links::open_row(work, cursor, keep + 1);
+            put_row(work, cursor, keep, side, number, over)
+        }
         _ => Standing { used: 0, rule: 0 },
     }
 }
 
 // The cells of the first or last child, by its change.
-fn put_child(work: &[u8], cursor: &mut [u8], change: Change, side: Side) -> Standing
-    requires { ⌜ Arriving (now work) (now cursor) (Letter.child (sideOf side)) change ⌝ }
+fn put_child(work: &[u8], cursor: &mut [u8], k: usize, change: Change, side: Side) -> Standing
+    requires { ⌜ Arriving (now work) (now cursor) k (Letter.child (sideOf side)) change ⌝ }
     ensures { λ r.
         let cursor′ = now (cursor .exit) in
         let cursor = now (cursor .entry) in
         let work = now (work .entry) in
-        ⌜ Stood (changeNode (factsIn work) (Letter.child (sideOf side)) change cursor) cursor cursor′ r ⌝ }
+        ⌜ Settled work (changeNode (factsIn work) (Letter.child (sideOf side)) change cursor) cursor cursor′ r ⌝ }
 {
     match change {
-        Change::Turn { keep, above } => put_turn(work, cursor, keep, Side::Right, above), // into its hole
-        Change::Row { keep, number, over } => put_row(work, cursor, keep, side, number, over),
-        Change::Spine { keep, tree } => put_tree(work, cursor, keep, tree),
+        Change::Turn { keep, above } => {
+            row_links::keep_rows(work, cursor, k, keep);
+            put_turn(work, cursor, keep, Side::Right, above) // into its hole
+        }
+        Change::Row { keep, number, over } => {
+            row_links::keep_rows(work, cursor, k, keep);
+            row_links::open_row(work, cursor, keep + 1);
+            put_row(work, cursor, keep, side, number, over)
+        }
+        Change::Spine { keep, tree } => {
+            row_links::keep_rows(work, cursor, k, keep);
+            put_tree(work, cursor, keep, tree)
+        }
         _ => Standing { used: 0, rule: 0 },
     }
 }
 
 // The cells of the sibling on a side, by its change.
-fn put_sibling(work: &[u8], cursor: &mut [u8], change: Change, side: Side) -> Standing
-    requires { ⌜ Arriving (now work) (now cursor) (Letter.sibling (sideOf side)) change ⌝ }
+fn put_sibling(work: &[u8], cursor: &mut [u8], k: usize, change: Change, side: Side) -> Standing
+    requires { ⌜ Arriving (now work) (now cursor) k (Letter.sibling (sideOf side)) change ⌝ }
     ensures { λ r.
         let cursor′ = now (cursor .exit) in
         let cursor = now (cursor .entry) in
         let work = now (work .entry) in
-        ⌜ Stood (changeNode (factsIn work) (Letter.sibling (sideOf side)) change cursor) cursor cursor′ r ⌝ }
+        ⌜ Settled work (changeNode (factsIn work) (Letter.sibling (sideOf side)) change cursor) cursor cursor′ r ⌝ }
 {
     let back = side.other();
     match change {
-        Change::Turn { keep, above } => put_turn(work, cursor, keep, Side::Right, above),
-        Change::Tree { keep, above } => put_beside_tree(work, cursor, keep, side, above),
+        Change::Turn { keep, above } => {
+            row_links::keep_rows(work, cursor, k, keep);
+            put_turn(work, cursor, keep, Side::Right, above)
+        }
+        Change::Tree { keep, above } => {
+            row_links::keep_rows(work, cursor, k, keep);
+            put_beside_tree(work, cursor, keep, side, above)
+        }
         Change::Beside {
             keep,
             above,
             number,
             over,
-        } => put_beside_row(work, cursor, keep, above, back, number, over),
-        Change::Row { keep, number, over } => put_row(work, cursor, keep, back, number, over),
-        Change::Spine { keep, tree } => put_tree(work, cursor, keep, tree),
+        } => {
+            row_links::keep_rows(work, cursor, k, keep);
+            let at = put_turn(work, cursor, keep, Side::Left, above);
+            row_links::open_row(work, cursor, at.used + 1);
+            put_row(work, cursor, at.used, back, number, over)
+        }
+        Change::Row { keep, number, over } => {
+            row_links::keep_rows(work, cursor, k, keep);
+            row_links::open_row(work, cursor, keep + 1);
+            put_row(work, cursor, keep, back, number, over)
+        }
+        Change::Spine { keep, tree } => {
+            row_links::keep_rows(work, cursor, k, keep);
+            put_tree(work, cursor, keep, tree)
+        }
         _ => Standing { used: 0, rule: 0 },
     }
 }
 
 // The cells of the parent, by its change.
-fn put_parent(work: &[u8], cursor: &mut [u8], change: Change) -> Standing
-    requires { ⌜ Arriving (now work) (now cursor) Letter.parent change ⌝ }
+fn put_parent(work: &[u8], cursor: &mut [u8], k: usize, change: Change) -> Standing
+    requires { ⌜ Arriving (now work) (now cursor) k Letter.parent change ⌝ }
     ensures { λ r.
         let cursor′ = now (cursor .exit) in
         let cursor = now (cursor .entry) in
         let work = now (work .entry) in
-        ⌜ Stood (changeNode (factsIn work) Letter.parent change cursor) cursor cursor′ r ⌝ }
+        ⌜ Settled work (changeNode (factsIn work) Letter.parent change cursor) cursor cursor′ r ⌝ }
 {
     match change {
-        Change::Turn { keep, above } => put_turn(work, cursor, keep, Side::Left, above),
-        Change::Kept { keep, rule } => Standing { used: keep, rule },
+        Change::Turn { keep, above } => {
+            row_links::keep_rows(work, cursor, k, keep);
+            put_turn(work, cursor, keep, Side::Left, above)
+        }
+        Change::Kept { keep, rule } => {
+            row_links::keep_rows(work, cursor, k, keep); // out of its rows
+            Standing { used: keep, rule }
+        }
         _ => Standing { used: 0, rule: 0 },
     }
 }
 
 // The cells of the node itself, by its change.
-fn put_same(work: &[u8], cursor: &mut [u8], change: Change) -> Standing
-    requires { ⌜ Arriving (now work) (now cursor) Letter.stay change ⌝ }
+fn put_same(work: &[u8], cursor: &mut [u8], k: usize, change: Change) -> Standing
+    requires { ⌜ Arriving (now work) (now cursor) k Letter.stay change × (keepOf change ≡ k) ⌝ }
     ensures { λ r.
         let cursor′ = now (cursor .exit) in
         let cursor = now (cursor .entry) in
         let work = now (work .entry) in
-        ⌜ Stood (changeNode (factsIn work) Letter.stay change cursor) cursor cursor′ r ⌝ }
+        ⌜ Settled work (changeNode (factsIn work) Letter.stay change cursor) cursor cursor′ r ⌝ }
 {
     match change {
         Change::Kept { keep, rule } => Standing { used: keep, rule },
@@ -261,66 +275,72 @@ fn land(work: &[u8], at: Standing) -> Landing
 }
 
 // What a letter to the root of the first or last tree comes to, by its change.
-pub fn arrive_root(work: &[u8], cursor: &mut [u8], change: Change, side: Side) -> Landing
-    requires { ⌜ Arriving (now work) (now cursor) (Letter.root (sideOf side)) change ⌝ }
+pub fn arrive_root(work: &[u8], cursor: &mut [u8], k: usize, change: Change, side: Side) -> Landing
+    requires { ⌜ Arriving (now work) (now cursor) k (Letter.root (sideOf side)) change × (keepOf change ≡ 0) ⌝ }
     ensures { λ r.
         let cursor′ = now (cursor .exit) in
         let cursor = now (cursor .entry) in
         let work = now (work .entry) in
-        ⌜ Arrived (factsIn work) (changeNode (factsIn work) (Letter.root (sideOf side)) change cursor) cursor cursor′ r ⌝ }
+        ⌜ Arrived work (changeNode (factsIn work) (Letter.root (sideOf side)) change cursor) cursor cursor′ r ⌝ }
 {
-    let at = put_root(work, cursor, change, side);
+    let at = put_root(work, cursor, k, change, side);
     land(work, at)
 }
 
 // What a letter to the first or last child comes to, by its change.
-pub fn arrive_child(work: &[u8], cursor: &mut [u8], change: Change, side: Side) -> Landing
-    requires { ⌜ Arriving (now work) (now cursor) (Letter.child (sideOf side)) change ⌝ }
+pub fn arrive_child(work: &[u8], cursor: &mut [u8], k: usize, change: Change, side: Side) -> Landing
+    requires { ⌜ Arriving (now work) (now cursor) k (Letter.child (sideOf side)) change ⌝ }
     ensures { λ r.
         let cursor′ = now (cursor .exit) in
         let cursor = now (cursor .entry) in
         let work = now (work .entry) in
-        ⌜ Arrived (factsIn work) (changeNode (factsIn work) (Letter.child (sideOf side)) change cursor) cursor cursor′ r ⌝ }
+        ⌜ Arrived work (changeNode (factsIn work) (Letter.child (sideOf side)) change cursor) cursor cursor′ r ⌝ }
 {
-    let at = put_child(work, cursor, change, side);
+    let at = put_child(work, cursor, k, change, side);
     land(work, at)
 }
 
 // What a letter to the sibling on a side comes to, by its change.
-pub fn arrive_sibling(work: &[u8], cursor: &mut [u8], change: Change, side: Side) -> Landing
-    requires { ⌜ Arriving (now work) (now cursor) (Letter.sibling (sideOf side)) change ⌝ }
+pub fn arrive_sibling(
+    work: &[u8],
+    cursor: &mut [u8],
+    k: usize,
+    change: Change,
+    side: Side,
+) -> Landing
+    requires { ⌜ Arriving (now work) (now cursor) k (Letter.sibling (sideOf side)) change ⌝ }
     ensures { λ r.
         let cursor′ = now (cursor .exit) in
         let cursor = now (cursor .entry) in
         let work = now (work .entry) in
-        ⌜ Arrived (factsIn work) (changeNode (factsIn work) (Letter.sibling (sideOf side)) change cursor) cursor cursor′ r ⌝ }
+        ⌜ Arrived work (changeNode (factsIn work) (Letter.sibling (sideOf side)) change cursor) cursor cursor′ r ⌝ }
 {
-    let at = put_sibling(work, cursor, change, side);
+    let at = put_sibling(work, cursor, k, change, side);
     land(work, at)
 }
 
 // What a letter to the parent comes to, by its change.
-pub fn arrive_parent(work: &[u8], cursor: &mut [u8], change: Change) -> Landing
-    requires { ⌜ Arriving (now work) (now cursor) Letter.parent change ⌝ }
+pub fn arrive_parent(work: &[u8], cursor: &mut [u8], k: usize, change: Change) -> Landing
+    requires { ⌜ Arriving (now work) (now cursor) k Letter.parent change ⌝ }
     ensures { λ r.
         let cursor′ = now (cursor .exit) in
         let cursor = now (cursor .entry) in
         let work = now (work .entry) in
-        ⌜ Arrived (factsIn work) (changeNode (factsIn work) Letter.parent change cursor) cursor cursor′ r ⌝ }
+        ⌜ Arrived work (changeNode (factsIn work) Letter.parent change cursor) cursor cursor′ r ⌝ }
 {
-    let at = put_parent(work, cursor, change);
+    let at = put_parent(work, cursor, k, change);
     land(work, at)
 }
 
 // What a letter to the node itself comes to, by its change.
-pub fn arrive_same(work: &[u8], cursor: &mut [u8], change: Change) -> Landing
-    requires { ⌜ Arriving (now work) (now cursor) Letter.stay change ⌝ }
+pub fn arrive_same(work: &[u8], cursor: &mut [u8], k: usize, change: Change) -> Landing
+    requires { ⌜ Arriving (now work) (now cursor) k Letter.stay change × (keepOf change ≡ k) ⌝ }
     ensures { λ r.
         let cursor′ = now (cursor .exit) in
         let cursor = now (cursor .entry) in
         let work = now (work .entry) in
-        ⌜ Arrived (factsIn work) (changeNode (factsIn work) Letter.stay change cursor) cursor cursor′ r ⌝ }
+        ⌜ Arrived work (changeNode (factsIn work) Letter.stay change cursor) cursor cursor′ r ⌝ }
 {
-    let at = put_same(work, cursor, change);
+    let at = put_same(work, cursor, k, change);
     land(work, at)
 }

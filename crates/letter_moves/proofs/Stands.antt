@@ -14,19 +14,22 @@ use Rattle.model.specs.Walk.{fromNode, move, moved, answer}
 use Rattle.model.proofs.Rules.{Agrees, facts-agree}
 use Rattle.model.proofs.Ranged.{Numbers}
 use Rattle.facts.specs.Facts.{rowCount, In, factsIn}
-use Rattle.work_rows.proofs.Rows.{within-none, within-wider}
+use Rattle.work_rows.specs.Rows.{rowLength}
+use Rattle.work_rows.proofs.Rows.{within-none}
 use Rattle.work_rows.proofs.Kept.{first-length}
 use Rattle.letter_arrival.specs.declared.Landing.{Landing}
 use Rattle.facts.specs.Closes.{Closes}
 use Rattle.move_parts.specs.Moves.{Held, Kept, Node-has, Each, Fits}
 use Rattle.place_cells.specs.Cells.{Lies, placeLength}
 use Rattle.move_parts.specs.declared.Change.{Change}
-use Rattle.move_parts.specs.Change.{changeNode, Able}
-use Rattle.letter_arrival.specs.Arrived.{Fitting, Arriving, Arrived}
+use Rattle.move_parts.specs.Change.{changeNode, Able, keepOf}
+use Rattle.row_links.specs.Links.{Linkable, Linked}
+use Rattle.row_links.proofs.Linking.{linkable-fewer, linkable-kept}
+use Rattle.letter_arrival.specs.Arrived.{mostCells, Arriving, Arrived}
 use Rattle.place_cells.proofs.Stack.{cells-none, cells-top}
 use Rattle.place_cells.proofs.Writes.{length-cells}
 use Rattle.move_parts.proofs.Kept.{child-kept, sibling-kept, parent-kept, root-kept}
-use Rattle.letter_moves.specs.Standing.{Valid, rulesKept, WalkedRows, Stands, Stepped}
+use Rattle.letter_moves.specs.Standing.{Valid, rulesKept, WalkedRows, Placed, Stands, Stepped}
 use Rattle.letter_moves.proofs.Valid.{valid-moved, valid-short, valid-numbers, valid-rule}
 use Rattle.letter_moves.proofs.Holding.{numbers-fit, rows-closes}
 
@@ -83,7 +86,7 @@ unfolding Kept fromNode
 from-kept P [] y k = tt
 from-kept P (c ∷ cs) y k = k (λ e. cons≢nil e)
 
-module _ {r : ℕ} {t s : List ℕ} {k p : ℕ} (S : Stands r t s k p) where
+module _ {r : ℕ} {t s : List ℕ} {k p : ℕ} (S : Placed r t s k p) where
   -- what the moves ask for
   pub held : Held t s k
   held =
@@ -114,29 +117,46 @@ module _ {r : ℕ} {t s : List ℕ} {k p : ℕ} (S : Stands r t s k p) where
     unfolding moved
     valid-node = rw e at (next (S .rows) l (p, cellsIn s k) (S .valid))
 
-    pub move-fitting : Fitting t s x
+    move-short : length (x .1) ≤ mostCells t
+    move-short = short (S .rows) x valid-node
+
+    move-in : In t (x .0)
     unfolding Kept
-    move-fitting = (fits (S .rows) s (S .room) x valid-node, (rw e at (move-kept l)) .0)
+    move-in = (rw e at (move-kept l)) .0
 
-    -- what it comes to
-    pub stepped-node : {s′ : List ℕ} {y : Landing} → Arrived (factsIn t) x s s′ y → Stepped r t l k p s s′ y
-    unfolding moved answer answerWord
-    stepped-node z =
-        record {
-          node = rw (e, z .landed) (λ i. (x .0, z .wrote .cells i));
-          answered = rw (e, z .landed);
-          stays = λ q. absurd (Option·none-ne-some x (sym q ∙ e));
-          within = within-wider cellLength (placeLength (rowCount t)) (omega arith) (few (S .rows) x valid-node) (z .wrote .within);
-        }
+module _ {r : ℕ} {t s : List ℕ} {k p : ℕ} (S : Stands r t s k p) where
+  here-few : k ≤ mostCells t
+  here-few = let many = length-cells s k in let f = short (S .placed .rows) (p, cellsIn s k) (S .placed .valid) in omega arith
 
-  -- what the writing of its change asks
-  pub arriving : (l : Letter) {x : Change} → move (factsIn t) r l (p, cellsIn s k) ≡ some (changeNode (factsIn t) l x s) → Able t s l x → Arriving t s l x
-  arriving l e a = record { rows = rows-held (S .rows); able = a; fits = move-fitting l e }
+  pub here-linkable : Linkable t s k
+  here-linkable = linkable-fewer k here-few (S .linkable)
+
+  -- what the writing of a letter's change asks
+  pub arriving : (l : Letter) {x : Change} → move (factsIn t) r l (p, cellsIn s k) ≡ some (changeNode (factsIn t) l x s) → Able t s l x → keepOf x ≤ k → Arriving t s k l x
+  arriving l e a b =
+      record {
+        rows = rows-held (S .placed .rows);
+        able = a;
+        rule = move-in (S .placed) l e;
+        settles = record { linkable = S .linkable; here = here-few; there = move-short (S .placed) l e; keeps = b; linked = S .linked };
+      }
+
+  -- what it comes to
+  pub stepped-node : (l : Letter) {x : Node} → move (factsIn t) r l (p, cellsIn s k) ≡ some x → {s′ : List ℕ} {y : Landing} → Arrived t x s s′ y → Stepped r t l k p s s′ y
+  unfolding moved answer answerWord
+  stepped-node l {x} e {s′} z =
+      record {
+        node = rw (e, z .landed) (λ i. (x .0, z .cells i));
+        answered = rw (e, z .landed);
+        stays = λ q. absurd (Option·none-ne-some x (sym q ∙ e));
+        within = z .within;
+        linked = rw (z .landed) (subst (Linked t s′) (sym (z .cells)) (z .linked));
+      }
 
   -- one that leads nowhere leaves the place
   pub stepped-nowhere : (l : Letter) → move (factsIn t) r l (p, cellsIn s k) ≡ none → Stepped r t l k p s s (record { at = record { used = k; rule = p }; answer = nowhere })
   unfolding moved answer answerWord
-  stepped-nowhere l e = record { node = rw e; answered = rw e; stays = λ q. refl; within = within-none cellLength (placeLength (rowCount t)) s }
+  stepped-nowhere l e = record { node = rw e; answered = rw e; stays = λ q. refl; within = within-none cellLength (length t + rowLength) s; linked = S .linked }
 
   pub stepped-kept : (l : Letter) {x : Landing} → x ≡ record { at = record { used = k; rule = p }; answer = nowhere } → move (factsIn t) r l (p, cellsIn s k) ≡ none → Stepped r t l k p s s x
   stepped-kept l e q = rw e (stepped-nowhere l q)
@@ -145,9 +165,13 @@ module _ {r : ℕ} {t s : List ℕ} {k p : ℕ} (S : Stands r t s k p) where
   pub stands-after : (l : Letter) {s′ : List ℕ} {x : Landing} → Stepped r t l k p s s′ x → Stands r t s′ (x .at .used) (x .at .rule)
   stands-after l {s′} {x} z =
       let same = z .within .same-length in
-      let room = S .room in
+      let room = S .placed .room in
       record {
-        rows = S .rows;
-        room = omega arith;
-        valid = subst (λ (n : Node). Valid (rulesKept t) r n) (sym (z .node)) (next (S .rows) l (p, cellsIn s k) (S .valid));
+        placed = record {
+          rows = S .placed .rows;
+          room = omega arith;
+          valid = subst (λ (n : Node). Valid (rulesKept t) r n) (sym (z .node)) (next (S .placed .rows) l (p, cellsIn s k) (S .placed .valid));
+        };
+        linkable = linkable-kept same (S .linkable);
+        linked = z .linked;
       }

@@ -35,7 +35,7 @@ fn to_root(rows: &[u8], cursor: &mut [u8], k: usize, p: u16, r: u16, side: Side)
     let Outcome::Node(change) = moves::root(rows, r) else {
         return kept(k, p);
     };
-    letter_arrival::arrive_root(rows, cursor, change, side)
+    letter_arrival::arrive_root(rows, cursor, k, change, side)
 }
 
 // The first or last child of the node with rule p that k cells lead to, nowhere above the forest.
@@ -52,7 +52,7 @@ fn to_child(rows: &[u8], cursor: &mut [u8], k: usize, p: u16, r: u16, side: Side
     let Outcome::Node(change) = moves::child(rows, cursor, k, p, side) else {
         return kept(k, p);
     };
-    letter_arrival::arrive_child(rows, cursor, change, side)
+    letter_arrival::arrive_child(rows, cursor, k, change, side)
 }
 
 // The sibling on a side of the node with rule p that k cells lead to, nowhere above the forest.
@@ -69,7 +69,7 @@ fn to_sibling(rows: &[u8], cursor: &mut [u8], k: usize, p: u16, r: u16, side: Si
     let Outcome::Node(change) = moves::sibling(rows, cursor, k, p, side) else {
         return kept(k, p);
     };
-    letter_arrival::arrive_sibling(rows, cursor, change, side)
+    letter_arrival::arrive_sibling(rows, cursor, k, change, side)
 }
 
 // What a comes to from k cells and rule p, r being the walked rule: to the root of the first tree.
@@ -152,7 +152,7 @@ pub fn to_parent(rows: &[u8], cursor: &mut [u8], k: usize, p: u16, r: u16) -> La
     let Outcome::Node(change) = moves::parent(rows, cursor, k, p) else {
         return kept(k, p);
     };
-    letter_arrival::arrive_parent(rows, cursor, change)
+    letter_arrival::arrive_parent(rows, cursor, k, change)
 }
 
 // What s comes to from k cells and rule p, r being the walked rule: to the node itself.
@@ -169,5 +169,5 @@ pub fn to_same(rows: &[u8], cursor: &mut [u8], k: usize, p: u16, r: u16) -> Land
     let Outcome::Node(change) = moves::stay(k, p) else {
         return kept(k, p);
     };
-    letter_arrival::arrive_same(rows, cursor, change)
+    letter_arrival::arrive_same(rows, cursor, k, change)
 }

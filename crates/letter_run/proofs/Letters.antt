@@ -15,12 +15,11 @@ use Rattle.forest.specs.Letter.{Letter, letterOf}
 use Rattle.forest.specs.Walk.{answerLength, cellLength, cellsIn, andLetters, lettersOf, answersBytes, answerWord}
 use Rattle.model.specs.Model.{Node}
 use Rattle.model.specs.Walk.{answer, answers, after}
-use Rattle.work_rows.specs.Rows.{Within}
-use Rattle.facts.specs.Facts.{rowCount, factsIn}
+use Rattle.work_rows.specs.Rows.{Within, rowLength}
+use Rattle.facts.specs.Facts.{factsIn}
 use Rattle.work_rows.proofs.Rows.{within-none, within-both}
 use Rattle.letter_arrival.specs.declared.Landing.{Landing}
 use Rattle.letter_arrival.specs.declared.Standing.{Standing}
-use Rattle.place_cells.specs.Cells.{placeLength}
 use Rattle.letter_moves.specs.Standing.{Stands, Stepped}
 use Rattle.letter_run.specs.Ran.{Ran, Answerable}
 use Rattle.letter_moves.proofs.Stands.{stands-few, stands-after}
@@ -89,7 +88,7 @@ pub record Partway (r : ℕ) (t letters : List ℕ) (h₀ : Standing) (s₀ give
   pub written : given ≡ inFront (answersBytes done) given₀
   pub left : done ++ map answerWord (answers (factsIn t) r (lettersOf (drop i letters)) (h .rule, cellsIn s (h .used))) ≡ map answerWord (answers (factsIn t) r (lettersOf letters) (h₀ .rule, cellsIn s₀ (h₀ .used)))
   pub leads : after (factsIn t) r (lettersOf (drop i letters)) (h .rule, cellsIn s (h .used)) ≡ after (factsIn t) r (lettersOf letters) (h₀ .rule, cellsIn s₀ (h₀ .used))
-  pub within : Within cellLength (placeLength (rowCount t)) s₀ s
+  pub within : Within cellLength (length t + rowLength) s₀ s
 
 module _ {r : ℕ} {t letters s₀ given₀ : List ℕ} {h₀ : Standing} where
   pub partway-none : Stands r t s₀ (h₀ .used) (h₀ .rule) → Partway r t letters h₀ s₀ given₀ 0 h₀ s₀ given₀
@@ -102,7 +101,7 @@ module _ {r : ℕ} {t letters s₀ given₀ : List ℕ} {h₀ : Standing} where
         written = sym (in-front-none given₀);
         left = refl;
         leads = refl;
-        within = within-none cellLength (placeLength (rowCount t)) s₀;
+        within = within-none cellLength (length t + rowLength) s₀;
       }
 
   module _ {i : ℕ} {h : Standing} {s given : List ℕ} (P : Partway r t letters h₀ s₀ given₀ i h s given) where
@@ -115,7 +114,7 @@ module _ {r : ℕ} {t letters s₀ given₀ : List ℕ} {h₀ : Standing} where
           cells = ap (λ (n : Node). n .1) (rw e at (P .leads));
           answered = P .written ∙ ap (λ (ws : List ℕ). inFront (answersBytes ws) given₀) words;
           within = P .within;
-          few = stands-few (P .stands);
+          few = stands-few (P .stands .placed);
         }
 
     pub ran-all : length letters ≤ i → Ran r t letters h₀ s₀ s given₀ given (h .used)

@@ -7,7 +7,7 @@ use Rattle.words.specs.Front.{inFront}
 use Rattle.forest.specs.Walk.{answerLength, cellLength, cellsIn, lettersOf, answerWord, answersBytes}
 use Rattle.model.specs.Walk.{answers, after}
 use Rattle.letter_arrival.specs.declared.Standing.{Standing}
-use Rattle.work_rows.specs.Rows.{Within}
+use Rattle.work_rows.specs.Rows.{Within, rowLength}
 use Rattle.facts.specs.Facts.{rowCount, factsIn}
 use Rattle.place_cells.specs.Cells.{placeLength}
 
@@ -15,7 +15,7 @@ use Rattle.place_cells.specs.Cells.{placeLength}
 pub record Ran (r : ℕ) (t letters : List ℕ) (from : Standing) (s s′ given given′ : List ℕ) (used : ℕ) : Type 0 where
   pub cells : cellsIn s′ used ≡ (after (factsIn t) r (lettersOf letters) (from .rule, cellsIn s (from .used))) .1
   pub answered : given′ ≡ inFront (answersBytes (map answerWord (answers (factsIn t) r (lettersOf letters) (from .rule, cellsIn s (from .used))))) given
-  pub within : Within cellLength (placeLength (rowCount t)) s s′
+  pub within : Within cellLength (length t + rowLength) s s′
   pub few : cellLength * (used + 1) ≤ placeLength (rowCount t)
 
 -- a word of answers for each letter

@@ -24,54 +24,67 @@ use Rattle.facts.specs.Facts.{In, factsIn}
 use Rattle.place_cells.specs.Cells.{cell, runCell}
 use Rattle.place_cells.specs.Changes.{add}
 use Rattle.move_parts.specs.Moves.{Turning}
-use Rattle.move_parts.specs.Change.{turnedAt, entered, spineSide, entrySide, changeNode, outcome, Able, AbleChild, AbleSibling, AbleTo, Decided, rowOutcome, reached, Turned, Reached}
+use Rattle.move_parts.specs.Change.{turnedAt, entered, spineSide, entrySide, changeNode, outcome, Able, AbleChild, AbleSibling, AbleTo, keepOf, KeepsFew, Decided, rowOutcome, reached, Turned, ReachedOf, Reached}
 use Rattle.place_cells.proofs.Stack.{cells-none, cells-top, add-some, run-begins}
 
 -- what an answer of the code says
-module _ {t s : List ℕ} {r : Reach} {y : Option Node} (h : Reached t s r y) where
-  pub found-turn : {k v : ℕ} → r ≡ Reach.Turn k v → (y ≡ some (turnedAt (factsIn t) Side.left v (cellsIn s k))) × Turning t s k Side.left v
-  unfolding reached Turned
-  found-turn q = (sym (h .node) ∙ ap (λ (z : Reach). reached (factsIn t) z s) q, subst (Turned t s) q (h .turned))
+module _ {t s : List ℕ} {j : ℕ} {r : Reach} {y : Option Node} (h : Reached t s j r y) where
+  pub found-turn : {k v : ℕ} → r ≡ Reach.Turn k v → (y ≡ some (turnedAt (factsIn t) Side.left v (cellsIn s k))) × Turning t s k Side.left v × (k ≤ j)
+  unfolding reached Turned ReachedOf
+  found-turn q = (sym (h .node) ∙ ap (λ (z : Reach). reached (factsIn t) z s) q, subst (Turned t s) q (h .turned), subst (ReachedOf j) q (h .keeps))
 
-  pub found-kept : {k a : ℕ} → r ≡ Reach.Kept k a → y ≡ some (a, cellsIn s k)
-  unfolding reached
-  found-kept q = sym (h .node) ∙ ap (λ (z : Reach). reached (factsIn t) z s) q
+  pub found-kept : {k a : ℕ} → r ≡ Reach.Kept k a → (y ≡ some (a, cellsIn s k)) × (k ≤ j)
+  unfolding reached ReachedOf
+  found-kept q = (sym (h .node) ∙ ap (λ (z : Reach). reached (factsIn t) z s) q, subst (ReachedOf j) q (h .keeps))
 
   pub found-none : r ≡ Reach.Off → y ≡ none
   unfolding reached
   found-none q = sym (h .node) ∙ ap (λ (z : Reach). reached (factsIn t) z s) q
 
-module _ {t s : List ℕ} {l : Letter} {r : Outcome} {y : Option Node} (h : Decided t s l r y) where
-  pub took : {x : Change} → r ≡ Outcome.Node x → (y ≡ some (changeNode (factsIn t) l x s)) × Able t s l x
-  unfolding outcome AbleTo
-  took q = (sym (h .node) ∙ ap (λ (z : Outcome). outcome (factsIn t) l z s) q, subst (AbleTo t s l) q (h .able))
+-- from more cells, and of the same node
+pub reached-more : {t s : List ℕ} {j k : ℕ} {y y′ : Option Node} → j ≤ k → y ≡ y′ → (r : Reach) → Reached t s j r y → Reached t s k r y′
+unfolding ReachedOf
+reached-more b e Reach.Off h = record { node = h .node ∙ e; turned = h .turned; keeps = tt }
+reached-more b e (Reach.Turn i v) h = record { node = h .node ∙ e; turned = h .turned; keeps = let c = h .keeps in omega arith }
+reached-more b e (Reach.Kept i a) h = record { node = h .node ∙ e; turned = h .turned; keeps = let c = h .keeps in omega arith }
+
+module _ {t s : List ℕ} {k : ℕ} {l : Letter} {r : Outcome} {y : Option Node} (h : Decided t s k l r y) where
+  pub took : {x : Change} → r ≡ Outcome.Node x → (y ≡ some (changeNode (factsIn t) l x s)) × Able t s l x × (keepOf x ≤ k)
+  unfolding outcome AbleTo KeepsFew
+  took q = (sym (h .node) ∙ ap (λ (z : Outcome). outcome (factsIn t) l z s) q, subst (AbleTo t s l) q (h .able), subst (KeepsFew k) q (h .keeps))
 
   pub took-none : r ≡ Outcome.Nowhere → y ≡ none
   unfolding outcome
   took-none q = sym (h .node) ∙ ap (λ (z : Outcome). outcome (factsIn t) l z s) q
 
 -- a decision to a node, and to nowhere
-pub decided : {t s : List ℕ} {l : Letter} (x : Change) {y : Option Node} → some (changeNode (factsIn t) l x s) ≡ y → Able t s l x → Decided t s l (Outcome.Node x) y
-unfolding outcome AbleTo
-decided x e a = record { node = e; able = a }
+pub decided : {t s : List ℕ} {k : ℕ} {l : Letter} (x : Change) {y : Option Node} → some (changeNode (factsIn t) l x s) ≡ y → Able t s l x → keepOf x ≤ k → Decided t s k l (Outcome.Node x) y
+unfolding outcome AbleTo KeepsFew
+decided x e a b = record { node = e; able = a; keeps = b }
 
-pub decided-none : {t s : List ℕ} {l : Letter} {y : Option Node} → none ≡ y → Decided t s l Outcome.Nowhere y
-unfolding outcome AbleTo
-decided-none e = record { node = e; able = tt }
+pub decided-none : {t s : List ℕ} {k : ℕ} {l : Letter} {y : Option Node} → none ≡ y → Decided t s k l Outcome.Nowhere y
+unfolding outcome AbleTo KeepsFew
+decided-none e = record { node = e; able = tt; keeps = tt }
 
-pub decided-is : {t s : List ℕ} {l : Letter} {r r′ : Outcome} {y y′ : Option Node} → r ≡ r′ → y ≡ y′ → Decided t s l r′ y → Decided t s l r y′
-decided-is {t} {s} {l} e q h = rw (e, sym q) h
+pub decided-is : {t s : List ℕ} {k : ℕ} {l : Letter} {r r′ : Outcome} {y y′ : Option Node} → r ≡ r′ → y ≡ y′ → Decided t s k l r′ y → Decided t s k l r y′
+decided-is {t} {s} {k} {l} e q h = rw (e, sym q) h
+
+-- from more cells
+pub decided-more : {t s : List ℕ} {j k : ℕ} {l : Letter} (r : Outcome) {y : Option Node} → j ≤ k → Decided t s j l r y → Decided t s k l r y
+unfolding KeepsFew
+decided-more Outcome.Nowhere b h = record { node = h .node; able = h .able; keeps = tt }
+decided-more (Outcome.Node x) b h = record { node = h .node; able = h .able; keeps = let c = h .keeps in omega arith }
 
 -- what leads down leads on from a sibling too, whose row is entered from the other side
-pub down-beside : {t s : List ℕ} (d : Side) (r : Outcome) {y : Option Node} → Decided t s (Letter.child (other d)) r y → Decided t s (Letter.sibling d) r y
+pub down-beside : {t s : List ℕ} {k : ℕ} (d : Side) (r : Outcome) {y : Option Node} → Decided t s k (Letter.child (other d)) r y → Decided t s k (Letter.sibling d) r y
 unfolding outcome AbleTo Able AbleChild AbleSibling changeNode spineSide entrySide
 down-beside d Outcome.Nowhere h = decided-none (h .node)
 down-beside d (Outcome.Node (Change.Kept k a)) h = absurd (h .able)
-down-beside d (Outcome.Node (Change.Turn k v)) h = record { node = h .node; able = h .able }
+down-beside d (Outcome.Node (Change.Turn k v)) h = record { node = h .node; able = h .able; keeps = h .keeps }
 down-beside d (Outcome.Node (Change.Tree k v)) h = absurd (h .able)
 down-beside d (Outcome.Node (Change.Beside k v n o)) h = absurd (h .able)
-down-beside d (Outcome.Node (Change.Row k n o)) h = record { node = h .node; able = h .able }
-down-beside d (Outcome.Node (Change.Spine k a)) h = record { node = h .node; able = h .able }
+down-beside d (Outcome.Node (Change.Row k n o)) h = record { node = h .node; able = h .able; keeps = h .keeps }
+down-beside d (Outcome.Node (Change.Spine k a)) h = record { node = h .node; able = h .able; keeps = h .keeps }
 
 -- one of two answers
 pub else-some : {x : Option Node} {y : Node} (z : Option Node) → x ≡ some y → orElse x z ≡ some y
@@ -195,10 +208,10 @@ module _ (F : Facts) (k n a : ℕ) where
 
 module _ {t s : List ℕ} {l : Letter} (k n a : ℕ) where
   pub row-decided : ((o : ℕ) → In t o → Able t s l (Change.Row k n o)) → In t (factsIn t .representative a)
-      → Decided t s l (rowOutcome (factsIn t) k n a) (enter (factsIn t) (entrySide l) n a (cellsIn s k))
-  unfolding changeNode
+      → Decided t s k l (rowOutcome (factsIn t) k n a) (enter (factsIn t) (entrySide l) n a (cellsIn s k))
+  unfolding changeNode keepOf
   row-decided able within =
       let F = factsIn t in
       by-bool (F .isEmpty a)
       (λ u. rw (row-empty F k n a u) (decided-none (sym (enter-empty F (entrySide l) n a (cellsIn s k) u))))
-      (λ u. rw (row-some F k n a u) (decided (Change.Row k n (F .representative a)) (sym (enter-some F (entrySide l) n a (cellsIn s k) u)) (able (F .representative a) within)))
+      (λ u. rw (row-some F k n a u) (decided (Change.Row k n (F .representative a)) (sym (enter-some F (entrySide l) n a (cellsIn s k) u)) (able (F .representative a) within) (omega arith)))

@@ -1,5 +1,5 @@
 -- What a letter changes of a place: the cells that it keeps, and the few numbers that the others are made of.
-use Prim.Native.Nat.{ℕ}
+use Prim.Native.Nat.{ℕ, _≤_}
 use mathlib.Core.Path.{_≡_}
 use mathlib.Core.Bool.{cond}
 use mathlib.Core.List.{List, _∷_}
@@ -113,10 +113,24 @@ unfoldable pub AbleTo : List ℕ → List ℕ → Letter → Outcome → Type 0
 AbleTo t s l (Outcome.Node x) = Able t s l x
 AbleTo t s l Outcome.Nowhere = Unit {0}
 
--- a letter's decision is the model's move, and can be written
-pub record Decided (t s : List ℕ) (l : Letter) (r : Outcome) (y : Option Node) : Type 0 where
+-- the number of cells that a change keeps, which is at most k
+unfoldable pub keepOf : Change → ℕ
+keepOf (Change.Kept k r) = k
+keepOf (Change.Turn k v) = k
+keepOf (Change.Tree k v) = k
+keepOf (Change.Beside k v n o) = k
+keepOf (Change.Row k n o) = k
+keepOf (Change.Spine k a) = k
+
+unfoldable pub KeepsFew : ℕ → Outcome → Type 0
+KeepsFew k (Outcome.Node x) = keepOf x ≤ k
+KeepsFew k Outcome.Nowhere = Unit {0}
+
+-- a letter's decision from k cells is the model's move, and can be written
+pub record Decided (t s : List ℕ) (k : ℕ) (l : Letter) (r : Outcome) (y : Option Node) : Type 0 where
   pub node : outcome (factsIn t) l r s ≡ y
   pub able : AbleTo t s l r
+  pub keeps : KeepsFew k r
 
 -- the row of a rule entered with a number on k cells; nowhere, if it has no tree
 unfoldable pub rowOutcome : Facts → ℕ → ℕ → ℕ → Outcome
@@ -133,6 +147,12 @@ Turned t s (Reach.Turn k v) = Turning t s k Side.left v
 Turned t s (Reach.Kept k r) = Unit {0}
 Turned t s Reach.Off = Unit {0}
 
-pub record Reached (t s : List ℕ) (r : Reach) (y : Option Node) : Type 0 where
+unfoldable pub ReachedOf : ℕ → Reach → Type 0
+ReachedOf k (Reach.Turn j v) = j ≤ k
+ReachedOf k (Reach.Kept j r) = j ≤ k
+ReachedOf k Reach.Off = Unit {0}
+
+pub record Reached (t s : List ℕ) (k : ℕ) (r : Reach) (y : Option Node) : Type 0 where
   pub node : reached (factsIn t) r s ≡ y
   pub turned : Turned t s r
+  pub keeps : ReachedOf k r

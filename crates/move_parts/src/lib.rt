@@ -116,7 +116,7 @@ fn continued(work: &[u8], cursor: &[u8], j: usize, k: usize) -> Outcome
     ensures { λ r.
         let cursor = now (cursor .entry) in
         let work = now (work .entry) in
-        ⌜ ((d : place.Side) → Decided work cursor (Letter.child d) r (Option·map (λ (c : ℕ). opened (factsIn work) c (cellsIn cursor k))
+        ⌜ ((d : place.Side) → Decided work cursor k (Letter.child d) r (Option·map (λ (c : ℕ). opened (factsIn work) c (cellsIn cursor k))
         (continuing (factsIn work) (cellsIn cursor j)))) ⌝ }
 {
     if j == 0 {
@@ -141,7 +141,7 @@ pub fn inward(work: &[u8], cursor: &[u8], k: usize) -> Outcome
     ensures { λ r.
         let cursor = now (cursor .entry) in
         let work = now (work .entry) in
-        ⌜ ((d : place.Side) → Decided work cursor (Letter.child d) r (inward (factsIn work) (cellsIn cursor k))) ⌝ }
+        ⌜ ((d : place.Side) → Decided work cursor k (Letter.child d) r (inward (factsIn work) (cellsIn cursor k))) ⌝ }
 {
     let j = place_cells::pop_run(cursor, k, Side::Right);
     if let Above::Rule(above) = above_top(work, cursor, j, Side::Right) {
@@ -156,7 +156,7 @@ fn part_at(work: &[u8], cursor: &[u8], k: usize) -> Reach
     ensures { λ r.
         let cursor = now (cursor .entry) in
         let work = now (work .entry) in
-        ⌜ Reached work cursor r (partAt (factsIn work) (cellsIn cursor k)) ⌝ }
+        ⌜ Reached work cursor k r (partAt (factsIn work) (cellsIn cursor k)) ⌝ }
 {
     let at = standing(work, cursor, k);
     let Rule::Part { .. } = facts::rule_at(work, at) else {
@@ -171,7 +171,7 @@ pub fn outward(work: &[u8], cursor: &[u8], k: usize) -> Reach
     ensures { λ r.
         let cursor = now (cursor .entry) in
         let work = now (work .entry) in
-        ⌜ Reached work cursor r (outward (factsIn work) (cellsIn cursor k)) ⌝ }
+        ⌜ Reached work cursor k r (outward (factsIn work) (cellsIn cursor k)) ⌝ }
 {
     let j = place_cells::pop_run(cursor, k, Side::Left);
     if let Above::Rule(above) = above_top(work, cursor, j, Side::Left) {

@@ -15,7 +15,10 @@ ghost use Rattle.side.specs.Side.{sideOf};
 ghost use Rattle.facts.specs.Facts.{factsIn, In};
 ghost use Rattle.facts.specs.Closes.{Closes};
 ghost use Rattle.place_cells.specs.Cells.{Lies};
+ghost use Rattle.row_links.specs.Links.{Linkable, Linked};
 ghost use Rattle.move_parts.specs.Moves.{Held, Turning};
+ghost use Rattle.move_parts.specs.declared.Change.{Change};
+ghost use Rattle.move_parts.specs.declared.Outcome.{Outcome};
 ghost use Rattle.move_parts.specs.Change.{turnedAt, Decided};
 use move_parts::Above;
 use move_parts::Change;
@@ -31,7 +34,7 @@ fn part_child(work: &[u8], cursor: &[u8], k: usize, side: Side, arm: u16) -> Out
     ensures { λ r.
         let cursor = now (cursor .entry) in
         let work = now (work .entry) in
-        ⌜ Decided work cursor (Letter.child (sideOf side)) r (orElse
+        ⌜ Decided work cursor k (Letter.child (sideOf side)) r (orElse
         (enter (factsIn work) (sideOf side) (place.rowOfPart (sideOf side)) arm (cellsIn cursor k))
         (inward (factsIn work) (cellsIn cursor k))) ⌝ }
 {
@@ -47,7 +50,7 @@ pub fn child(work: &[u8], cursor: &[u8], k: usize, p: u16, side: Side) -> Outcom
     ensures { λ r.
         let cursor = now (cursor .entry) in
         let work = now (work .entry) in
-        ⌜ Decided work cursor (Letter.child (sideOf side)) r (child (factsIn work) (sideOf side) (p, (cellsIn cursor k))) ⌝ }
+        ⌜ Decided work cursor k (Letter.child (sideOf side)) r (child (factsIn work) (sideOf side) (p, (cellsIn cursor k))) ⌝ }
 {
     match facts::rule_at(work, p) {
         Rule::Node { under, .. } => move_parts::row(work, k, Cell::NODE_ROW, under),
@@ -64,7 +67,7 @@ pub fn sibling(work: &[u8], cursor: &[u8], k: usize, p: u16, side: Side) -> Outc
     ensures { λ r.
         let cursor = now (cursor .entry) in
         let work = now (work .entry) in
-        ⌜ Decided work cursor (Letter.sibling (sideOf side)) r (sibling (factsIn work) (sideOf side) (p, (cellsIn cursor k))) ⌝ }
+        ⌜ Decided work cursor k (Letter.sibling (sideOf side)) r (sibling (factsIn work) (sideOf side) (p, (cellsIn cursor k))) ⌝ }
 {
     match move_parts::outward(work, cursor, k) {
         Reach::Turn { keep, above } => beside_turn(work, keep, above, side),
@@ -80,7 +83,7 @@ fn beside_turn(work: &[u8], keep: usize, above: u16, side: Side) -> Outcome
         let work = now (work .entry) in
         ⌜ ((s : List ℕ) (x : Node) → Turning work s keep place.Side.left above
         → up (factsIn work) x ≡ some (turnedAt (factsIn work) place.Side.left above (cellsIn s keep))
-        → Decided work s (Letter.sibling (sideOf side)) r (sibling (factsIn work) (sideOf side) x)) ⌝ }
+        → Decided work s keep (Letter.sibling (sideOf side)) r (sibling (factsIn work) (sideOf side) x)) ⌝ }
 {
     let to = facts::toward_at(work, Side::Left, above);
     let rule = facts::last_at(work, Side::Right, to);
@@ -109,7 +112,7 @@ fn beside_kept(work: &[u8], keep: usize, rule: u16, side: Side) -> Outcome
     ensures { λ r.
         let work = now (work .entry) in
         ⌜ ((s : List ℕ) (x : Node) → up (factsIn work) x ≡ some (rule, cellsIn s keep)
-        → Decided work s (Letter.sibling (sideOf side)) r (sibling (factsIn work) (sideOf side) x)) ⌝ }
+        → Decided work s keep (Letter.sibling (sideOf side)) r (sibling (factsIn work) (sideOf side) x)) ⌝ }
 {
     let Rule::Part { left, right, .. } = facts::rule_at(work, rule) else {
         return Outcome::Nowhere;
@@ -126,7 +129,7 @@ fn beside_row(work: &[u8], cursor: &[u8], t: usize, side: Side) -> Outcome
         let cursor = now (cursor .entry) in
         let work = now (work .entry) in
         ⌜ ((x : Node) → up (factsIn work) x ≡ none → under (x .1) ≡ cellsIn cursor t
-        → Decided work cursor (Letter.sibling (sideOf side)) r (sibling (factsIn work) (sideOf side) x)) ⌝ }
+        → Decided work cursor t (Letter.sibling (sideOf side)) r (sibling (factsIn work) (sideOf side) x)) ⌝ }
 {
     let j = place_cells::pop_run(cursor, t, side);
     if let Above::Rule(above) = move_parts::above_top(work, cursor, j, side) {
@@ -144,7 +147,7 @@ fn past_row(work: &[u8], cursor: &[u8], j: usize, side: Side) -> Outcome
         let work = now (work .entry) in
         ⌜ ((x : Node) → up (factsIn work) x ≡ none → across (factsIn work) (sideOf side) x ≡ none
         → rowEnd (sideOf side) x ≡ cellsIn cursor j
-        → Decided work cursor (Letter.sibling (sideOf side)) r (sibling (factsIn work) (sideOf side) x)) ⌝ }
+        → Decided work cursor j (Letter.sibling (sideOf side)) r (sibling (factsIn work) (sideOf side) x)) ⌝ }
 {
     if ends_at_hole(cursor, j, side) {
         // 4. ↑(v) = ⊥, →(h) = ⊥, w = w′((d′, h′), v′) and d = ℓ: w′((d′, h′), ↓(v′))
@@ -174,7 +177,7 @@ fn node_at(work: &[u8], cursor: &[u8], k: usize) -> Outcome
     ensures { λ r.
         let cursor = now (cursor .entry) in
         let work = now (work .entry) in
-        ⌜ Decided work cursor Letter.parent r (nodeAt (factsIn work) (cellsIn cursor k)) ⌝ }
+        ⌜ Decided work cursor k Letter.parent r (nodeAt (factsIn work) (cellsIn cursor k)) ⌝ }
 {
     if k == 0 {
         return Outcome::Nowhere;
@@ -185,11 +188,12 @@ fn node_at(work: &[u8], cursor: &[u8], k: usize) -> Outcome
 
 // The parent of the node that k cells lead to: the part in whose hole it stands, else the node over its row.
 pub fn parent(work: &[u8], cursor: &[u8], k: usize, p: u16) -> Outcome
-    requires { ⌜ Held (now work) (now cursor) k ⌝ }
+    requires { ⌜ Held (now work) (now cursor) k × Linkable (now work) (now cursor) k
+        × Linked (now work) (now cursor) (cellsIn (now cursor) k) ⌝ }
     ensures { λ r.
         let cursor = now (cursor .entry) in
         let work = now (work .entry) in
-        ⌜ Decided work cursor Letter.parent r (parent (factsIn work) (p, (cellsIn cursor k))) ⌝ }
+        ⌜ Decided work cursor k Letter.parent r (parent (factsIn work) (p, (cellsIn cursor k))) ⌝ }
 {
     match move_parts::outward(work, cursor, k) {
         Reach::Turn { keep, above } => Outcome::Node(Change::Turn { keep, above }),
@@ -197,7 +201,7 @@ pub fn parent(work: &[u8], cursor: &[u8], k: usize, p: u16) -> Outcome
         Reach::Off => node_at(
             work,
             cursor,
-            place_cells::below_row(cursor, place_cells::under(cursor, k)),
+            place_cells::tail(row_links::row_under(work, cursor, k, place_cells::under(cursor, k))),
         ),
     }
 }
@@ -207,14 +211,16 @@ pub fn root(work: &[u8], r: u16) -> Outcome
     requires { ⌜ Closes (now work) × In (now work) r ⌝ }
     ensures { λ o.
         let work = now (work .entry) in
-        ⌜ ((s : List ℕ) (d : place.Side) → Decided work s (Letter.root d) o (root (factsIn work) d r)) ⌝ }
+        ⌜ ((s : List ℕ) (d : place.Side) → Decided work s 0 (Letter.root d) o (root (factsIn work) d r)) ⌝ }
 {
     move_parts::row(work, 0, Cell::NODE_ROW, r)
 }
 
 // The node with rule p that k cells lead to, itself.
 pub fn stay(k: usize, p: u16) -> Outcome
-    ensures { λ o. ⌜ ((t s : List ℕ) → Decided t s Letter.stay o (some (p, cellsIn s k))) ⌝ }
+    ensures { λ o.
+        ⌜ (o ≡ Outcome.Node (Change.Kept k p))
+        × ((t s : List ℕ) → Decided t s k Letter.stay o (some (p, cellsIn s k))) ⌝ }
 {
     Outcome::Node(Change::Kept { keep: k, rule: p })
 }

@@ -9,10 +9,10 @@ use mathlib.Core.Bool.{true, false}
 use mathlib.Core.List.{List, [], _∷_}
 use lib.Dec.{eqb}
 use borrow.Author.Tests.{eq-eqb, ne-eqb}
-use Rattle.forest.specs.Place.{Cell, Cells, Side, cellRow, cellRun, step, other}
+use Rattle.forest.specs.Place.{Cell, Cells, Side, cellRun, step, other}
 use Rattle.forest.specs.Walk.{cellAt, cellsIn}
 use Rattle.model.specs.Facts.{Facts}
-use Rattle.model.specs.Model.{along, oneAbove, run, belowRow}
+use Rattle.model.specs.Model.{along, oneAbove, run}
 use Rattle.forest.proofs.Cases.{by-bool}
 use Rattle.model.proofs.Cells.{topKind, topKind-step, step-begins}
 use Rattle.place_cells.specs.declared.Cell.{Cell as Words}
@@ -115,17 +115,3 @@ module _ (s : List ℕ) (k : ℕ) where
   grows-top d a b h e =
       add-some (cell ((cellAt s k) .0, (cellAt s k) .1, b, (cellAt s k) .3)) (cellsIn s (k - 1)) (rw e (run-some d))
       ∙ sym (rw (cells-top s k h) (step-grows d a b (cellAt s k) (cellsIn s (k - 1)) (eq-eqb _ _ e)))
-
--- below the row on top of cells 1 to i
-module _ (s : List ℕ) (i : ℕ) where
-  pub below-none : i ≡ 0 → belowRow (cellsIn s i) ≡ cellsIn s 0
-  unfolding belowRow cellsIn
-  below-none e = rw (cells-none s i e)
-
-  pub below-here : 0 < i → (cellAt s i) .0 ≡ cellRow → belowRow (cellsIn s i) ≡ cellsIn s (i - 1)
-  unfolding belowRow
-  below-here h e = rw (cells-top s i h, eq-eqb _ _ e)
-
-  pub below-on : 0 < i → ((cellAt s i) .0 ≡ cellRow → ⊥) → belowRow (cellsIn s i) ≡ belowRow (cellsIn s (i - 1))
-  unfolding belowRow
-  below-on h e = rw (cells-top s i h, ne-eqb _ _ e)

@@ -7,7 +7,7 @@ ghost use Rattle.words.specs.Number.{put};
 ghost use Rattle.record.specs.Record.{wordLength};
 ghost use Rattle.forest.specs.Place.{cellRow, cellSpine, cellRun, rowOfPart};
 ghost use Rattle.forest.specs.Walk.{cellLength, cellAt, cellsIn};
-ghost use Rattle.model.specs.Model.{tail, popRun, under, belowRow};
+ghost use Rattle.model.specs.Model.{tail, popRun, under};
 ghost use Rattle.side.specs.Side.{sideOf};
 ghost use Rattle.place_cells.specs.Cells.{cell, putCell, noCell, Lies};
 ghost use Rattle.place_cells.specs.Changes.{add, high, Wrote};
@@ -219,21 +219,6 @@ pub fn under(cursor: &[u8], k: usize) -> usize
     ensures { λ r. ⌜ (r ≤ k) × (cellsIn (now (cursor .entry)) r ≡ under (cellsIn (now (cursor .entry)) k)) ⌝ }
 {
     tail(pop_run(cursor, k, Side::Left))
-}
-
-// The number of cells below the opening of the row on top.
-pub fn below_row(cursor: &[u8], k: usize) -> usize
-    requires { ⌜ Lies (now cursor) k ⌝ }
-    ensures { λ r. ⌜ (r ≤ k) × (cellsIn (now (cursor .entry)) r ≡ belowRow (cellsIn (now (cursor .entry)) k)) ⌝ }
-{
-    let mut i = k;
-    while 0 < i {
-        if Cell::read(cursor, i).kind == Cell::ROW {
-            return i - 1;
-        }
-        i -= 1;
-    }
-    0
 }
 
 // A cell on top of k cells, if it is one; gives their number.

@@ -19,7 +19,7 @@ use Rattle.place_cells.proofs.Stack.{cells-none, cells-top}
 use Rattle.place_store.specs.declared.Head.{Head}
 use Rattle.place_store.specs.Head.{headOf}
 use Rattle.letter_arrival.specs.declared.Standing.{Standing}
-use Rattle.letter_moves.specs.Standing.{rulesKept, Stands}
+use Rattle.letter_moves.specs.Standing.{rulesKept, Placed}
 use Rattle.place_open.specs.declared.Opened.{Opened}
 use Rattle.place_open.specs.Open.{placed, Openable, Stood, OpensAt, Opens}
 use Rattle.place_open.proofs.Begin.{stood-valid, begins, begins-not, place-not-headed}
@@ -83,12 +83,12 @@ module _ {r n : ℕ} {t s : List ℕ} (J : Openable r n t s) where
           let e : standing (factsOf (rulesKept t)) (cellsIn s k) ≡ p = ap (λ (F : Facts). standing F (cellsIn s k)) (sym (J .rows .facts-are)) ∙ sym at in
           subst (λ (v : ℕ). Stood (rulesKept t) r (found .0) (v, cellsIn s k)) e (found .1)
 
-      pub stands-here : Stands r t s k p
+      pub placed-here : Placed r t s k p
       unfolding cursorWords
-      stands-here =
+      placed-here =
           let room = J .room in
           let many = J .count in
           record { rows = J .rows; room = omega arith; valid = stood-valid (J .rows .sound) (J .rows .closed) (found .0) (p, cellsIn s k) here }
 
       pub opened : Opens t n r s (Opened.At r (record { used = k; rule = p }))
-      opened = opens-at t s n r (record { stands = stands-here; path = found .0; stood = here; begun = found .2 })
+      opened = opens-at t s n r (record { place = placed-here; path = found .0; stood = here; begun = found .2 })

@@ -18,7 +18,7 @@ use Rattle.model.specs.Stored.{accepts}
 use Rattle.facts.specs.Facts.{rowCount}
 use Rattle.place_cells.specs.Cells.{cursorLength}
 use Rattle.letter_arrival.specs.declared.Standing.{Standing}
-use Rattle.letter_moves.specs.Standing.{rulesKept, WalkedRows, Stands}
+use Rattle.letter_moves.specs.Standing.{rulesKept, WalkedRows, Placed}
 use Rattle.place_open.specs.declared.Opened.{Opened}
 
 -- cells are a place: above the forest, or a node's
@@ -39,7 +39,7 @@ pub record Stood (R : List Rule) (r : ℕ) (p : Path) (x : Node) : Type 0 where
 
 -- the cursor s holds a place of rule r's forest, which the walk stands at
 pub record OpensAt (t : List ℕ) (n start : ℕ) (s : List ℕ) (r : ℕ) (h : Standing) : Type 0 where
-  pub stands : Stands r t s (h .used) (h .rule)
+  pub place : Placed r t s (h .used) (h .rule)
   pub path : Path
   pub stood : Stood (rulesKept t) r path (h .rule, cellsIn s (h .used))
   pub begun : placeJudged (rulesKept t) n start s ≡ Begun.at n r path

@@ -38,6 +38,8 @@ module _ {s : List ℕ} {n start : ℕ} {work cursor letters given : List ℕ} (
                 count = omega arith;
                 room = L .room;
               };
+          whole = long;
+          few = let most = whole .greatest in omega arith;
           answerable = L .answerable;
         }
 

@@ -26,6 +26,7 @@ pub fn travel(
 {
     match place_open::open(rows, cursor, n, start) {
         Opened::At { walked, at } => {
+            row_links::fill(rows, cursor, at.used);
             let used = letter_run::run(rows, cursor, letters, answers, walked, at);
             place_store::store(cursor, used, n);
             Walked::Accepted

@@ -5,7 +5,7 @@ use Rattle.forest.specs.Letter.{Letter}
 use Rattle.model.specs.Walk.{move}
 use Rattle.letter.specs.Letter.{moveOf}
 use Rattle.move_parts.proofs.Outcomes.{took, took-none}
-use Rattle.letter_moves.proofs.Stands.{held, from-none, from-cells, stepped-kept, stepped-node, arriving}
+use Rattle.letter_moves.proofs.Stands.{held, here-linkable, from-none, from-cells, stepped-kept, stepped-node, arriving}
 use borrow.Author.Needs.{needs}
 use Rattle.letter_moves.proofs.to_parent.Statement.{statement}
 use Rattle.letter_moves.proofs.to_parent.Tie as tie
@@ -18,7 +18,7 @@ unfolding move moveOf
 returns c = let a = c .before .before .before .before .args in stepped-kept (c .before .before .before .before .pre) _ (c .kept .ensures) (sym (from-none (now (a .cursor)) (a .k) _ (c .before .if1 .taken)))
 
 parent-requires : tie.Need-parent-requires
-parent-requires c κs = held (c .before .before .before .before .pre)
+parent-requires c κs = let h = c .before .before .before .before .pre in (held (h .placed), here-linkable h, h .linked)
 
 enum-known-change : tie.Need-enum-known-change
 enum-known-change c = search needs
@@ -42,7 +42,7 @@ arrive-parent-requires : tie.Need-arrive-parent-requires
 unfolding move moveOf
 arrive-parent-requires c κs =
     let a = c .before .before .before .before .before .before .before .before .before .args in
-    arriving (c .before .before .before .before .before .before .before .before .before .pre) Letter.parent (sym (from-cells (now (a .cursor)) (a .k) _ (c .before .before .before .before .before .before .if1 .left)) ∙ took (c .before .before .before .before .parent .ensures) (c .before .before .change .given .1) .0) (took (c .before .before .before .before .parent .ensures) (c .before .before .change .given .1) .1)
+    arriving (c .before .before .before .before .before .before .before .before .before .pre) Letter.parent (sym (from-cells (now (a .cursor)) (a .k) _ (c .before .before .before .before .before .before .if1 .left)) ∙ took (c .before .before .before .before .parent .ensures) (c .before .before .change .given .1) .0) (took (c .before .before .before .before .parent .ensures) (c .before .before .change .given .1) .1) (took (c .before .before .before .before .parent .ensures) (c .before .before .change .given .1) .2)
 
 same-length-2 : tie.Need-same-length-2
 same-length-2 c = search needs

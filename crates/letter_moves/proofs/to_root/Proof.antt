@@ -1,4 +1,5 @@
 -- The root on a side of the walked rule. Assumes nothing.
+use native.Mathlib.Omega.{arith}
 use mathlib.Core.Path.{sym, _∙_}
 use denote.Ref.{now}
 use Rattle.forest.specs.Letter.{Letter}
@@ -11,7 +12,7 @@ use Rattle.letter_moves.proofs.to_root.Statement.{statement}
 use Rattle.letter_moves.proofs.to_root.Tie as tie
 
 root-requires : tie.Need-root-requires
-root-requires c κs = let h = c .before .before .pre in (rows-held (h .rows), walked-in (h .rows))
+root-requires c κs = let h = c .before .before .pre in (rows-held (h .placed .rows), walked-in (h .placed .rows))
 
 enum-known-change : tie.Need-enum-known-change
 enum-known-change c = search needs
@@ -32,7 +33,9 @@ arrive-root-requires : tie.Need-arrive-root-requires
 unfolding move
 arrive-root-requires c κs =
     let a = c .before .before .before .before .before .before .before .args in
-    arriving (c .before .before .before .before .before .before .before .pre) (Letter.root (sideOf (a .side))) (took (c .before .before .before .before .root .ensures (now (a .cursor)) (sideOf (a .side))) (c .before .before .change .given .1) .0) (took (c .before .before .before .before .root .ensures (now (a .cursor)) (sideOf (a .side))) (c .before .before .change .given .1) .1)
+    let node = took (c .before .before .before .before .root .ensures (now (a .cursor)) (sideOf (a .side))) (c .before .before .change .given .1) in
+    let none = node .2 in
+    (arriving (c .before .before .before .before .before .before .before .pre) (Letter.root (sideOf (a .side))) (node .0) (node .1) (omega arith), omega arith)
 
 same-length : tie.Need-same-length
 same-length c = search needs

@@ -9,7 +9,7 @@ use Rattle.forest.specs.Walk.{cellAt, cellsIn}
 use Rattle.model.specs.Model.{opened, innerOf, continuing}
 use Rattle.facts.specs.Facts.{factsIn, In}
 use Rattle.move_parts.specs.declared.Change.{Change}
-use Rattle.move_parts.specs.Change.{Able, AbleChild, changeNode}
+use Rattle.move_parts.specs.Change.{Able, AbleChild, changeNode, keepOf}
 use Rattle.place_cells.proofs.Stack.{top-kind, top-one}
 use Rattle.move_parts.proofs.Held.{held-top}
 use Rattle.facts.proofs.Closes.{named-inner}
@@ -54,7 +54,7 @@ returns-3 c d =
     decided-none (sym (ap (Option·map (λ (v : ℕ). opened F v cs)) (spine (c .before) ∙ other-inner (c .before .rule-at .result) (c .match .keys2))))
 
 returns-4 : tie.Need-returns-4
-unfolding innerOf changeNode Able AbleChild
+unfolding innerOf changeNode Able AbleChild keepOf
 returns-4 c d =
     let h = c .before .before .before .before .before .before .before .before .before .before .pre in
     let a = c .before .before .before .before .before .before .before .before .before .before .args in let F = factsIn (now (a .work)) in let s = now (a .cursor) in let cs = cellsIn s (a .k) in
@@ -63,7 +63,7 @@ returns-4 c d =
     let e : top .0 ≡ cellSpine = sym (top-kind read) ∙ c .before .before .before .before .if2 .left in
     decided (Change.Spine (a .k) (c .before .inner .given .0 .1 .0))
     (sym (ap (Option·map (λ (v : ℕ). opened F v cs)) (spine (c .before .before .before) ∙ ap innerOf (c .before .inner .given .1))))
-    (named-inner (In (now (a .work))) (sym (c .before .before .before .rule-at .ensures ∙ ap (F .rule) (top-one read)) ∙ c .before .inner .given .1) (h .rows .names (top .1) (held-top h (omega arith) .one (λ q. omega arith))))
+    (named-inner (In (now (a .work))) (sym (c .before .before .before .rule-at .ensures ∙ ap (F .rule) (top-one read)) ∙ c .before .inner .given .1) (h .rows .names (top .1) (held-top h (omega arith) .one (λ q. omega arith)))) (omega arith)
 
 pub continued-spec : {M : Type 1} → statement M
 continued-spec =

@@ -10,7 +10,7 @@ use Rattle.model.specs.Model.{besideTop, opened, continuing}
 use Rattle.side.specs.Side.{sideOf}
 use Rattle.facts.specs.Facts.{factsIn}
 use Rattle.move_parts.specs.declared.Change.{Change}
-use Rattle.move_parts.specs.Change.{spineSide, changeNode, Able, AbleChild}
+use Rattle.move_parts.specs.Change.{spineSide, changeNode, Able, AbleChild, keepOf}
 use Rattle.move_parts.proofs.Held.{held-less}
 use Rattle.move_parts.proofs.Turns.{turning-beside}
 use Rattle.move_parts.proofs.Outcomes.{decided, decided-is, inward-part, inward-off}
@@ -28,12 +28,12 @@ enum-known-above : tie.Need-enum-known-above
 enum-known-above c = search needs
 
 returns : tie.Need-returns
-unfolding sideOf changeNode spineSide Able AbleChild
+unfolding sideOf changeNode spineSide Able AbleChild keepOf
 returns c d =
     let a = c .before .before .before .before .before .before .before .args in let F = factsIn (now (a .work)) in let s = now (a .cursor) in let cs = cellsIn s (a .k) in
     let h = c .before .before .before .above-top .ensures .turns _ (c .before .above .given .1) in
     decided (Change.Turn (c .before .before .before .before .pop-run .result) (c .before .above .given .0 .0))
-    (sym (inward-part F cs (ap (besideTop F Side.right) (sym (c .before .before .before .before .pop-run .ensures .1)) ∙ turning-beside h))) h
+    (sym (inward-part F cs (ap (besideTop F Side.right) (sym (c .before .before .before .before .pop-run .ensures .1)) ∙ turning-beside h))) h (c .before .before .before .before .pop-run .ensures .0)
 
 enum-told : tie.Need-enum-told
 enum-told c = search needs

@@ -1,11 +1,12 @@
 -- The rule that the cells stand at is a part or not. Assumes nothing.
 use mathlib.Core.Path.{sym, ap, _∙_}
 use mathlib.Core.Option.{some}
+use native.Mathlib.Omega.{arith}
 use denote.Ref.{now}
 use Rattle.forest.specs.Walk.{cellsIn}
 use Rattle.model.specs.Model.{Node, standing, isPart}
 use Rattle.facts.specs.Facts.{factsIn, In}
-use Rattle.move_parts.specs.Change.{reached, Turned}
+use Rattle.move_parts.specs.Change.{reached, Turned, ReachedOf}
 use Rattle.move_parts.proofs.Kept.{standing-kept}
 use Rattle.facts.proofs.Rules.{other-part}
 use Rattle.move_parts.proofs.Outcomes.{part-none, part-here}
@@ -25,16 +26,17 @@ enum-told : tie.Need-enum-told
 enum-told c = search needs
 
 returns : tie.Need-returns
-unfolding reached Turned
+unfolding reached Turned ReachedOf
 returns c =
     let a = c .before .before .before .before .before .args in let F = factsIn (now (a .work)) in let s = now (a .cursor) in let cs = cellsIn s (a .k) in
     record {
       node = sym (part-none F cs (ap isPart (sym (c .before .rule-at .ensures ∙ ap (F .rule) (c .before .before .standing .ensures))) ∙ other-part (c .before .rule-at .result) (c .match .keys2)));
       turned = tt;
+      keeps = tt;
     }
 
 returns-2 : tie.Need-returns-2
-unfolding reached Turned isPart
+unfolding reached Turned ReachedOf isPart
 returns-2 c =
     let a = c .before .before .before .before .before .before .args in let F = factsIn (now (a .work)) in let s = now (a .cursor) in let cs = cellsIn s (a .k) in
     record {
@@ -42,6 +44,7 @@ returns-2 c =
           ap (λ v. let n : Node = (v, cs) in some n) (c .before .before .before .standing .ensures)
           ∙ sym (part-here F cs (ap isPart (sym (c .before .before .rule-at .ensures ∙ ap (F .rule) (c .before .before .before .standing .ensures)) ∙ c .enum-told .given .1)));
       turned = tt;
+      keeps = omega arith;
     }
 
 pub part-at-spec : {M : Type 1} → statement M

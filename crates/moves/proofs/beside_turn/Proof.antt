@@ -2,6 +2,7 @@
 use Prim.Native.Nat.{ℕ}
 use mathlib.Core.Path.{_≡_, sym, ap, _∙_}
 use mathlib.Core.Option.{some}
+use native.Mathlib.Omega.{arith}
 use denote.Ref.{now}
 use Rattle.forest.specs.Place.{Side, rowOfPart, other, pick}
 use Rattle.forest.specs.Walk.{cellsIn}
@@ -13,7 +14,7 @@ use Rattle.side.specs.Side.{sideOf}
 use Rattle.facts.proofs.Closes.{named-arms}
 use Rattle.facts.proofs.Rules.{other-hole}
 use Rattle.move_parts.specs.declared.Change.{Change}
-use Rattle.move_parts.specs.Change.{turnedAt, entered, entrySide, changeNode, Able, AbleSibling}
+use Rattle.move_parts.specs.Change.{turnedAt, entered, entrySide, changeNode, Able, AbleSibling, keepOf}
 use Rattle.move_parts.proofs.Outcomes.{decided, decided-none, enter-empty, enter-some}
 use borrow.Author.Needs.{needs}
 use Rattle.moves.proofs.beside_turn.Statement.{statement}
@@ -70,7 +71,7 @@ representative-at-requires c κs =
     rw (c .before .before .before .pick .ensures) (picked P (sideOf (a .side)) _ _ (search (both .0, both .1)) (search (both .0, both .1)))
 
 returns-3 : tie.Need-returns-3
-unfolding sideOf turned other besideHole changeNode entrySide Able AbleSibling
+unfolding sideOf turned other besideHole changeNode entrySide Able AbleSibling keepOf
 returns-3 c s x turn part =
     let a = c .before .before .before .before .before .before .before .before .before .before .before .before .args in let F = factsIn (now (a .work)) in let d = sideOf (a .side) in let h = c .before .before .before .before .before .before .before .before .before .before .before .before .pre in
     let P = In (now (a .work)) in
@@ -82,7 +83,7 @@ returns-3 c s x turn part =
     ((λ i. some (entered F (other d) (c .before .part-row .ensures i) ((c .representative-at .ensures ∙ ap (F .representative) (c .before .before .before .before .pick .ensures)) i) cs))
     ∙ sym (case-up F d x _ _ part (sym (c .before .before .before .before .before .before .before .before .rule-at .ensures ∙ ap (F .rule) (c .before .before .before .before .before .before .before .before .before .last-at .ensures ∙ ap (F .last Side.right) (c .before .before .before .before .before .before .before .before .before .before .toward-at .ensures))) ∙ c .before .before .before .before .before .before .left .given .1)
     ∙ enter-some F (other d) (rowOfPart d) _ cs (ap (F .isEmpty) (sym (c .before .before .before .before .pick .ensures)) ∙ sym (c .before .before .before .is-empty-at .ensures) ∙ c .before .before .if1 .left)))
-    (turn, rw (c .representative-at .ensures) (h .0 .represents _ arm))
+    (turn, rw (c .representative-at .ensures) (h .0 .represents _ arm)) (omega arith)
 
 pub beside-turn-spec : {M : Type 1} → statement M
 beside-turn-spec =

@@ -7,7 +7,7 @@ use Rattle.model.proofs.Stages.{case-hole, case-off}
 use Rattle.facts.specs.Facts.{factsIn}
 use Rattle.side.specs.Side.{sideOf}
 use Rattle.move_parts.proofs.Held.{held-less}
-use Rattle.move_parts.proofs.Outcomes.{decided-is, decided-none, down-beside}
+use Rattle.move_parts.proofs.Outcomes.{decided-is, decided-none, decided-more, down-beside}
 use borrow.Author.Needs.{needs}
 use Rattle.moves.proofs.past_row.Statement.{statement}
 use Rattle.moves.proofs.past_row.Tie as tie
@@ -25,7 +25,7 @@ inward-requires c κs =
 returns : tie.Need-returns
 returns c x off ends end =
     let a = c .before .before .before .before .before .before .args in let F = factsIn (now (a .work)) in let d = sideOf (a .side) in
-    down-beside d _ (decided-is refl (ap (inward F) (c .before .tail .ensures .1 (now (a .cursor))) ∙ sym (case-hole F d x off ends end (sym (c .before .before .before .ends-at-hole .ensures) ∙ c .before .before .if1 .taken))) (c .inward .ensures (other d)))
+    down-beside d _ (decided-more _ (c .before .tail .ensures .0) (decided-is refl (ap (inward F) (c .before .tail .ensures .1 (now (a .cursor))) ∙ sym (case-hole F d x off ends end (sym (c .before .before .before .ends-at-hole .ensures) ∙ c .before .before .if1 .taken))) (c .inward .ensures (other d))))
 
 returns-2 : tie.Need-returns-2
 returns-2 c x off ends end =

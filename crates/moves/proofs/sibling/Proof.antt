@@ -6,7 +6,7 @@ use Rattle.model.specs.Neighbour.{up}
 use Rattle.facts.specs.Facts.{factsIn, In}
 use Rattle.move_parts.proofs.Held.{held-less, turns-above}
 use Rattle.move_parts.proofs.Kept.{found-rule, outward-kept}
-use Rattle.move_parts.proofs.Outcomes.{found-turn, found-kept, found-none}
+use Rattle.move_parts.proofs.Outcomes.{found-turn, found-kept, found-none, decided-more}
 use borrow.Author.Needs.{needs}
 use Rattle.moves.proofs.sibling.Statement.{statement}
 use Rattle.moves.proofs.sibling.Tie as tie
@@ -28,7 +28,7 @@ enum-known-keep-2 c = search needs
 beside-kept-requires : tie.Need-beside-kept-requires
 beside-kept-requires c κs =
     let a = c .before .before .before .before .before .before .args in let t = now (a .work) in let s = now (a .cursor) in let h = c .before .before .before .before .before .before .pre in
-    (h .rows, found-rule (In t) (found-kept (c .before .before .before .outward .ensures) (c .before .keep2 .given .1)) (outward-kept (factsIn t) (In t) (h .rows) (cellsIn s (a .k)) (h .cells)))
+    (h .rows, found-rule (In t) (found-kept (c .before .before .before .outward .ensures) (c .before .keep2 .given .1) .0) (outward-kept (factsIn t) (In t) (h .rows) (cellsIn s (a .k)) (h .cells)))
 
 enum-told : tie.Need-enum-told
 enum-told c = search needs
@@ -44,19 +44,20 @@ returns : tie.Need-returns
 unfolding up
 returns c =
     let a = c .before .before .before .before .before .before .before .args in let s = now (a .cursor) in let part = found-turn (c .before .before .before .before .outward .ensures) (c .before .before .keep .given .1) in
-    c .beside-turn .ensures s (a .p, cellsIn s (a .k)) (part .1) (part .0)
+    decided-more _ (part .2) (c .beside-turn .ensures s (a .p, cellsIn s (a .k)) (part .1) (part .0))
 
 returns-2 : tie.Need-returns-2
 unfolding up
 returns-2 c =
     let a = c .before .before .before .before .before .before .before .args in let s = now (a .cursor) in
-    c .beside-kept .ensures s (a .p, cellsIn s (a .k)) (found-kept (c .before .before .before .before .outward .ensures) (c .before .before .keep2 .given .1))
+    let part = found-kept (c .before .before .before .before .outward .ensures) (c .before .before .keep2 .given .1) in
+    decided-more _ (part .1) (c .beside-kept .ensures s (a .p, cellsIn s (a .k)) (part .0))
 
 returns-3 : tie.Need-returns-3
 unfolding up
 returns-3 c =
     let a = c .before .before .before .before .before .before .before .args in let s = now (a .cursor) in
-    c .beside-row .ensures (a .p, cellsIn s (a .k)) (found-none (c .before .before .before .before .outward .ensures) (c .before .before .enum-told .given .1)) (sym (c .before .under .ensures .1))
+    decided-more _ (c .before .under .ensures .0) (c .beside-row .ensures (a .p, cellsIn s (a .k)) (found-none (c .before .before .before .before .outward .ensures) (c .before .before .enum-told .given .1)) (sym (c .before .under .ensures .1)))
 
 pub sibling-spec : {M : Type 1} → statement M
 sibling-spec =

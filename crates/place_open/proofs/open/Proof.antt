@@ -2,7 +2,7 @@
 use mathlib.Core.Path.{refl, sym, _∙_}
 use borrow.Author.Tests.{not-true, not-false}
 use Rattle.letter_moves.proofs.Stands.{held}
-use Rattle.place_open.proofs.Places.{head-lies, used, used-lies, not-headed, not-placed, stands-here, opened}
+use Rattle.place_open.proofs.Places.{head-lies, used, used-lies, not-headed, not-placed, placed-here, opened}
 use borrow.Author.Needs.{needs}
 use Rattle.place_open.proofs.open.Statement.{statement}
 use Rattle.place_open.proofs.open.Tie as tie
@@ -31,7 +31,7 @@ returns-2 c =
 
 standing-requires : tie.Need-standing-requires
 standing-requires c κs =
-    held (stands-here (c .before .before .before .before .before .before .before .before .pre) _ (sym (c .before .before .before .before .before .headed .ensures) ∙ not-false _ (c .before .before .before .before .if1 .left)) (used _ (c .before .before .before .read .ensures))
+    held (placed-here (c .before .before .before .before .before .before .before .before .pre) _ (sym (c .before .before .before .before .before .headed .ensures) ∙ not-false _ (c .before .before .before .before .if1 .left)) (used _ (c .before .before .before .read .ensures))
     _ (sym (c .before .placed .ensures) ∙ not-false _ (c .if2 .left)) refl)
 
 returns-3 : tie.Need-returns-3
