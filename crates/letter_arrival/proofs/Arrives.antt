@@ -291,8 +291,6 @@ module _ {t : List ℕ} {x : Node} {s s′ : List ℕ} {z : Standing} (p : Settl
   pub arrived : {r : Landing} → r ≡ record { at = z; answer = label (factsIn t .rule (z .rule)) } → Arrived t x s s′ r
   arrived e =
       record {
-        landed = e ∙ ap (λ (y : Standing). let l : Landing = record { at = y; answer = label (factsIn t .rule (y .rule)) } in l) (p .there);
-        cells = p .cells;
-        within = p .within;
-        linked = p .linked;
+        settled = subst (λ (l : Landing). Settled t x s s′ (l .at)) (sym e) p;
+        answered = ap (λ (l : Landing). l .answer) e ∙ ap (λ (y : Standing). label (factsIn t .rule (y .rule))) (p .there);
       }

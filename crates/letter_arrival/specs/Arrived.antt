@@ -4,7 +4,6 @@ use mathlib.Core.Path.{_≡_}
 use mathlib.Core.List.{List}
 use lib.ListN.{length}
 use Rattle.forest.specs.Letter.{Letter}
-use Rattle.model.specs.Facts.{Facts}
 use Rattle.model.specs.Model.{Node}
 use Rattle.model.specs.Walk.{label}
 use Rattle.facts.specs.Facts.{rowCount, In, factsIn}
@@ -37,25 +36,19 @@ pub record Arriving (t s : List ℕ) (k : ℕ) (l : Letter) (x : Change) : Type 
   pub rule : In t ((changeNode (factsIn t) l x s) .0)
   pub settles : Settling t s k (keepOf x) (length ((changeNode (factsIn t) l x s) .1))
 
--- the used cells, the standing rule and the answer at a node
-abbrev pub landingAt : Facts → Node → Landing
-landingAt F x = record { at = record { used = length (x .1); rule = x .0 }; answer = label (F .rule (x .0)) }
-
 -- a walk stands at a node: its cells are written, and nothing past them
 pub record Stood (x : Node) (s s′ : List ℕ) (r : Standing) : Type 0 where
   pub there : r ≡ record { used = length (x .1); rule = x .0 }
   pub wrote : Wrote (x .1) s s′
 
--- and has their links
+-- a walk stands at a node and has its links: its cells are written, and nothing beyond what the rules need of the cursor
 pub record Settled (t : List ℕ) (x : Node) (s s′ : List ℕ) (r : Standing) : Type 0 where
   pub there : r ≡ record { used = length (x .1); rule = x .0 }
   pub cells : cellsIn s′ (length (x .1)) ≡ x .1
   pub within : Within cellLength (length t + rowLength) s s′
   pub linked : Linked t s′ (x .1)
 
--- the node's cells and their links are written, and nothing past them
+-- and its label is the answer
 pub record Arrived (t : List ℕ) (x : Node) (s s′ : List ℕ) (r : Landing) : Type 0 where
-  pub landed : r ≡ landingAt (factsIn t) x
-  pub cells : cellsIn s′ (length (x .1)) ≡ x .1
-  pub within : Within cellLength (length t + rowLength) s s′
-  pub linked : Linked t s′ (x .1)
+  pub settled : Settled t x s s′ (r .at)
+  pub answered : r .answer ≡ label (factsIn t .rule (x .0))

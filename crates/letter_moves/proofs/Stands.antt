@@ -146,11 +146,11 @@ module _ {r : ℕ} {t s : List ℕ} {k p : ℕ} (S : Stands r t s k p) where
   unfolding moved answer answerWord
   stepped-node l {x} e {s′} z =
       record {
-        node = rw (e, z .landed) (λ i. (x .0, z .cells i));
-        answered = rw (e, z .landed);
+        node = rw (e, z .settled .there) (λ i. (x .0, z .settled .cells i));
+        answered = rw e (z .answered);
         stays = λ q. absurd (Option·none-ne-some x (sym q ∙ e));
-        within = z .within;
-        linked = rw (z .landed) (subst (Linked t s′) (sym (z .cells)) (z .linked));
+        within = z .settled .within;
+        linked = rw (z .settled .there) (subst (Linked t s′) (sym (z .settled .cells)) (z .settled .linked));
       }
 
   -- one that leads nowhere leaves the place

@@ -12,17 +12,12 @@ use Rattle.forest.specs.Walk.{cellAt, cellsIn}
 use Rattle.model.specs.Facts.{Facts}
 use Rattle.model.specs.Model.{Node, outer, standing, shrunk, turned, besideTop}
 use Rattle.model.proofs.Cells.{topKind, step-begins}
-use Rattle.place_cells.specs.declared.Cell.{Cell as Words}
 use Rattle.facts.specs.Facts.{factsIn}
 use Rattle.place_cells.specs.Cells.{cell, runCell}
 use Rattle.place_cells.specs.Changes.{add}
 use Rattle.move_parts.specs.Moves.{aboveTop, Turning}
 use Rattle.move_parts.specs.Change.{turnedAt}
 use Rattle.place_cells.proofs.Stack.{cells-none, cells-top, add-some, add-run, run-some, apart-back, step-kind, run-begins, above-first}
-
--- a cell of a known form in its own words
-pub own-words : {x : Words} {r a b : ℕ} → x ≡ cell (r, a, b, 0) → x ≡ cell (r, x .one, x .two, 0)
-own-words {x} {r} {a} {b} e = rw e
 
 -- the rule that cells 1 to k stand at
 module _ (s : List ℕ) (k : ℕ) (F : Facts) where

@@ -12,13 +12,13 @@ use Rattle.words.specs.Within.{Within}
 use Rattle.words.proofs.Within.{within-both, within-number-put}
 use Rattle.record.specs.Record.{wordLength}
 use Rattle.forest.specs.Place.{Cell, Cells, Side, cellRow, cellSpine, cellRun, step, other}
-use Rattle.forest.specs.Walk.{cellLength, cellAt, cellsIn}
+use Rattle.forest.specs.Walk.{cellAt, cellsIn}
 use Rattle.forest.proofs.Cases.{by-bool}
 use Rattle.model.specs.Facts.{Facts}
 use Rattle.model.specs.Model.{outer, run, shrunk, turned, opened, belowRow}
 use Rattle.work_rows.specs.Rows.{rowLength}
 use Rattle.place_cells.proofs.Stack.{cells-top}
-use Rattle.place_cells.proofs.Writes.{cells-before, length-cells}
+use Rattle.place_cells.proofs.Writes.{length-cells}
 use Rattle.row_links.specs.Links.{rowOn, linkAt, link, Linkable, RowLinks, Linked, opensRow}
 use Rattle.row_links.proofs.Linking.{linked-after, linked-over, linked-row}
 
@@ -81,15 +81,11 @@ linked-entered {t} {s} F d n v cs fits l =
     let opens : Linked t (opensRow t (length cs + 1) s) ((cellRow, n, v, 0) ∷ cs) = rw up at (linked-row t s (cellRow, n, v, 0) cs (rw up fits) refl l) in
     linked-opened F (F .last d v) (run F d v ((cellRow, n, v, 0) ∷ cs)) (linked-run F d v ((cellRow, n, v, 0) ∷ cs) opens)
 
--- writes before the links and behind the cells, and the frame of an opening
+-- writes before the links, and the frame of an opening
 pub links-stay : {t s s′ : List ℕ} {a e : ℕ} (k : ℕ) → Within a e s s′ → e ≤ linkAt t k → (cs : Cells) → length cs ≤ k → Linked t s cs
     → Linked t s′ cs
 links-stay {t} k p h cs few l =
     linked-after t cs p (omega arith) l
-
-pub cells-stay : {s s′ : List ℕ} {e : ℕ} (t : List ℕ) (k : ℕ) → Within (linkAt t k) e s s′ → cellLength * (k + 1) ≤ linkAt t k
-    → cellsIn s′ k ≡ cellsIn s k
-cells-stay t k p apart = cells-before p k apart
 
 pub opens-within : {t s : List ℕ} {k i : ℕ} → Linkable t s k → 0 < i → i ≤ k
     → Within (linkAt t k) (length t + rowLength) s (opensRow t i s)
