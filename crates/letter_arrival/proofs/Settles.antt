@@ -11,7 +11,8 @@ use Rattle.model.specs.Facts.{Facts}
 use Rattle.model.specs.Model.{Node, opened}
 use Rattle.work_rows.specs.Rows.{Within, rowLength}
 use Rattle.work_rows.proofs.Rows.{within-none, within-both, within-wider}
-use Rattle.place_cells.specs.Cells.{runCell, Lies}
+use Rattle.facts.specs.Facts.{rowCount}
+use Rattle.place_cells.specs.Cells.{runCell, Lies, mostCells}
 use Rattle.place_cells.proofs.Stack.{cells-top}
 use Rattle.place_cells.proofs.Writes.{cells-before, length-cells, high-grows, put-none}
 use Rattle.row_links.specs.Links.{linkAt, Linkable, Linked, Relinked, opensRow}
@@ -20,20 +21,20 @@ use Rattle.row_links.proofs.Pieces.{linked-turn, linked-opened, linked-entered,
 use Rattle.move_parts.specs.Moves.{Turning}
 use Rattle.move_parts.specs.Change.{turnedAt, entered}
 use Rattle.letter_arrival.specs.declared.Standing.{Standing}
-use Rattle.letter_arrival.specs.Arrived.{mostCells, Settling, Stood, Settled}
+use Rattle.letter_arrival.specs.Arrived.{Settling, Stood, Settled}
 use Rattle.letter_arrival.proofs.Puts.{stood-as, entered-long}
 
 -- nothing but links has changed
 abbrev pub Behind : List ℕ → List ℕ → List ℕ → Type 0
-Behind t s s′ = Within (linkAt t (mostCells t)) (length t + rowLength) s s′
+Behind t s s′ = Within (linkAt t (mostCells (rowCount t))) (length t + rowLength) s s′
 
 -- the links of the cells that are kept, once others are left
 pub record Kept (t s : List ℕ) (keep : ℕ) (s′ : List ℕ) : Type 0 where
   pub behind : Behind t s s′
   pub linked : Linked t s′ (cellsIn s′ keep)
 
-pub kept : {t s s′ : List ℕ} {keep i : ℕ} → i ≤ mostCells t → Linked t s′ (cellsIn s′ keep) → Relinked t i s s′ → Kept t s keep s′
-kept {t} few l r = record { behind = within-wider (linkAt t (mostCells t)) (length t + rowLength) (omega arith) (omega arith) (r .within); linked = l }
+pub kept : {t s s′ : List ℕ} {keep i : ℕ} → i ≤ mostCells (rowCount t) → Linked t s′ (cellsIn s′ keep) → Relinked t i s s′ → Kept t s keep s′
+kept {t} few l r = record { behind = within-wider (linkAt t (mostCells (rowCount t))) (length t + rowLength) (omega arith) (omega arith) (r .within); linked = l }
 
 -- what that asks, and what is as before: the cells that are kept, the one on top, and a run that turns
 module _ {t s : List ℕ} {k keep n : ℕ} (p : Settling t s k keep n) where
@@ -81,7 +82,7 @@ module _ (f : Cells → Node) {t s s′ : List ℕ} {k keep : ℕ} (p : Settling
         within =
             within-both (within-wider cellLength (length t + rowLength) (omega arith) (omega arith) b)
             (within-wider cellLength (length t + rowLength) (omega arith) (omega arith) (w .wrote .within));
-        linked = links-stay (mostCells t) (w .wrote .within) (omega arith) (x .1) few here;
+        linked = links-stay (mostCells (rowCount t)) (w .wrote .within) (omega arith) (x .1) few here;
       }
 
 -- a turn, a tree beside, a tree, and cells that stay
@@ -111,7 +112,7 @@ settled-kept {s′ = s′} {keep = keep} a p q = settled (λ cs. (a, cs)) p (q .
 -- a row that opens on the cells that are kept: there is room for links among what it makes, and it has those of the cell that opens it
 module _ (F : Facts) (d : Side) (n v : ℕ) {t s s′ : List ℕ} {k keep : ℕ} (p : Settling t s k keep (length ((entered F d n v (cellsIn s keep)) .1)))
     (q : Kept t s keep s′) where
-  few : keep + 2 ≤ mostCells t
+  few : keep + 2 ≤ mostCells (rowCount t)
   few =
       omega (arith, p .there, entered-long F d n v (cellsIn s keep), high-grows (runCell F d v) (length (cellsIn s keep) + 1), length-cells s keep)
 
@@ -148,7 +149,7 @@ settling-fewer m few p =
 
 -- from where a walk has settled it goes on: all its cells are kept
 module _ (f : Cells → Node) {t s s′ : List ℕ} {k keep : ℕ} {x : Node} {at : Standing} (y : Settled t x s s′ at)
-    (p : Settling t s k keep (length ((f (x .1)) .1))) (few : length (x .1) ≤ mostCells t) where
+    (p : Settling t s k keep (length ((f (x .1)) .1))) (few : length (x .1) ≤ mostCells (rowCount t)) where
   count : at .used ≡ length (x .1)
   count = ap (λ (z : Standing). z .used) (y .there)
 
@@ -166,7 +167,7 @@ module _ (f : Cells → Node) {t s s′ : List ℕ} {k keep : ℕ} {x : Node} {a
       }
 
   pub kept-on : Kept t s′ (at .used) s′
-  kept-on = record { behind = within-none (linkAt t (mostCells t)) (length t + rowLength) s′; linked = rw cells-at (y .linked) }
+  kept-on = record { behind = within-none (linkAt t (mostCells (rowCount t))) (length t + rowLength) s′; linked = rw cells-at (y .linked) }
 
   pub settled-on : {u : List ℕ} {r : Standing} → Settled t (f (cellsIn s′ (at .used))) s′ u r → Settled t (f (x .1)) s u r
   settled-on {u} {r} z =

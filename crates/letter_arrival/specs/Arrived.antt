@@ -1,5 +1,5 @@
 -- What a letter that leads to a node comes to.
-use Prim.Native.Nat.{ℕ, _+_, _*_, _≤_}
+use Prim.Native.Nat.{ℕ, _+_, _≤_}
 use mathlib.Core.Path.{_≡_}
 use mathlib.Core.List.{List}
 use lib.ListN.{length}
@@ -11,21 +11,18 @@ use Rattle.facts.specs.Closes.{Closes}
 use Rattle.forest.specs.Walk.{cellLength, cellsIn}
 use Rattle.work_rows.specs.Rows.{Within, rowLength}
 use Rattle.row_links.specs.Links.{Linkable, Linked}
+use Rattle.place_cells.specs.Cells.{mostCells}
 use Rattle.place_cells.specs.Changes.{Wrote}
 use Rattle.move_parts.specs.declared.Change.{Change}
 use Rattle.move_parts.specs.Change.{changeNode, Able, keepOf}
 use Rattle.letter_arrival.specs.declared.Landing.{Landing}
 use Rattle.letter_arrival.specs.declared.Standing.{Standing}
 
--- the most cells of a place
-abbrev pub mostCells : List ℕ → ℕ
-mostCells t = 3 * rowCount t
-
 -- from k cells with their links, of which some are kept, to n cells: there is room for these and for the links of all
 pub record Settling (t s : List ℕ) (k keep n : ℕ) : Type 0 where
-  pub linkable : Linkable t s (mostCells t)
-  pub here : k ≤ mostCells t
-  pub there : n ≤ mostCells t
+  pub linkable : Linkable t s (mostCells (rowCount t))
+  pub here : k ≤ mostCells (rowCount t)
+  pub there : n ≤ mostCells (rowCount t)
   pub keeps : keep ≤ k
   pub linked : Linked t s (cellsIn s k)
 

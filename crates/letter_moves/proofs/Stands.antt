@@ -20,12 +20,12 @@ use Rattle.work_rows.proofs.Kept.{first-length}
 use Rattle.letter_arrival.specs.declared.Landing.{Landing}
 use Rattle.facts.specs.Closes.{Closes}
 use Rattle.move_parts.specs.Moves.{Held, Kept, Node-has, Each, Fits}
-use Rattle.place_cells.specs.Cells.{Lies, placeLength}
+use Rattle.place_cells.specs.Cells.{Lies, mostCells, placeLength}
 use Rattle.move_parts.specs.declared.Change.{Change}
 use Rattle.move_parts.specs.Change.{changeNode, Able, keepOf}
 use Rattle.row_links.specs.Links.{Linkable, Linked}
 use Rattle.row_links.proofs.Linking.{linkable-fewer, linkable-kept}
-use Rattle.letter_arrival.specs.Arrived.{mostCells, Arriving, Arrived}
+use Rattle.letter_arrival.specs.Arrived.{Arriving, Arrived}
 use Rattle.place_cells.proofs.Stack.{cells-none, cells-top}
 use Rattle.place_cells.proofs.Writes.{length-cells}
 use Rattle.move_parts.proofs.Kept.{child-kept, sibling-kept, parent-kept, root-kept}
@@ -117,7 +117,7 @@ module _ {r : ℕ} {t s : List ℕ} {k p : ℕ} (S : Placed r t s k p) where
     unfolding moved
     valid-node = rw e at (next (S .rows) l (p, cellsIn s k) (S .valid))
 
-    move-short : length (x .1) ≤ mostCells t
+    move-short : length (x .1) ≤ mostCells (rowCount t)
     move-short = short (S .rows) x valid-node
 
     move-in : In t (x .0)
@@ -125,7 +125,7 @@ module _ {r : ℕ} {t s : List ℕ} {k p : ℕ} (S : Placed r t s k p) where
     move-in = (rw e at (move-kept l)) .0
 
 module _ {r : ℕ} {t s : List ℕ} {k p : ℕ} (S : Stands r t s k p) where
-  here-few : k ≤ mostCells t
+  here-few : k ≤ mostCells (rowCount t)
   here-few = let many = length-cells s k in let f = short (S .placed .rows) (p, cellsIn s k) (S .placed .valid) in omega arith
 
   pub here-linkable : Linkable t s k

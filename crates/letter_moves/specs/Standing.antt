@@ -19,8 +19,7 @@ use Rattle.work_rows.specs.Rows.{Within, rowLength, firstRules}
 use Rattle.row_links.specs.Links.{Linkable, Linked}
 use Rattle.facts.specs.Facts.{rowCount, factsIn, Climbs}
 use Rattle.letter_arrival.specs.declared.Landing.{Landing}
-use Rattle.letter_arrival.specs.Arrived.{mostCells}
-use Rattle.place_cells.specs.Cells.{placeLength}
+use Rattle.place_cells.specs.Cells.{mostCells, placeLength}
 
 -- a node on cells that is the place of a node of rule r's forest, or above it
 pub record Valid (R : List Rule) (r : ℕ) (n : Node) : Type 0 where
@@ -48,7 +47,7 @@ pub record Placed (r : ℕ) (t s : List ℕ) (k p : ℕ) : Type 0 where
 -- and have their links behind them, with room for those of every place
 pub record Stands (r : ℕ) (t s : List ℕ) (k p : ℕ) : Type 0 where
   pub placed : Placed r t s k p
-  pub linkable : Linkable t s (mostCells t)
+  pub linkable : Linkable t s (mostCells (rowCount t))
   pub linked : Linked t s (cellsIn s k)
 
 -- a letter from k cells and rule p: the node arrived at and the answer; "nowhere is dealt with first, before any cell is written"

@@ -9,7 +9,7 @@ use Rattle.forest.specs.Walk.{cellAt, cellsIn}
 use Rattle.facts.specs.Facts.{In}
 use Rattle.facts.proofs.Closes.{above-has}
 use Rattle.move_parts.specs.Moves.{Each, Fits, Held, Turns, aboveTop}
-use Rattle.move_parts.proofs.Turns.{run-no-row}
+use Rattle.place_cells.proofs.Stack.{run-no-row}
 
 -- the cell on top, and fewer cells
 each-top : (P : Cell → Type 0) (s : List ℕ) (k : ℕ) → 0 < k → Each P (cellsIn s k) → P (cellAt s k)

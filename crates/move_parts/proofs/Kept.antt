@@ -19,7 +19,7 @@ use Rattle.model.proofs.Stages.{ended, follow, siblingFrom, sibling-stages}
 use Rattle.facts.specs.Closes.{Names, Closed}
 use Rattle.move_parts.specs.Moves.{Each, Fits, Node-has, Kept}
 use Rattle.forest.proofs.Cases.{by-bool}
-use Rattle.move_parts.proofs.Turns.{run-no-row}
+use Rattle.place_cells.proofs.Stack.{run-no-row}
 use Rattle.facts.proofs.Closes.{above-has, outer-has}
 
 -- the rule of a node that was found

@@ -7,7 +7,7 @@ use mathlib.Core.Path.{_≡_, sym, ap, _∙_}
 use mathlib.Core.List.{List, _∷_}
 use mathlib.Core.Option.{none, some as some′}
 use borrow.Author.Tests.{eq-eqb, ne-eqb, le-leb, lt-leb}
-use Rattle.forest.specs.Place.{Cell, Cells, Side, cellRow, cellSpine, cellRun, step, other}
+use Rattle.forest.specs.Place.{Cell, Cells, Side, cellSpine, cellRun, step, other}
 use Rattle.forest.specs.Walk.{cellAt, cellsIn}
 use Rattle.model.specs.Facts.{Facts}
 use Rattle.model.specs.Model.{Node, outer, standing, shrunk, turned, besideTop}
@@ -32,12 +32,6 @@ module _ (s : List ℕ) (k : ℕ) (F : Facts) where
   pub stands-else : 0 < k → ((cellAt s k) .0 ≡ cellSpine → ⊥) → standing F (cellsIn s k) ≡ (cellAt s k) .2
   unfolding standing
   stands-else h e = rw (cells-top s k h, ne-eqb _ _ e)
-
--- a run is no row
-pub run-no-row : (d : Side) → cellRun d ≡ cellRow → ⊥
-unfolding cellRun
-run-no-row Side.left e = omega arith
-run-no-row Side.right e = omega arith
 
 -- the run on top is one step shorter, gone if it had one step, and a step goes on it
 module _ (t s : List ℕ) (k : ℕ) (d : Side) (some : 0 < k) where

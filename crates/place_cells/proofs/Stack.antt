@@ -9,7 +9,7 @@ use mathlib.Core.Bool.{true, false}
 use mathlib.Core.List.{List, [], _∷_}
 use lib.Dec.{eqb}
 use borrow.Author.Tests.{eq-eqb, ne-eqb}
-use Rattle.forest.specs.Place.{Cell, Cells, Side, cellRun, step, other}
+use Rattle.forest.specs.Place.{Cell, Cells, Side, cellRow, cellRun, step, other}
 use Rattle.forest.specs.Walk.{cellAt, cellsIn}
 use Rattle.model.specs.Facts.{Facts}
 use Rattle.model.specs.Model.{along, oneAbove, run}
@@ -48,6 +48,11 @@ add-some c cs e = rw e
 pub add-none : (cs : Cells) → add noCell cs ≡ cs
 unfolding add
 add-none cs = refl
+
+pub run-no-row : (d : Side) → cellRun d ≡ cellRow → ⊥
+unfolding cellRun
+run-no-row Side.left e = omega arith
+run-no-row Side.right e = omega arith
 
 pub run-some : (s : Side) → eqb (cellRun s) 0 ≡ false
 unfolding cellRun

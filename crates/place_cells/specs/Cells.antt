@@ -45,6 +45,9 @@ Lies s k = cellLength * (k + 1) ≤ length s
 abbrev pub cursorLength : ℕ → ℕ
 cursorLength n = wordLength * cursorWords n
 
--- the bytes of cell 0 and of the cells that a place of n rules can have: "k is at most 3 × n"
+-- the most cells of a place of n rules: "k is at most 3 × n"; and the bytes of cell 0 and of these
+abbrev pub mostCells : ℕ → ℕ
+mostCells n = 3 * n
+
 abbrev pub placeLength : ℕ → ℕ
-placeLength n = cellLength * (3 * n + 1)
+placeLength n = cellLength * (mostCells n + 1)

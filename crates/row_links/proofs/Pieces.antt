@@ -1,6 +1,6 @@
 -- Links and the pieces of a move: runs and spines leave links as they are, a row that opens makes two, and what is written before
 -- links or behind cells keeps them. Assumes nothing.
-use Prim.Native.Nat.{ℕ, zero, suc, _+_, _-_, _*_, _≤_, _<_}
+use Prim.Native.Nat.{ℕ, zero, suc, _+_, _-_, _≤_, _<_}
 use native.Mathlib.Omega.{arith}
 use mathlib.Core.Path.{_≡_, refl, sym, ap, _∙_}
 use mathlib.Core.List.{List, [], _∷_}
@@ -17,16 +17,10 @@ use Rattle.forest.proofs.Cases.{by-bool}
 use Rattle.model.specs.Facts.{Facts}
 use Rattle.model.specs.Model.{outer, run, shrunk, turned, opened, belowRow}
 use Rattle.work_rows.specs.Rows.{rowLength}
-use Rattle.place_cells.proofs.Stack.{cells-top}
+use Rattle.place_cells.proofs.Stack.{cells-top, run-no-row}
 use Rattle.place_cells.proofs.Writes.{length-cells}
 use Rattle.row_links.specs.Links.{rowOn, linkAt, link, Linkable, RowLinks, Linked, opensRow}
 use Rattle.row_links.proofs.Linking.{linked-after, linked-over, linked-row}
-
--- a run is no row
-run-no-row : (d : Side) → cellRun d ≡ cellRow → ⊥
-unfolding cellRun
-run-no-row Side.left e = omega arith
-run-no-row Side.right e = omega arith
 
 -- a cell that opens no row, taken off
 pub unlinked : {t s : List ℕ} (c : Cell) (cs : Cells) → (c .0 ≡ cellRow → ⊥) → Linked t s (c ∷ cs) → Linked t s cs

@@ -15,13 +15,12 @@ use Rattle.forest.proofs.Stored.{stored-parts}
 use Rattle.model.specs.Facts.{Facts, factsOf}
 use Rattle.model.specs.Walk.{answers, after}
 use Rattle.work_rows.proofs.Rows.{within-both, within-wider}
-use Rattle.facts.specs.Facts.{factsIn}
+use Rattle.facts.specs.Facts.{rowCount, factsIn}
 use Rattle.row_links.specs.Links.{Linkable, Linked, Relinked}
 use Rattle.row_links.proofs.Linking.{linkable-fewer, linkable-kept}
-use Rattle.place_cells.specs.Cells.{cursorLength}
+use Rattle.place_cells.specs.Cells.{cursorLength, mostCells}
 use Rattle.place_cells.proofs.Writes.{length-cells}
 use Rattle.letter_arrival.specs.declared.Standing.{Standing}
-use Rattle.letter_arrival.specs.Arrived.{mostCells}
 use Rattle.letter_moves.specs.Standing.{Valid, rulesKept, Stands}
 use Rattle.letter_moves.proofs.Stands.{stands-few}
 use Rattle.letter_run.specs.Ran.{Ran}
@@ -41,7 +40,7 @@ stored-same n cs s s′ room e = stored-parts n cs s′ room ∙ rw e (sym (stor
 
 module _ {start n : ℕ} {t s letters given : List ℕ} (J : Travels start n t s letters given) {r : ℕ} {h : Standing} (O : OpensAt t n start s r h) where
   -- there is room for the links of every place, and so for those of this one
-  roomy : Linkable t s (mostCells t)
+  roomy : Linkable t s (mostCells (rowCount t))
   unfolding cursorWords
   roomy =
       let room = J .place .room in

@@ -7,6 +7,7 @@ use Rattle.rule.specs.declared.Rule.{Rule}
 use Rattle.forest.specs.declared.Walked.{Walked}
 use Rattle.forest.specs.Walk.{Begun, walked, cursorAfter, answersAfter}
 use Rattle.work_rows.specs.Rows.{rowLength}
+use Rattle.place_cells.specs.Cells.{mostCells}
 use Rattle.place_open.specs.Open.{Openable}
 use Rattle.letter_run.specs.Ran.{Answerable}
 
@@ -14,7 +15,7 @@ use Rattle.letter_run.specs.Ran.{Answerable}
 pub record Travels (r n : ℕ) (t cursor letters given : List ℕ) : Type 0 where
   pub place : Openable r n t cursor
   pub whole : length t ≡ rowLength * n
-  pub few : 3 * n < 65536
+  pub few : mostCells n < 65536
   pub answerable : Answerable letters given
 
 -- what a call that begins as b answers and leaves of the cursor and the answers
