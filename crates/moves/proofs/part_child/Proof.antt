@@ -1,5 +1,6 @@
 -- The row on that side, else the hole. Assumes nothing.
 use mathlib.Core.Path.{refl, sym, ap, _∙_}
+use native.Mathlib.Omega.{arith}
 use denote.Ref.{now}
 use Rattle.forest.specs.Place.{rowOfPart}
 use Rattle.forest.specs.Walk.{cellsIn}
@@ -7,6 +8,7 @@ use Rattle.model.specs.Model.{enter, inward}
 use Rattle.facts.specs.Facts.{factsIn}
 use Rattle.side.specs.Side.{sideOf}
 use Rattle.move_parts.specs.Change.{entrySide, Able, AbleChild}
+use Rattle.move_parts.proofs.Held.{held-less}
 use Rattle.move_parts.proofs.Outcomes.{decided-is, row-decided, enter-empty, enter-some, else-some, else-none}
 use borrow.Author.Needs.{needs}
 use Rattle.moves.proofs.part_child.Statement.{statement}
@@ -16,7 +18,7 @@ is-empty-at-requires : tie.Need-is-empty-at-requires
 is-empty-at-requires c κs = search needs
 
 inward-requires : tie.Need-inward-requires
-inward-requires c κs = search needs
+inward-requires c κs = held-less (c .before .before .before .before .pre .0) _ (omega arith)
 
 returns : tie.Need-returns
 returns c =
