@@ -1,127 +1,65 @@
--- What the C interface returns for each answer: "0 when accepted, else the refusal's number" (document 01's numbers and positions),
--- and the numbers behind its pointers, which a refusal leaves alone.
+-- What the C interface gives for each answer. Document 01: "When an answer is an enum, a definition states this paper's number and values
+-- for each of its cases, and the promises use this definition."
 use Prim.Native.Nat.{ℕ}
+use mathlib.Core.List.{List, [], _∷_}
+use lib.ListN.{getD}
 use Rattle.plan.specs.declared.Checked.{Checked}
 use Rattle.plan.specs.declared.Written.{Written}
 use Rattle.unseal.specs.declared.Unsealed.{Unsealed}
+use Rattle.refusal.specs.declared.Refusal.{Refusal}
 use Rattle.refusal.specs.Refusal.{numberOf, positionOf}
 use Rattle.forest.specs.declared.Compared.{Compared}
 use Rattle.forest.specs.declared.Measured.{Measured}
 use Rattle.forest.specs.declared.Walked.{Walked}
 use Rattle.label_rows.specs.declared.Classed.{Classed}
 
--- the result
-unfoldable pub checkedResult : Checked → ℕ
-checkedResult (Checked.Accepted n start) = 0
-checkedResult (Checked.Refused r) = numberOf r
+-- an answer gives numbers, in the order of the pointers that they go behind, or is refused
+pub data Given : Type 0 where
+  numbers : List ℕ → Given
+  refused : Refusal → Given
 
-unfoldable pub writtenResult : Written → ℕ
-writtenResult (Written.Length n) = 0
-writtenResult (Written.Refused r) = numberOf r
+-- the result: 0, or the refusal's number
+unfoldable pub resultNumber : Given → ℕ
+resultNumber (Given.numbers xs) = 0
+resultNumber (Given.refused r) = numberOf r
 
-unfoldable pub unsealedResult : Unsealed → ℕ
-unsealedResult (Unsealed.Words l n start) = 0
-unsealedResult (Unsealed.Refused r) = numberOf r
+-- the position: 0, or the refusal's
+unfoldable pub resultPosition : Given → ℕ
+resultPosition (Given.numbers xs) = 0
+resultPosition (Given.refused r) = positionOf r
 
-unfoldable pub measuredResult : Measured → ℕ
-measuredResult (Measured.Counts t e l) = 0
-measuredResult (Measured.Refused r) = numberOf r
+-- the number behind pointer i, counted from 0, over what stood there, which a refusal leaves alone
+unfoldable pub behind : ℕ → Given → ℕ → ℕ
+behind i (Given.numbers xs) old = getD xs i old
+behind i (Given.refused r) old = old
 
-unfoldable pub walkedResult : Walked → ℕ
-walkedResult Walked.Accepted = 0
-walkedResult (Walked.Refused r) = numberOf r
+unfoldable pub checkedGives : Checked → Given
+checkedGives (Checked.Accepted n start) = Given.numbers (n ∷ start ∷ [])
+checkedGives (Checked.Refused r) = Given.refused r
 
-unfoldable pub comparedResult : Compared → ℕ
-comparedResult (Compared.Same k) = 0
-comparedResult (Compared.Differ k) = 0
-comparedResult (Compared.Spent k) = 0
-comparedResult (Compared.Refused r) = numberOf r
+unfoldable pub writtenGives : Written → Given
+writtenGives (Written.Length n) = Given.numbers (n ∷ [])
+writtenGives (Written.Refused r) = Given.refused r
 
-unfoldable pub classedResult : Classed → ℕ
-classedResult (Classed.Class c) = 0
-classedResult (Classed.Refused r) = numberOf r
+unfoldable pub unsealedGives : Unsealed → Given
+unsealedGives (Unsealed.Words l n start) = Given.numbers (l ∷ n ∷ start ∷ [])
+unsealedGives (Unsealed.Refused r) = Given.refused r
 
--- the position: 0 when accepted
-unfoldable pub checkedPosition : Checked → ℕ
-checkedPosition (Checked.Accepted n start) = 0
-checkedPosition (Checked.Refused r) = positionOf r
+unfoldable pub measuredGives : Measured → Given
+measuredGives (Measured.Counts t e l) = Given.numbers (t ∷ e ∷ l ∷ [])
+measuredGives (Measured.Refused r) = Given.refused r
 
-unfoldable pub writtenPosition : Written → ℕ
-writtenPosition (Written.Length n) = 0
-writtenPosition (Written.Refused r) = positionOf r
-
-unfoldable pub unsealedPosition : Unsealed → ℕ
-unsealedPosition (Unsealed.Words l n start) = 0
-unsealedPosition (Unsealed.Refused r) = positionOf r
-
-unfoldable pub measuredPosition : Measured → ℕ
-measuredPosition (Measured.Counts t e l) = 0
-measuredPosition (Measured.Refused r) = positionOf r
-
-unfoldable pub walkedPosition : Walked → ℕ
-walkedPosition Walked.Accepted = 0
-walkedPosition (Walked.Refused r) = positionOf r
-
-unfoldable pub comparedPosition : Compared → ℕ
-comparedPosition (Compared.Same k) = 0
-comparedPosition (Compared.Differ k) = 0
-comparedPosition (Compared.Spent k) = 0
-comparedPosition (Compared.Refused r) = positionOf r
-
-unfoldable pub classedPosition : Classed → ℕ
-classedPosition (Classed.Class c) = 0
-classedPosition (Classed.Refused r) = positionOf r
-
--- the values, over what stood there
-unfoldable pub countAfter : Checked → ℕ → ℕ
-countAfter (Checked.Accepted n start) old = n
-countAfter (Checked.Refused r) old = old
-
-unfoldable pub startAfter : Checked → ℕ → ℕ
-startAfter (Checked.Accepted n start) old = start
-startAfter (Checked.Refused r) old = old
-
-unfoldable pub unsealedLength : Unsealed → ℕ → ℕ
-unsealedLength (Unsealed.Words l n start) old = l
-unsealedLength (Unsealed.Refused r) old = old
-
-unfoldable pub unsealedCount : Unsealed → ℕ → ℕ
-unsealedCount (Unsealed.Words l n start) old = n
-unsealedCount (Unsealed.Refused r) old = old
-
-unfoldable pub unsealedStart : Unsealed → ℕ → ℕ
-unsealedStart (Unsealed.Words l n start) old = start
-unsealedStart (Unsealed.Refused r) old = old
-
-unfoldable pub lengthAfter : Written → ℕ → ℕ
-lengthAfter (Written.Length n) old = n
-lengthAfter (Written.Refused r) old = old
-
-unfoldable pub treesAfter : Measured → ℕ → ℕ
-treesAfter (Measured.Counts t e l) old = t
-treesAfter (Measured.Refused r) old = old
-
-unfoldable pub entriesAfter : Measured → ℕ → ℕ
-entriesAfter (Measured.Counts t e l) old = e
-entriesAfter (Measured.Refused r) old = old
-
-unfoldable pub levelsAfter : Measured → ℕ → ℕ
-levelsAfter (Measured.Counts t e l) old = l
-levelsAfter (Measured.Refused r) old = old
+unfoldable pub walkedGives : Walked → Given
+walkedGives Walked.Accepted = Given.numbers []
+walkedGives (Walked.Refused r) = Given.refused r
 
 -- document 02, Note 4: "same, differ or spent, and a count"
-unfoldable pub verdictAfter : Compared → ℕ → ℕ
-verdictAfter (Compared.Same k) old = 0
-verdictAfter (Compared.Differ k) old = 1
-verdictAfter (Compared.Spent k) old = 2
-verdictAfter (Compared.Refused r) old = old
+unfoldable pub comparedGives : Compared → Given
+comparedGives (Compared.Same k) = Given.numbers (0 ∷ k ∷ [])
+comparedGives (Compared.Differ k) = Given.numbers (1 ∷ k ∷ [])
+comparedGives (Compared.Spent k) = Given.numbers (2 ∷ k ∷ [])
+comparedGives (Compared.Refused r) = Given.refused r
 
-unfoldable pub pairsAfter : Compared → ℕ → ℕ
-pairsAfter (Compared.Same k) old = k
-pairsAfter (Compared.Differ k) old = k
-pairsAfter (Compared.Spent k) old = k
-pairsAfter (Compared.Refused r) old = old
-
-unfoldable pub classAfter : Classed → ℕ → ℕ
-classAfter (Classed.Class c) old = c
-classAfter (Classed.Refused r) old = old
+unfoldable pub classedGives : Classed → Given
+classedGives (Classed.Class c) = Given.numbers (c ∷ [])
+classedGives (Classed.Refused r) = Given.refused r

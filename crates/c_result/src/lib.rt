@@ -7,12 +7,9 @@ use plan::Checked;
 use plan::Written;
 use unseal::Unsealed;
 ghost use mathlib.Core.Path.{_≡_};
-ghost use Rattle.c_result.specs.Interface.{measuredResult, measuredPosition, treesAfter, entriesAfter, levelsAfter};
-ghost use Rattle.c_result.specs.Interface.{checkedResult, writtenResult, checkedPosition, writtenPosition, countAfter};
-ghost use Rattle.c_result.specs.Interface.{comparedResult, comparedPosition, verdictAfter, pairsAfter};
-ghost use Rattle.c_result.specs.Interface.{startAfter, lengthAfter, walkedResult, walkedPosition};
-ghost use Rattle.c_result.specs.Interface.{unsealedResult, unsealedPosition, unsealedLength, unsealedCount, unsealedStart};
-ghost use Rattle.c_result.specs.Interface.{classedResult, classedPosition, classAfter};
+ghost use Rattle.c_result.specs.Interface.{resultNumber, resultPosition, behind};
+ghost use Rattle.c_result.specs.Interface.{checkedGives, writtenGives, unsealedGives, measuredGives};
+ghost use Rattle.c_result.specs.Interface.{walkedGives, comparedGives, classedGives};
 
 // What a checked answer leaves behind the pointers, and the result.
 pub fn give_checked(answer: Checked, n: &mut u16, start: &mut u16, position: &mut u64) -> u32
@@ -22,10 +19,11 @@ pub fn give_checked(answer: Checked, n: &mut u16, start: &mut u16, position: &mu
         let position′ = now (position .exit) in
         let n = now (n .entry) in
         let start = now (start .entry) in
-        ⌜ (r ≡ checkedResult answer)
-        × (n′ ≡ countAfter answer n)
-        × (start′ ≡ startAfter answer start)
-        × (position′ ≡ checkedPosition answer) ⌝ }
+        let given = checkedGives answer in
+        ⌜ (r ≡ resultNumber given)
+        × (n′ ≡ behind 0 given n)
+        × (start′ ≡ behind 1 given start)
+        × (position′ ≡ resultPosition given) ⌝ }
 {
     match answer {
         Checked::Accepted {
@@ -53,18 +51,17 @@ pub fn give_unsealed(
     position: &mut u64,
 ) -> u32
     ensures { λ r.
-        let length′ = now (record_length .exit) in
         let n′ = now (n .exit) in
         let start′ = now (start .exit) in
         let position′ = now (position .exit) in
-        let length = now (record_length .entry) in
         let n = now (n .entry) in
         let start = now (start .entry) in
-        ⌜ (r ≡ unsealedResult answer)
-        × (length′ ≡ unsealedLength answer length)
-        × (n′ ≡ unsealedCount answer n)
-        × (start′ ≡ unsealedStart answer start)
-        × (position′ ≡ unsealedPosition answer) ⌝ }
+        let given = unsealedGives answer in
+        ⌜ (r ≡ resultNumber given)
+        × (now (record_length .exit) ≡ behind 0 given (now (record_length .entry)))
+        × (n′ ≡ behind 1 given n)
+        × (start′ ≡ behind 2 given start)
+        × (position′ ≡ resultPosition given) ⌝ }
 {
     match answer {
         Unsealed::Words {
@@ -88,9 +85,10 @@ pub fn give_unsealed(
 // The same for an answer that gives a length.
 pub fn give_written(answer: Written, written: &mut u64, position: &mut u64) -> u32
     ensures { λ r.
-        ⌜ (r ≡ writtenResult answer)
-        × (now (written .exit) ≡ lengthAfter answer (now (written .entry)))
-        × (now (position .exit) ≡ writtenPosition answer) ⌝ }
+        let given = writtenGives answer in
+        ⌜ (r ≡ resultNumber given)
+        × (now (written .exit) ≡ behind 0 given (now (written .entry)))
+        × (now (position .exit) ≡ resultPosition given) ⌝ }
 {
     match answer {
         Written::Length(length) => {
@@ -121,11 +119,12 @@ pub fn give_measured(
         let trees = now (trees .entry) in
         let entries = now (entries .entry) in
         let levels = now (levels .entry) in
-        ⌜ (r ≡ measuredResult answer)
-        × (trees′ ≡ treesAfter answer trees)
-        × (entries′ ≡ entriesAfter answer entries)
-        × (levels′ ≡ levelsAfter answer levels)
-        × (position′ ≡ measuredPosition answer) ⌝ }
+        let given = measuredGives answer in
+        ⌜ (r ≡ resultNumber given)
+        × (trees′ ≡ behind 0 given trees)
+        × (entries′ ≡ behind 1 given entries)
+        × (levels′ ≡ behind 2 given levels)
+        × (position′ ≡ resultPosition given) ⌝ }
 {
     match answer {
         Measured::Counts {
@@ -148,7 +147,9 @@ pub fn give_measured(
 
 // What a walked answer leaves behind the pointer, and the result.
 pub fn give_walked(answer: Walked, position: &mut u64) -> u32
-    ensures { λ r. ⌜ (r ≡ walkedResult answer) × (now (position .exit) ≡ walkedPosition answer) ⌝ }
+    ensures { λ r.
+        let given = walkedGives answer in
+        ⌜ (r ≡ resultNumber given) × (now (position .exit) ≡ resultPosition given) ⌝ }
 {
     match answer {
         Walked::Accepted => {
@@ -182,10 +183,11 @@ pub fn give_compared(
         let position′ = now (position .exit) in
         let verdict = now (verdict .entry) in
         let count = now (count .entry) in
-        ⌜ (r ≡ comparedResult answer)
-        × (verdict′ ≡ verdictAfter answer verdict)
-        × (count′ ≡ pairsAfter answer count)
-        × (position′ ≡ comparedPosition answer) ⌝ }
+        let given = comparedGives answer in
+        ⌜ (r ≡ resultNumber given)
+        × (verdict′ ≡ behind 0 given verdict)
+        × (count′ ≡ behind 1 given count)
+        × (position′ ≡ resultPosition given) ⌝ }
 {
     match answer {
         Compared::Same(pairs) => {
@@ -216,9 +218,10 @@ pub fn give_compared(
 // What the answer for a label leaves behind the pointers, and the result.
 pub fn give_classed(answer: Classed, class: &mut u16, position: &mut u64) -> u32
     ensures { λ r.
-        ⌜ (r ≡ classedResult answer)
-        × (now (class .exit) ≡ classAfter answer (now (class .entry)))
-        × (now (position .exit) ≡ classedPosition answer) ⌝ }
+        let given = classedGives answer in
+        ⌜ (r ≡ resultNumber given)
+        × (now (class .exit) ≡ behind 0 given (now (class .entry)))
+        × (now (position .exit) ≡ resultPosition given) ⌝ }
 {
     match answer {
         Classed::Class(c) => {

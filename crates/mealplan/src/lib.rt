@@ -9,12 +9,9 @@ ghost use Rattle.forest.specs.Outcome.{measured, measuredWork, spread, spreadOu
 ghost use Rattle.forest.specs.Compare.{compare, comparedWork};
 ghost use Rattle.demand.specs.Calls.{walkOf, lends};
 ghost use Rattle.label_rows.specs.Class.{classed};
-ghost use Rattle.c_result.specs.Interface.{measuredResult, measuredPosition, treesAfter, entriesAfter, levelsAfter};
-ghost use Rattle.c_result.specs.Interface.{checkedResult, writtenResult, checkedPosition, writtenPosition, countAfter};
-ghost use Rattle.c_result.specs.Interface.{comparedResult, comparedPosition, verdictAfter, pairsAfter};
-ghost use Rattle.c_result.specs.Interface.{startAfter, lengthAfter, walkedResult, walkedPosition};
-ghost use Rattle.c_result.specs.Interface.{unsealedResult, unsealedPosition, unsealedLength, unsealedCount, unsealedStart};
-ghost use Rattle.c_result.specs.Interface.{classedResult, classedPosition, classAfter};
+ghost use Rattle.c_result.specs.Interface.{resultNumber, resultPosition, behind};
+ghost use Rattle.c_result.specs.Interface.{checkedGives, writtenGives, unsealedGives, measuredGives};
+ghost use Rattle.c_result.specs.Interface.{walkedGives, comparedGives, classedGives};
 ghost use Rattle.mealplan.specs.Given.{CopyGiven};
 
 // Check.
@@ -27,11 +24,11 @@ pub extern "C" fn plan_check(plan: &[u8], n: &mut u16, start: &mut u16, position
         let plan = now (plan .entry) in
         let n = now (n .entry) in
         let start = now (start .entry) in
-        let c = checked plan in
-        ⌜ (r ≡ checkedResult c)
-        × (n′ ≡ countAfter c n)
-        × (start′ ≡ startAfter c start)
-        × (position′ ≡ checkedPosition c) ⌝ }
+        let given = checkedGives (checked plan) in
+        ⌜ (r ≡ resultNumber given)
+        × (n′ ≡ behind 0 given n)
+        × (start′ ≡ behind 1 given start)
+        × (position′ ≡ resultPosition given) ⌝ }
 {
     c_result::give_checked(plan::check(plan), n, start, position)
 }
@@ -53,11 +50,11 @@ pub extern "C" fn plan_seal(
         let words = now (words .entry) in
         let out = now (out .entry) in
         let written = now (written .entry) in
-        let w = sealed words record_length start out in
-        ⌜ (r ≡ writtenResult w)
+        let given = writtenGives (sealed words record_length start out) in
+        ⌜ (r ≡ resultNumber given)
         × (out′ ≡ sealedOutput words record_length start out)
-        × (written′ ≡ lengthAfter w written)
-        × (position′ ≡ writtenPosition w) ⌝ }
+        × (written′ ≡ behind 0 given written)
+        × (position′ ≡ resultPosition given) ⌝ }
 {
     let answer = seal::seal(words, record_length, start, out);
     c_result::give_written(answer, written, position)
@@ -75,22 +72,20 @@ pub extern "C" fn plan_unseal(
 ) -> u32
     ensures { λ r.
         let out′ = now (out .exit) in
-        let length′ = now (record_length .exit) in
         let n′ = now (n .exit) in
         let start′ = now (start .exit) in
         let position′ = now (position .exit) in
         let plan = now (plan .entry) in
         let out = now (out .entry) in
-        let length = now (record_length .entry) in
         let n = now (n .entry) in
         let start = now (start .entry) in
-        let u = unsealed plan out in
-        ⌜ (r ≡ unsealedResult u)
+        let given = unsealedGives (unsealed plan out) in
+        ⌜ (r ≡ resultNumber given)
         × (out′ ≡ unsealedOutput plan out)
-        × (length′ ≡ unsealedLength u length)
-        × (n′ ≡ unsealedCount u n)
-        × (start′ ≡ unsealedStart u start)
-        × (position′ ≡ unsealedPosition u) ⌝ }
+        × (now (record_length .exit) ≡ behind 0 given (now (record_length .entry)))
+        × (n′ ≡ behind 1 given n)
+        × (start′ ≡ behind 2 given start)
+        × (position′ ≡ resultPosition given) ⌝ }
 {
     c_result::give_unsealed(unseal::unseal(plan, out), record_length, n, start, position)
 }
@@ -116,13 +111,13 @@ pub extern "C" fn plan_measure(
         let trees = now (trees .entry) in
         let entries = now (entries .entry) in
         let levels = now (levels .entry) in
-        let m = measured plan work in
-        ⌜ (r ≡ measuredResult m)
+        let given = measuredGives (measured plan work) in
+        ⌜ (r ≡ resultNumber given)
         × (work′ ≡ measuredWork plan work)
-        × (trees′ ≡ treesAfter m trees)
-        × (entries′ ≡ entriesAfter m entries)
-        × (levels′ ≡ levelsAfter m levels)
-        × (position′ ≡ measuredPosition m) ⌝ }
+        × (trees′ ≡ behind 0 given trees)
+        × (entries′ ≡ behind 1 given entries)
+        × (levels′ ≡ behind 2 given levels)
+        × (position′ ≡ resultPosition given) ⌝ }
 {
     c_result::give_measured(
         measure::measure(plan, work),
@@ -151,12 +146,12 @@ pub extern "C" fn plan_spread(
         let work = now (work .entry) in
         let out = now (out .entry) in
         let written = now (written .entry) in
-        let w = spread plan work out in
-        ⌜ (r ≡ writtenResult w)
+        let given = writtenGives (spread plan work out) in
+        ⌜ (r ≡ resultNumber given)
         × (work′ ≡ measuredWork plan work)
         × (out′ ≡ spreadOutput plan work out)
-        × (written′ ≡ lengthAfter w written)
-        × (position′ ≡ writtenPosition w) ⌝ }
+        × (written′ ≡ behind 0 given written)
+        × (position′ ≡ resultPosition given) ⌝ }
 {
     c_result::give_written(spread::spread(plan, work, out), written, position)
 }
@@ -182,11 +177,12 @@ pub extern "C" fn plan_walk(
         let letters = now (letters .entry) in
         let answers = now (answers .entry) in
         let l = walkOf (lends plan work cursor letters answers) in
-        ⌜ (r ≡ walkedResult (l .answer))
+        let given = walkedGives (l .answer) in
+        ⌜ (r ≡ resultNumber given)
         × (work′ ≡ l .work)
         × (cursor′ ≡ l .cursor)
         × (answers′ ≡ l .answers)
-        × (position′ ≡ walkedPosition (l .answer)) ⌝ }
+        × (position′ ≡ resultPosition given) ⌝ }
 {
     c_result::give_walked(walk::walk(plan, work, cursor, letters, answers), position)
 }
@@ -214,12 +210,12 @@ pub extern "C" fn plan_compare(
         let second = now (second .entry) in
         let verdict = now (verdict .entry) in
         let count = now (count .entry) in
-        let x = compare plan work first second budget in
-        ⌜ (r ≡ comparedResult x)
+        let given = comparedGives (compare plan work first second budget) in
+        ⌜ (r ≡ resultNumber given)
         × (work′ ≡ comparedWork plan work first second)
-        × (verdict′ ≡ verdictAfter x verdict)
-        × (count′ ≡ pairsAfter x count)
-        × (position′ ≡ comparedPosition x) ⌝ }
+        × (verdict′ ≡ behind 0 given verdict)
+        × (count′ ≡ behind 1 given count)
+        × (position′ ≡ resultPosition given) ⌝ }
 {
     let answer = compare::compare(plan, work, first, second, budget);
     c_result::give_compared(answer, verdict, count, position)
@@ -238,10 +234,10 @@ pub extern "C" fn plan_class(
         let position′ = now (position .exit) in
         let rows = now (rows .entry) in
         let class = now (class .entry) in
-        let c = classed rows label in
-        ⌜ (r ≡ classedResult c)
-        × (class′ ≡ classAfter c class)
-        × (position′ ≡ classedPosition c) ⌝ }
+        let given = classedGives (classed rows label) in
+        ⌜ (r ≡ resultNumber given)
+        × (class′ ≡ behind 0 given class)
+        × (position′ ≡ resultPosition given) ⌝ }
 {
     c_result::give_classed(label_rows::class_of(rows, label), class, position)
 }

@@ -1,7 +1,7 @@
 -- A checked answer as numbers: by cases on the answer. Assumes nothing.
 use borrow.Author.Needs.{needs}
 use mathlib.Core.Path.{refl}
-use Rattle.c_result.specs.Interface.{checkedResult, checkedPosition, countAfter, startAfter}
+use Rattle.c_result.specs.Interface.{checkedGives, resultNumber, resultPosition, behind}
 use Rattle.c_result.proofs.give_checked.Statement.{statement}
 use Rattle.c_result.proofs.give_checked.Tie as tie
 
@@ -18,13 +18,13 @@ number-requires : tie.Need-number-requires
 number-requires c κs = search needs
 
 returns : tie.Need-returns
-unfolding checkedResult checkedPosition countAfter startAfter
+unfolding checkedGives resultNumber resultPosition behind
 returns c =
     let e = c .before .answer .given .1 in
     rw e (refl, refl, refl, refl)
 
 returns-2 : tie.Need-returns-2
-unfolding checkedResult checkedPosition countAfter startAfter
+unfolding checkedGives resultNumber resultPosition behind
 returns-2 c =
     let e = c .before .before .before .answer2 .given .1 in
     rw e (c .number .ensures, refl, refl, c .before .position .ensures)

@@ -1,7 +1,7 @@
 -- An unsealed answer as numbers: by cases on the answer. Assumes nothing.
 use borrow.Author.Needs.{needs}
 use mathlib.Core.Path.{refl}
-use Rattle.c_result.specs.Interface.{unsealedResult, unsealedPosition, unsealedLength, unsealedCount, unsealedStart}
+use Rattle.c_result.specs.Interface.{unsealedGives, resultNumber, resultPosition, behind}
 use Rattle.c_result.proofs.give_unsealed.Statement.{statement}
 use Rattle.c_result.proofs.give_unsealed.Tie as tie
 
@@ -18,13 +18,13 @@ number-requires : tie.Need-number-requires
 number-requires c κs = search needs
 
 returns : tie.Need-returns
-unfolding unsealedResult unsealedPosition unsealedLength unsealedCount unsealedStart
+unfolding unsealedGives resultNumber resultPosition behind
 returns c =
     let e = c .before .answer .given .1 in
     rw e (refl, refl, refl, refl, refl)
 
 returns-2 : tie.Need-returns-2
-unfolding unsealedResult unsealedPosition unsealedLength unsealedCount unsealedStart
+unfolding unsealedGives resultNumber resultPosition behind
 returns-2 c =
     let e = c .before .before .before .answer2 .given .1 in
     rw e (c .number .ensures, refl, refl, refl, c .before .position .ensures)

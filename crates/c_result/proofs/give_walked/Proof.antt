@@ -1,6 +1,6 @@
 -- A walked answer as numbers: by cases on the answer. Assumes nothing.
 use mathlib.Core.Path.{refl}
-use Rattle.c_result.specs.Interface.{walkedResult, walkedPosition}
+use Rattle.c_result.specs.Interface.{walkedGives, resultNumber, resultPosition}
 use borrow.Author.Needs.{needs}
 use Rattle.c_result.proofs.give_walked.Statement.{statement}
 use Rattle.c_result.proofs.give_walked.Tie as tie
@@ -18,11 +18,11 @@ number-requires : tie.Need-number-requires
 number-requires c κs = search needs
 
 returns : tie.Need-returns
-unfolding walkedResult walkedPosition
+unfolding walkedGives resultNumber resultPosition
 returns c = rw (c .enum-told .given .1) (refl, refl)
 
 returns-2 : tie.Need-returns-2
-unfolding walkedResult walkedPosition
+unfolding walkedGives resultNumber resultPosition
 returns-2 c =
     let e = c .before .before .before .answer .given .1 in
     rw e (c .number .ensures, c .before .position .ensures)

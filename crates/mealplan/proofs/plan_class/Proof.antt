@@ -36,7 +36,7 @@ use denote.Triple.Table.{entered, cited}
 use denote.Triple.Walked.{says, Stays, stay-none, stay-none-slice, gave-ref, walkOf, AllGo, goes-none, goes-none-slice, goes-gave-ref, Walks, ends-at, walked, walk-meets}
 use denote.Exit.{yes}
 use denote.Signature.{plain}
-use Rattle.c_result.specs.Interface.{classedResult, classedPosition, classAfter}
+use Rattle.c_result.specs.Interface.{classedGives, resultNumber, resultPosition, behind}
 use Rattle.c_result.proofs.give_classed as give
 use Rattle.c_result.proofs.give_classed.Symbol as give-def
 use Rattle.c_result.proofs.give_classed.Met as give-thm
@@ -102,7 +102,7 @@ module _ {M : Type 1} (𝓤 : URA M) (H : Heap 𝓤) (A : Atoms 𝓤) (W : Given
 
   -- what is given for an answer
   abbrev Given-for : Classed → ℕ → ℕ → ℕ → Type 0
-  Given-for y r c′ p′ = (r ≡ classedResult y) × (c′ ≡ classAfter y c) × (p′ ≡ classedPosition y)
+  Given-for y r c′ p′ = (r ≡ resultNumber (classedGives y)) × (c′ ≡ behind 0 (classedGives y) c) × (p′ ≡ resultPosition (classedGives y))
 
   exits : (r c′ p′ : ℕ) → r < 2 ^ 32 → Given-for (classed ys x) r c′ p′
       → ent 𝓤 (⋆ 𝓤 H A (‵ (flft κ₀ q₀) ∷ ‵ (flft κ₁ q₁) ∷ ‵ (flft κ₂ q₂) ∷ ‵ Rows ∷ ‵ (fres γ₁ (u16 .coded .code c′)) ∷ ‵ (fres γ₂ (u64 .coded .code p′)) ∷ [])) (Post (vint w32 r))

@@ -42,7 +42,7 @@ use Rattle.plan.proofs.Written as written-type
 use Rattle.plan.proofs.Written.Laws as written′
 use Rattle.label_rows.specs.declared.LabelRow.{LabelRow}
 use Rattle.label_rows.proofs.Reading.{R}
-use Rattle.c_result.specs.Interface.{writtenResult, writtenPosition, lengthAfter}
+use Rattle.c_result.specs.Interface.{writtenGives, resultNumber, resultPosition, behind}
 use Rattle.c_result.proofs.give_written as give
 use Rattle.c_result.proofs.give_written.Symbol as give-def
 use Rattle.c_result.proofs.give_written.Met as give-thm
@@ -147,7 +147,7 @@ module _ {M : Type 1} (𝓤 : URA M) (H : Heap 𝓤) (A : Atoms 𝓤) (W : Given
   Outcome zs xs x = CopyOutcome (copyJudged ps ys c ss os) ps ys c ss zs os xs x
 
   abbrev Given-for : Written → ℕ → ℕ → ℕ → Type 0
-  Given-for x y d′ e′ = (y ≡ writtenResult x) × (d′ ≡ lengthAfter x d) × (e′ ≡ writtenPosition x)
+  Given-for x y d′ e′ = (y ≡ resultNumber (writtenGives x)) × (d′ ≡ behind 0 (writtenGives x) d) × (e′ ≡ resultPosition (writtenGives x))
 
   exits : (y d′ e′ : ℕ) → y < 2 ^ 32 → (zs xs : List ℕ) → length zs ≡ length ss → length xs ≡ length os → CopyGiven ps ys c ss zs os xs d y d′ e′
       → ent 𝓤 (⋆ 𝓤 H A (‵ (flft κ₀ q₀) ∷ ‵ (flft κ₁ q₁) ∷ ‵ (flft κ₂ q₂) ∷ ‵ (flft κ₃ q₃) ∷ ‵ (flft κ₄ q₄) ∷ ‵ (flft κ₅ q₅) ∷ ‵ Plan ∷ ‵ Rows ∷ ‵ (finally u8 γ₂ zs) ∷ ‵ (finally u8 γ₃ xs) ∷ ‵ (fres γ₄ (u64 .coded .code d′)) ∷ ‵ (fres γ₅ (u64 .coded .code e′)) ∷ [])) (Post (vint w32 y))
@@ -230,7 +230,7 @@ module _ {M : Type 1} (𝓤 : URA M) (H : Heap 𝓤) (A : Atoms 𝓤) (W : Given
         returns ! (look ! 40 refl) $ forget ! 12 refl $ forget ! 14 refl $ forget ! 24 refl $ forget ! 26 refl $ forget ! 28 refl $ forget ! 30 refl $ forget ! 32 refl $ forget ! 34 refl $ forget ! 36 refl $ forget ! 38 refl $ forget ! 40 refl $
         move ! (40 ∷ 41 ∷ []) $ free1 ! $ move ! (38 ∷ 39 ∷ []) $ free1 ! $ move ! (36 ∷ 37 ∷ []) $ free1 ! $ move ! (34 ∷ 35 ∷ []) $ free1 ! $ move ! (32 ∷ 33 ∷ []) $ free1 ! $ move ! (30 ∷ 31 ∷ []) $ free1 ! $ move ! (28 ∷ 29 ∷ []) $ free1 ! $ move ! (26 ∷ 27 ∷ []) $ free1 ! $ move ! (24 ∷ 25 ∷ []) $ free1 ! $ move ! (22 ∷ 23 ∷ []) $ free1 ! $ move ! (20 ∷ 21 ∷ []) $ free1 ! $ move ! (18 ∷ 19 ∷ []) $ free1 ! $ move ! (16 ∷ 17 ∷ []) $ free1 ! $ move ! (14 ∷ 15 ∷ []) $ free1 ! $ move ! (12 ∷ 13 ∷ []) $ free1 ! $
         free0 ! $ split ! $ move ! (1 ∷ []) $ split ! $ keep ! (6 ∷ 7 ∷ 8 ∷ 9 ∷ 2 ∷ 0 ∷ 10 ∷ 11 ∷ 12 ∷ 13 ∷ 5 ∷ 3 ∷ []) $
-        by ! (exits y (vs .1 .0) (vs .1 .1 .0) (is .1) zs xs same-work same-out (record { answer = x; outcome = outcome; result = f .0; length = f .1; position = f .2 })))))))
+        by ! (exits y (vs .1 .0) (vs .1 .1 .0) (is .1) zs xs same-work same-out (record { answer = x; outcome = outcome; result = f .0; lengthGiven = f .1; position = f .2 })))))))
 
     -- the copy is made
     copied : Triple 𝓤 (C copies-def.name) (Copies 𝓤 H A mem run) → Triple 𝓤 (C give-def.name) (Gives 𝓤 H A mem run) → Sq W (Owned (Handing (dead written′.mir l₈ Kept))) (runs C Λ E mir.t-1 (atRet E Post))
