@@ -1,6 +1,5 @@
 -- `plan_seal` gives seal's answer as numbers, and leaves its output. Assumes nothing.
 use borrow.Author.Needs.{needs}
-use mathlib.Core.Path.{sym}
 use Rattle.mealplan.proofs.plan_seal.Statement.{statement}
 use Rattle.mealplan.proofs.plan_seal.Tie as tie
 
@@ -15,9 +14,9 @@ same-length c = search needs
 
 returns : tie.Need-returns
 returns c =
-    let e = c .give-written .ensures in
     let s = c .before .before .before .before .before .seal .ensures in
-    rw (sym (s .0)) (e .0, s .1, e .1, e .2)
+    let e = rw (s .0) at (c .give-written .ensures) in
+    (e .0, s .1, e .1, e .2)
 
 pub plan-seal-spec : {M : Type 1} → statement M
 plan-seal-spec = tie.close (tie.spec seal-requires give-written-requires same-length returns)
