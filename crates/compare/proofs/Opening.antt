@@ -11,7 +11,8 @@ use Rattle.refusal.specs.declared.Refusal.{Refusal}
 use Rattle.forest.specs.declared.Compared.{Compared}
 use Rattle.forest.specs.Expression.{Expression, expression, ruleNumber}
 use Rattle.forest.specs.Forest.{Forest}
-use Rattle.forest.specs.Place.{Cells, Side, cellRun, step, pick, rowOfPart, representative}
+use Rattle.forest.specs.Place.{Cells, Side, cellRun, step, rowOfPart, representative}
+use Rattle.forest.specs.Sides.{pick}
 use Rattle.forest.specs.Position.{Position, Located, Named, cells, locatedOf}
 use Rattle.forest.specs.Reference.{Path, labelAt, nodeAt, top}
 use Rattle.forest.specs.Walk.{Begun, cellAt, cellsIn, placeJudged}

@@ -6,7 +6,8 @@ use native.Mathlib.Omega.{arith}
 use mathlib.Core.Path.{_≡_, refl, sym, ap, ap₂, _∙_}
 use mathlib.Core.List.{List, [], _∷_, _++_}
 use lib.ListN.{length}
-use Rattle.words.specs.Number.{base, number, put}
+use Rattle.words.specs.Number.{base, number}
+use Rattle.words.specs.Put.{put}
 use Rattle.words.proofs.Laws.{length-put, put-same, put-other}
 use Rattle.record.specs.Record.{wordLength}
 use Rattle.work_rows.specs.Rows.{Within}

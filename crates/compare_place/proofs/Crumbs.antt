@@ -7,7 +7,8 @@ use mathlib.Core.Path.{_≡_}
 use mathlib.Core.Option.{some, Option·none-ne-some, Option·some-injective}
 use Rattle.forest.specs.Expression.{Expression}
 use Rattle.forest.specs.Sizes.{height}
-use Rattle.forest.specs.Place.{Side, pick}
+use Rattle.forest.specs.Place.{Side}
+use Rattle.forest.specs.Sides.{pick}
 use Rattle.forest.specs.Position.{Position, At, Where, continues}
 
 -- the left steps of a spine's crumbs

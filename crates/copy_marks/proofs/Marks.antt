@@ -9,7 +9,8 @@ use lib.ListN.{length, getD, take, drop}
 use lib.Dec.{ltb, eqb}
 use borrow.Author.Tests.{eqb-true, eqb-false, eq-eqb, ne-eqb}
 use borrow.Table.Steps.{cases}
-use Rattle.words.specs.Number.{number, put}
+use Rattle.words.specs.Number.{number}
+use Rattle.words.specs.Put.{put}
 use Rattle.words.proofs.Laws.{put-same, put-other}
 use Rattle.words.proofs.Within.{within-none, within-both, within-wider, within-number-put, within-cleared, cleared-number}
 use Rattle.words.specs.Front.{cleared}

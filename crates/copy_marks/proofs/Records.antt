@@ -10,7 +10,7 @@ use lib.Seq.{length-take-le}
 use lib.Dec.{ltb, eqb}
 use borrow.Author.Tests.{eqb-true, eqb-false, lt-ltb}
 use borrow.Table.Steps.{cases}
-use Rattle.words.specs.Number.{put}
+use Rattle.words.specs.Put.{put}
 use Rattle.words.specs.Front.{inFront}
 use Rattle.words.proofs.Front.{inFront-more}
 use Rattle.words.proofs.Within.{within-none, within-both}

@@ -2,7 +2,7 @@
 ghost use mathlib.Core.Path.{_≡_};
 ghost use Prim.Native.Nat.{_+_, _-_, _*_, _≤_, _<_};
 ghost use lib.ListN.{length};
-ghost use Rattle.words.specs.Number.{put};
+ghost use Rattle.words.specs.Put.{put};
 ghost use Rattle.rule.specs.Rule.{encode};
 ghost use Rattle.copy_passes.specs.Passes.{renamed};
 ghost use Rattle.copy_marks.specs.Marks.{markAt, marksEnd, markIn, marked, numberIn, variantIn, placesIn};

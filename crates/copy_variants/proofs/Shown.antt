@@ -7,7 +7,13 @@ use mathlib.Core.Path.{_≡_, refl, ap, _∙_}
 use Rattle.forest.specs.Algebra.{Hedge, _·_, _⟨_⟩}
 use Rattle.forest.specs.Sizes.{holes}
 use Rattle.forest.specs.Forest.{trees}
-use Rattle.copy_variants.specs.Visible.{visible, shown}
+use Rattle.copy_variants.specs.Visible.{visible}
+
+-- what is visible of a hedge: a hole under a node that is gone is gone with it
+unfoldable pub shown : (ℕ → Bool) → Hedge → Hedge
+shown v Hedge.ε = Hedge.ε
+shown v (Hedge.hole f) = Hedge.hole (shown v f)
+shown v (Hedge.node a c f) = cond (v a) (Hedge.node a (shown v c) (shown v f)) (shown v f)
 
 -- a test goes through what is done to both answers
 through : {A B : Type 0} (h : A → B) (t : Bool) (a b : A) → h (cond t a b) ≡ cond t (h a) (h b)

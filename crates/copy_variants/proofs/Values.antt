@@ -20,9 +20,9 @@ use Rattle.forest.specs.Forest.{trees, forest}
 use Rattle.forest.proofs.Unfold.{named-below, by-rank, unfolding-equation}
 use Rattle.forest.proofs.Values.{concat-⟨⟩, ⟨⟩-assoc, closed-⟨⟩, value-node, value-part, closed-value}
 use Rattle.copy_variants.specs.declared.Variants.{Variants}
-use Rattle.copy_variants.specs.Visible.{visible, shown}
+use Rattle.copy_variants.specs.Visible.{visible}
 use Rattle.copy_variants.specs.Variants.{seenIn, filling, closedVariants, variantsFrom, Varied, variant, variantRules, variantName, innerName, wholeName, shutName, kindOf}
-use Rattle.copy_variants.proofs.Shown.{shown-concat, shown-⟨⟩, trees-shown, shown-closed}
+use Rattle.copy_variants.proofs.Shown.{shown, shown-concat, shown-⟨⟩, trees-shown, shown-closed}
 use Rattle.copy_variants.proofs.Table.{variant-rule, variant-kind, variants-length}
 use Rattle.copy_variants.proofs.Shapes.{isPair, not-holed, tree-single, holed-single, nothing-else, filling-cases}
 use Rattle.copy_variants.proofs.Fit.{all-sided, variants-sound}

@@ -6,7 +6,6 @@ use lib.Dec.{leb}
 use Rattle.rule.specs.declared.Rule.{Rule}
 use Rattle.label_rows.specs.declared.LabelRow.{LabelRow}
 use Rattle.label_rows.specs.Class.{rowOf}
-use Rattle.forest.specs.Algebra.{Hedge}
 use Rattle.forest.specs.Forest.{Forest, append}
 
 -- "A client of class c must not see entries of a higher class": whether a label may be seen
@@ -37,9 +36,3 @@ unfoldable pub takenOut : (ℕ → Bool) → Forest ℕ → Forest ℕ
 unfolding append
 takenOut v Forest.none = Forest.none
 takenOut v (Forest.tree a c f) = cond (v a) (append (takenOut v c) (takenOut v f)) (Forest.tree a c (takenOut v f))
-
--- the same on hedges: a hole under a node that is gone is gone with it
-unfoldable pub shown : (ℕ → Bool) → Hedge → Hedge
-shown v Hedge.ε = Hedge.ε
-shown v (Hedge.hole f) = Hedge.hole (shown v f)
-shown v (Hedge.node a c f) = cond (v a) (Hedge.node a (shown v c) (shown v f)) (shown v f)

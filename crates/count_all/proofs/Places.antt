@@ -6,7 +6,8 @@ use mathlib.Core.Path.{_≡_, refl, sym, ap, _∙_}
 use mathlib.Core.List.{List}
 use mathlib.Core.Logic.{inl, inr}
 use lib.ListN.{length}
-use Rattle.words.specs.Number.{base, number, put}
+use Rattle.words.specs.Number.{base, number}
+use Rattle.words.specs.Put.{put}
 use Rattle.words.proofs.Laws.{length-put, put-same, put-other}
 use Rattle.rule.specs.declared.Rule.{Rule}
 use Rattle.rule.specs.Sound.{rule}

@@ -2,7 +2,8 @@
 ghost use mathlib.Core.Path.{_≡_};
 ghost use Prim.Native.Nat.{_+_, _≤_, _<_, max, min};
 ghost use lib.ListN.{length};
-ghost use Rattle.words.specs.Number.{number, put};
+ghost use Rattle.words.specs.Number.{number};
+ghost use Rattle.words.specs.Put.{put};
 ghost use Rattle.forest.specs.Outcome.{entry};
 ghost use Rattle.count_all.specs.Counts.{beside, filling, over, oneTree};
 ghost use Rattle.count_all.specs.Kept.{Joins, Makes, Turns, IsNone, TooMany, isAbove};

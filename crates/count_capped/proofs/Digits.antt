@@ -6,7 +6,8 @@ use native.Mathlib.Omega.{arith}
 use mathlib.Core.Path.{_≡_, sym, ap, _∙_}
 use mathlib.Core.List.{List}
 use lib.ListN.{set}
-use Rattle.words.specs.Number.{base, number, bytes, put}
+use Rattle.words.specs.Number.{base, number, bytes}
+use Rattle.words.specs.Put.{put}
 use Rattle.count_capped.specs.Count.{limit, countLength}
 
 -- the digits past the first

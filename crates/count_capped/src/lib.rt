@@ -2,7 +2,8 @@
 ghost use mathlib.Core.Path.{_≡_};
 ghost use Prim.Native.Nat.{_+_, _*_, _^_, _≤_};
 ghost use lib.ListN.{length};
-ghost use Rattle.words.specs.Number.{number, put};
+ghost use Rattle.words.specs.Number.{number};
+ghost use Rattle.words.specs.Put.{put};
 ghost use Rattle.work_rows.specs.Rows.{rowLength, field, putField};
 ghost use Rattle.count_capped.specs.Count.{capped, numberOf, countLength};
 use work_rows::Row;

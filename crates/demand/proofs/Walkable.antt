@@ -6,7 +6,8 @@ use mathlib.Core.Bool.{false}
 use mathlib.Core.List.{List}
 use mathlib.Core.Option.{some}
 use lib.ListN.{length}
-use Rattle.forest.specs.Forest.{Forest, relabel}
+use Rattle.forest.specs.Forest.{Forest}
+use Rattle.forest.specs.Relabel.{relabel}
 use Rattle.forest.specs.Place.{Placed}
 use Rattle.forest.specs.Letter.{Letter, isRoot}
 use Rattle.forest.specs.Reference.{Path, labelAt, moved}

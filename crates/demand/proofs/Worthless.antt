@@ -18,7 +18,8 @@ use Rattle.judge.specs.Judge.{cycleJudged}
 use Rattle.plan.specs.Check.{checked, rulesOf}
 use Rattle.words.specs.Front.{inFront}
 use Rattle.forest.specs.declared.Walked.{Walked}
-use Rattle.forest.specs.Forest.{Forest, forest, relabel, weigh, text}
+use Rattle.forest.specs.Forest.{Forest, forest, weigh, text}
+use Rattle.forest.specs.Relabel.{relabel}
 use Rattle.forest.specs.Place.{Side, Cell, Cells, Placed, placedForest, firstCells}
 use Rattle.forest.specs.Letter.{Letter, letterOf, isRoot}
 use Rattle.forest.specs.Reference.{labelAt, answers, pathAfter}

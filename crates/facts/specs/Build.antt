@@ -5,7 +5,8 @@ use mathlib.Core.List.{List}
 use lib.Dec.{eqb, ltb}
 use Rattle.rule.specs.declared.Rule.{Rule}
 use Rattle.rule.specs.Names.{Names}
-use Rattle.forest.specs.Place.{Side, pick}
+use Rattle.forest.specs.Place.{Side}
+use Rattle.forest.specs.Sides.{pick}
 use Rattle.facts.specs.declared.Link.{Link}
 use Rattle.facts.specs.Facts.{linkIn, factsIn, In}
 

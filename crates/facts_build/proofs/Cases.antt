@@ -5,7 +5,8 @@ use mathlib.Core.Bool.{true, false}
 use mathlib.Core.List.{List}
 use Rattle.rule.specs.declared.Rule.{Rule}
 use Rattle.rule.specs.Names.{Names}
-use Rattle.forest.specs.Place.{Side, pick}
+use Rattle.forest.specs.Place.{Side}
+use Rattle.forest.specs.Sides.{pick}
 use Rattle.facts.specs.Facts.{factsIn}
 use Rattle.facts.specs.Build.{linkOf, linkPair, Ready}
 use Rattle.facts_build.specs.RuleFacts.{emptyOf, representativeOf, ruleFactsOf, ownFacts, knownFacts, steppingFacts, BothSteps}

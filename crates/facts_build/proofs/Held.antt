@@ -13,7 +13,8 @@ use borrow.Author.Tests.{ltb-true, eqb-true}
 use Rattle.rule.specs.declared.Rule.{Rule}
 use Rattle.rule.specs.Sound.{rule, Sound}
 use Rattle.forest.specs.Expression.{rhs, expression}
-use Rattle.forest.specs.Place.{Side, isEmpty, representative, pick}
+use Rattle.forest.specs.Place.{Side, isEmpty, representative}
+use Rattle.forest.specs.Sides.{pick}
 use Rattle.forest.proofs.Sides.{picked}
 use Rattle.forest.proofs.Unfold.{unfolding-equation}
 use Rattle.rule.specs.Names.{Names}

@@ -10,7 +10,8 @@ use lib.ListN.{length}
 use Rattle.rule.specs.declared.Rule.{Rule}
 use Rattle.rule.specs.Sound.{rule, Sound}
 use Rattle.forest.specs.Expression.{Expression, rhs, expression, ruleNumber}
-use Rattle.forest.specs.Place.{Side, isEmpty, representative, pick}
+use Rattle.forest.specs.Place.{Side, isEmpty, representative}
+use Rattle.forest.specs.Sides.{pick}
 use Rattle.forest.proofs.Sides.{picked}
 use Rattle.forest.proofs.Unfold.{named-below, named-falls, by-rank, unfolding-equation, ruleNumber-expression}
 use Rattle.rule.specs.Names.{Names}

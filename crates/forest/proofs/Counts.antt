@@ -18,7 +18,8 @@ use Rattle.record.specs.Format.{highLength, labelLength}
 use Rattle.forest.specs.Expression.{Expression}
 use Rattle.forest.specs.Algebra.{Hedge, _·_, _⟨_⟩, value}
 use Rattle.forest.specs.Sizes.{holes}
-use Rattle.forest.specs.Forest.{Forest, append, trees, relabel, count, weigh, one, levels, text}
+use Rattle.forest.specs.Forest.{Forest, append, trees, count, weigh, one, levels, text}
+use Rattle.forest.specs.Relabel.{relabel}
 use Rattle.forest.specs.Outcome.{nodeLength}
 use Rattle.forest.specs.Good.{Sort, Good}
 use Rattle.forest.proofs.Values.{holes-concat, holes-⟨⟩, closed-⟨⟩, value-node, value-part, value-holes, OneTree, tree-value}

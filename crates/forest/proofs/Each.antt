@@ -4,7 +4,8 @@ use Prim.Native.Nat.{ℕ, zero, suc}
 use mathlib.Core.Path.{_≡_, subst}
 use mathlib.Core.List.{[], _∷_}
 use mathlib.Core.Option.{Option, none, some}
-use Rattle.forest.specs.Forest.{Forest, append, relabel}
+use Rattle.forest.specs.Forest.{Forest, append}
+use Rattle.forest.specs.Relabel.{relabel}
 use Rattle.forest.specs.Reference.{Path, later, from, below, top, childrenAt, nodeAt, labelAt}
 
 -- a condition on a node and its children, of every node of a forest

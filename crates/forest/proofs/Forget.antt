@@ -9,7 +9,8 @@ use mathlib.Core.List.{List, _∷_}
 use Rattle.rule.specs.declared.Rule.{Rule}
 use Rattle.forest.specs.Expression.{Expression, expression, ruleNumber}
 use Rattle.forest.specs.Algebra.{Hedge, _·_, _⟨_⟩, value}
-use Rattle.forest.specs.Forest.{Forest, append, trees, forest, relabel}
+use Rattle.forest.specs.Forest.{Forest, append, trees, forest}
+use Rattle.forest.specs.Relabel.{relabel}
 use Rattle.forest.specs.Place.{Cells, Side, Placed, cellRow, cellSpine, rowOfNode, rowOfPart, isEmpty, representative, step, placed, placedOf, placedForest}
 use Rattle.forest.specs.Reason.{hasNone}
 use Rattle.forest.proofs.Append.{relabel-append}

@@ -5,7 +5,8 @@ use mathlib.Core.Path.{_≡_, refl}
 use mathlib.Core.Option.{Option, some}
 use Rattle.forest.specs.Expression.{Expression}
 use Rattle.forest.specs.Forest.{Forest}
-use Rattle.forest.specs.Place.{Side, pick}
+use Rattle.forest.specs.Place.{Side}
+use Rattle.forest.specs.Sides.{pick}
 use Rattle.forest.specs.Position.{orElse, Position, Located, opened, lastPart, inward, partAt, outward, rowOf, leave, rowParent, child, besideHole, sibling, parent, continues}
 use Rattle.forest.specs.Good.{Sort, Good}
 use Rattle.forest.proofs.Neighbours.{Neighbours, Knows, edge}

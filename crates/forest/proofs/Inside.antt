@@ -5,7 +5,8 @@ use mathlib.Core.Path.{_≡_, sym, _∙_, ap}
 use mathlib.Core.List.{[], _∷_}
 use mathlib.Core.Option.{some}
 use Rattle.forest.specs.Forest.{Forest, append}
-use Rattle.forest.specs.Place.{Side, pick}
+use Rattle.forest.specs.Place.{Side}
+use Rattle.forest.specs.Sides.{pick}
 use Rattle.forest.specs.Reference.{Path, later, from, below, top, childrenAt, labelAt}
 use Rattle.forest.proofs.Append.{append-none, append-append}
 use Rattle.forest.proofs.Neighbours.{later-one}

@@ -6,7 +6,8 @@ use mathlib.Core.Path.{_≡_, refl, sym, _∙_, ap₂}
 use mathlib.Core.Option.{Option}
 use Rattle.forest.specs.Expression.{Expression}
 use Rattle.forest.specs.Forest.{Forest, append}
-use Rattle.forest.specs.Place.{Side, isEmpty, other, pick}
+use Rattle.forest.specs.Place.{Side, isEmpty}
+use Rattle.forest.specs.Sides.{other, pick}
 use Rattle.forest.specs.Position.{orElse, Position, Located, located, locatedOf, opened, lastPart, enter, inward, partAt, outward, leave, rowParent, child, besideHole}
 use Rattle.forest.specs.Good.{Sort, Good}
 use Rattle.forest.proofs.Cases.{by-bool}

@@ -3,8 +3,10 @@
 use Prim.Native.Nat.{ℕ}
 use mathlib.Core.Path.{_≡_, refl, sym, _∙_, ap, ap₂}
 use Rattle.forest.specs.Expression.{Expression}
-use Rattle.forest.specs.Forest.{Forest, append, relabel}
-use Rattle.forest.specs.Place.{Side, Cells, Placed, isEmpty, placed, placedOf, pick}
+use Rattle.forest.specs.Forest.{Forest, append}
+use Rattle.forest.specs.Relabel.{relabel}
+use Rattle.forest.specs.Place.{Side, Cells, Placed, isEmpty, placed, placedOf}
+use Rattle.forest.specs.Sides.{pick}
 use Rattle.forest.specs.Position.{Position, Located, cells, labelOf, located, locatedOf}
 use Rattle.forest.proofs.Cases.{by-bool}
 use Rattle.forest.proofs.Append.{relabel-append}

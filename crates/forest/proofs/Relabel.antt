@@ -5,7 +5,8 @@ use mathlib.Core.Path.{_≡_, refl, sym, _∙_, ap, ap₂}
 use mathlib.Core.Bool.{Bool, true, false, cond, not, _&&_}
 use mathlib.Core.List.{List, [], _∷_, map}
 use mathlib.Core.Option.{Option, Option·map}
-use Rattle.forest.specs.Forest.{Forest, relabel, count}
+use Rattle.forest.specs.Forest.{Forest, count}
+use Rattle.forest.specs.Relabel.{relabel}
 use Rattle.forest.specs.Place.{Side}
 use Rattle.forest.specs.Letter.{Letter, isRoot}
 use Rattle.forest.specs.Reference.{Path, later, from, below, top, childrenAt, nodeAt, labelAt, endOf, tried, isAbove, answer, moved, answers, pathAfter}

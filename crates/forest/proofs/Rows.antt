@@ -6,7 +6,8 @@ use mathlib.Core.Bool.{true, false, true≢false}
 use mathlib.Core.Option.{Option, some}
 use Rattle.forest.specs.Expression.{Expression}
 use Rattle.forest.specs.Forest.{Forest, append}
-use Rattle.forest.specs.Place.{Side, isEmpty, pick}
+use Rattle.forest.specs.Place.{Side, isEmpty}
+use Rattle.forest.specs.Sides.{pick}
 use Rattle.forest.specs.Position.{orElse, Position, Located, located, opened, enter, partAt, outward, rowOf, leave, rowParent}
 use Rattle.forest.specs.Good.{Sort, Good}
 use Rattle.forest.proofs.Cases.{by-bool}

@@ -7,7 +7,8 @@ use mathlib.Core.Path.{_≡_, refl, sym, _∙_, ap, ap₂, subst}
 use mathlib.Core.Option.{some}
 use Rattle.forest.specs.Expression.{Expression}
 use Rattle.forest.specs.Algebra.{Hedge, _·_, _⟨_⟩, value}
-use Rattle.forest.specs.Forest.{Forest, append, trees, relabel}
+use Rattle.forest.specs.Forest.{Forest, append, trees}
+use Rattle.forest.specs.Relabel.{relabel}
 use Rattle.forest.specs.Place.{Side, isEmpty}
 use Rattle.forest.specs.Reference.{Path, top, nodeAt, labelAt}
 use Rattle.forest.specs.Compare.{firstTree, subtreeAt}

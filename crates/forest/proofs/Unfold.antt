@@ -13,7 +13,7 @@ use Rattle.rule.specs.Rule.{encode, every, sorts, closed, holed, tree}
 use Rattle.rule.specs.Names.{Names, node-one, pair-one, part-one, fill-one, pair-two, fill-two, part-two, join-one, join-two}
 use Rattle.rule.specs.Sound.{rule, kindIn, Sound, Closed}
 use Rattle.rule.proofs.Names.{T-left, T-right, every-named}
-use Rattle.forest.specs.Expression.{Expression, rhs, unfolded, expression, Unfolding, ruleNumber}
+use Rattle.forest.specs.Expression.{Expression, rhs, unfolded, expression, ruleNumber}
 use Rattle.forest.specs.Sizes.{height}
 use Rattle.forest.specs.Good.{Sort, Good, Known}
 
@@ -53,7 +53,7 @@ module _ {R : List Rule} {rank : ℕ → ℕ} (S : Sound R rank) where
       rhs-same r (rule R r) (unfolded n R) (unfolded m R)
       (λ k t. let f : rank k < rank r = named-falls r k h t in steady n m k (named-below r k h t) (omega arith) (omega arith))
 
-  pub unfolding-equation : Unfolding R
+  pub unfolding-equation : (r : ℕ) → r < length R → expression R r ≡ rhs r (rule R r) (expression R)
   unfolding expression unfolded
   unfolding-equation r h = steady (length R) (suc (length R)) r h (S .ranked r h) (let l : rank r < length R = S .ranked r h in omega arith)
 

@@ -1,7 +1,6 @@
 -- A rule as an expression over the forest algebra (document 003, section 2.1: a variable's right-hand side is applied until
 -- no variable is left). The rule's number is kept at each step.
-use Prim.Native.Nat.{ℕ, zero, suc, _<_}
-use mathlib.Core.Path.{_≡_}
+use Prim.Native.Nat.{ℕ, zero, suc}
 use mathlib.Core.List.{List}
 use lib.ListN.{length}
 use Rattle.rule.specs.declared.Rule.{Rule}
@@ -31,15 +30,11 @@ unfolding rhs rule
 unfolded zero R r = empty r
 unfolded (suc n) R r = rhs r (rule R r) (unfolded n R)
 
--- the expression of rule r: as deep as there are rules
+-- the expression of rule r: as deep as there are rules, which is deep enough. In every accepted plan it is the rule's right-hand side, with
+-- the expressions of the rules that it names (proofs/Unfold, `unfolding-equation`).
 unfoldable pub expression : List Rule → ℕ → Expression
 unfolding unfolded
 expression R r = unfolded (length R) R r
-
--- The unfolding equation: each rule's expression is its right-hand side, with the expressions of the rules that it names. It holds
--- of every accepted plan (proofs/Unfold, `unfolding-equation`), so the depth above is deep enough.
-abbrev pub Unfolding : List Rule → Type 0
-Unfolding R = (r : ℕ) → r < length R → expression R r ≡ rhs r (rule R r) (expression R)
 
 -- the number of the rule that an expression stands for
 unfoldable pub ruleNumber : Expression → ℕ

@@ -30,11 +30,6 @@ unfoldable pub forest : List Rule → ℕ → Forest ℕ
 unfolding trees value expression
 forest R r = trees (value (expression R r))
 
--- the same forest with other labels
-unfoldable pub relabel : {A B : Type 0} → (A → B) → Forest A → Forest B
-relabel h none = none
-relabel h (tree a c f) = tree (h a) (relabel h c) (relabel h f)
-
 -- "trees": the number of trees
 unfoldable pub count : {A : Type 0} → Forest A → ℕ
 count none = 0

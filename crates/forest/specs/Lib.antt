@@ -2,8 +2,10 @@ pub mod Expression
 pub mod Algebra
 pub mod Sizes
 pub mod Forest
+pub mod Relabel
 pub mod Spelling
 pub mod Place
+pub mod Sides
 pub mod Letter
 pub mod Reference
 pub mod Reason

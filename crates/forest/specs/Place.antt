@@ -27,15 +27,6 @@ pub data Side : Type 0 where
   left : Side
   right : Side
 
--- the other side, and the one of two that stands on a side
-unfoldable pub other : Side → Side
-other left = right
-other right = left
-
-unfoldable pub pick : {A : Type 0} → Side → A → A → A
-pick left b c = b
-pick right b c = c
-
 -- "(3, A, B, 0) is a longest run of one or more left steps ..; (4, A, B, 0) the same of right steps"
 unfoldable pub cellRun : Side → ℕ
 cellRun left = 3

@@ -8,7 +8,8 @@ use mathlib.Core.Option.{Option, none, some}
 use Rattle.forest.specs.Expression.{Expression, ruleNumber}
 use Rattle.forest.specs.Forest.{Forest, append}
 use Rattle.forest.specs.Reference.{Path, labelAt}
-use Rattle.forest.specs.Place.{Cells, Side, other, pick, cellRow, cellSpine, rowOfNode, rowOfPart, isEmpty, representative, step}
+use Rattle.forest.specs.Place.{Cells, Side, cellRow, cellSpine, rowOfNode, rowOfPart, isEmpty, representative, step}
+use Rattle.forest.specs.Sides.{other, pick}
 
 -- the first of two nodes that there is
 unfoldable pub orElse : {A : Type 0} → Option A → Option A → Option A

@@ -4,7 +4,8 @@ use native.Mathlib.Omega.{arith}
 use mathlib.Core.Path.{_≡_, sym, ap, subst, _∙_}
 use mathlib.Core.List.{List}
 use lib.ListN.{length}
-use Rattle.forest.specs.Place.{Cells, Side, cellRow, cellSpine, step, other}
+use Rattle.forest.specs.Place.{Cells, Side, cellRow, cellSpine, step}
+use Rattle.forest.specs.Sides.{other}
 use Rattle.forest.specs.Walk.{cellLength, cellsIn}
 use Rattle.model.specs.Facts.{Facts}
 use Rattle.model.specs.Model.{Node, outer, turned, opened}

@@ -5,7 +5,8 @@ use native.Mathlib.Omega.{arith}
 use mathlib.Core.Path.{_≡_, refl, sym, ap, _∙_}
 use mathlib.Core.List.{List}
 use lib.ListN.{length}
-use Rattle.forest.specs.Place.{Cells, Side, other}
+use Rattle.forest.specs.Place.{Cells, Side}
+use Rattle.forest.specs.Sides.{other}
 use Rattle.forest.specs.Walk.{cellLength, cellAt, cellsIn}
 use Rattle.model.specs.Facts.{Facts}
 use Rattle.model.specs.Model.{Node, opened}

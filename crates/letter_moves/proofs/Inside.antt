@@ -7,7 +7,8 @@ use lib.ListN.{length}
 use Rattle.rule.specs.declared.Rule.{Rule}
 use Rattle.rule.specs.Sound.{Sound}
 use Rattle.forest.specs.Expression.{Expression, expression, ruleNumber}
-use Rattle.forest.specs.Place.{Side, isEmpty, representative, pick}
+use Rattle.forest.specs.Place.{Side, isEmpty, representative}
+use Rattle.forest.specs.Sides.{pick}
 use Rattle.forest.proofs.Unfold.{unfolding-equation, ruleNumber-expression, expression-known}
 use Rattle.model.specs.Facts.{toward, last, factsOf}
 use Rattle.model.proofs.Rules.{facts-agree, rules-inside}

@@ -8,7 +8,8 @@ use mathlib.Core.List.{List, [], _∷_, _++_, map, append-assoc, append-nil}
 use mathlib.Core.Option.{none, some}
 use lib.ListN.{length, take, drop, getD, length-append, length-drop, drop-of-length-le}
 use lib.Seq.{take-at, drop-at, drop-drop, drop-cons}
-use Rattle.words.specs.Number.{bytes, put}
+use Rattle.words.specs.Number.{bytes}
+use Rattle.words.specs.Put.{put}
 use Rattle.words.proofs.Laws.{put-split, length-put, length-bytes}
 use Rattle.words.specs.Front.{inFront}
 use Rattle.forest.specs.Letter.{Letter, letterOf}

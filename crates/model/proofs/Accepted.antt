@@ -10,7 +10,8 @@ use mathlib.Core.Option.{Option, none, some, Option·map}
 use lib.Dec.{eqb, ltb, lt→ltb}
 use Rattle.rule.specs.declared.Rule.{Rule}
 use Rattle.forest.specs.Expression.{Expression, ruleNumber}
-use Rattle.forest.specs.Place.{Cells, Side, cellRow, cellSpine, cellRun, rowOfNode, rowOfPart, isEmpty, representative, step, pick}
+use Rattle.forest.specs.Place.{Cells, Side, cellRow, cellSpine, cellRun, rowOfNode, rowOfPart, isEmpty, representative, step}
+use Rattle.forest.specs.Sides.{pick}
 use Rattle.forest.specs.Good.{Sort}
 use Rattle.forest.specs.Position.{Position, At, Where, cells, continues}
 use Rattle.model.specs.Facts.{Facts}

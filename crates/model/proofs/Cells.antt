@@ -9,7 +9,8 @@ use mathlib.Core.Bool.{Bool, true, false}
 use mathlib.Core.List.{[], _∷_}
 use mathlib.Core.Option.{some}
 use lib.Dec.{T, eqb, leb, leb→le, le→leb, eqb→eq, eqb-refl}
-use Rattle.forest.specs.Place.{Cells, Side, cellRow, cellSpine, cellRun, step, other}
+use Rattle.forest.specs.Place.{Cells, Side, cellRow, cellSpine, cellRun, step}
+use Rattle.forest.specs.Sides.{other}
 use Rattle.forest.proofs.Cases.{by-bool}
 use Rattle.model.specs.Facts.{Facts}
 use Rattle.model.specs.Model.{along, oneAbove, outer, standing, popRun, run, shrunk, turned, besideTop, belowRow}

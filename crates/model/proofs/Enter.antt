@@ -7,7 +7,8 @@ use mathlib.Core.Bool.{false, cond}
 use mathlib.Core.List.{_∷_}
 use mathlib.Core.Option.{Option, none, some, Option·map}
 use Rattle.forest.specs.Expression.{Expression, ruleNumber}
-use Rattle.forest.specs.Place.{Cells, Side, cellSpine, isEmpty, representative, pick}
+use Rattle.forest.specs.Place.{Cells, Side, cellSpine, isEmpty, representative}
+use Rattle.forest.specs.Sides.{pick}
 use Rattle.forest.specs.Good.{Sort}
 use Rattle.forest.specs.Position as P
 use Rattle.forest.specs.Position.{Position, Located, At, Where, cells}

@@ -9,7 +9,8 @@ use mathlib.Core.Bool.{false}
 use Rattle.rule.specs.declared.Rule.{Rule}
 use Rattle.rule.specs.Sound.{rule}
 use Rattle.forest.specs.Expression.{Expression, ruleNumber}
-use Rattle.forest.specs.Place.{Side, isEmpty, representative, pick}
+use Rattle.forest.specs.Place.{Side, isEmpty, representative}
+use Rattle.forest.specs.Sides.{pick}
 use Rattle.forest.specs.Good.{Sort}
 use Rattle.model.specs.Facts.{Facts, toward, last, depth}
 use Rattle.model.specs.Model.{outer, outerOf}

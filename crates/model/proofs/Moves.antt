@@ -8,7 +8,8 @@ use mathlib.Core.List.{[], _∷_}
 use mathlib.Core.Option.{Option, none, some, Option·map}
 use lib.Dec.{eqb}
 use Rattle.forest.specs.Expression.{Expression, ruleNumber}
-use Rattle.forest.specs.Place.{Cells, Side, cellRow, cellSpine, cellRun, rowOfNode, rowOfPart, isEmpty, representative, pick, other}
+use Rattle.forest.specs.Place.{Cells, Side, cellRow, cellSpine, cellRun, rowOfNode, rowOfPart, isEmpty, representative}
+use Rattle.forest.specs.Sides.{pick, other}
 use Rattle.forest.specs.Position.{orElse, Position, Located, At, Where, cells}
 use Rattle.forest.specs.Good.{Sort}
 use Rattle.forest.specs.Position as P

@@ -11,7 +11,8 @@ use lib.ListN.{length, drop, length-drop}
 use lib.Seq.{drop-drop}
 use lib.Dec.{eqb, leb}
 use Rattle.rule.specs.declared.Rule.{Rule}
-use Rattle.forest.specs.Place.{Cells, Side, cellRow, cellSpine, cellRun, rowOfNode, rowOfPart, step, firstCells, other, pick}
+use Rattle.forest.specs.Place.{Cells, Side, cellRow, cellSpine, cellRun, rowOfNode, rowOfPart, step, firstCells}
+use Rattle.forest.specs.Sides.{other, pick}
 use Rattle.forest.specs.Position.{orElse}
 use Rattle.forest.specs.Letter.{Letter, isRoot}
 use Rattle.model.specs.Facts.{Facts}

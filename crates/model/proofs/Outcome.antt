@@ -6,7 +6,8 @@ use mathlib.Core.Bool.{true, false, true≢false}
 use mathlib.Core.List.{List, [], _∷_}
 use mathlib.Core.Option.{Option, none, some, Option·map}
 use Rattle.forest.specs.Expression.{Expression, ruleNumber}
-use Rattle.forest.specs.Forest.{Forest, relabel}
+use Rattle.forest.specs.Forest.{Forest}
+use Rattle.forest.specs.Relabel.{relabel}
 use Rattle.forest.specs.Place.{Cell, Cells, placedOf}
 use Rattle.forest.specs.Letter.{Letter}
 use Rattle.forest.specs.Reference.{Path, labelAt, answer, moved, answers, pathAfter}

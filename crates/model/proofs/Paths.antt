@@ -8,7 +8,8 @@ use mathlib.Core.Option.{Option, none, some, Option·map, Option·none-ne-some, 
 use lib.ListN.{length}
 use lib.Dec.{eqb}
 use Rattle.forest.specs.Expression.{Expression, ruleNumber}
-use Rattle.forest.specs.Place.{Cells, Placed, Side, cellRun, representative, step, placedOf, firstCells, pick}
+use Rattle.forest.specs.Place.{Cells, Placed, Side, cellRun, representative, step, placedOf, firstCells}
+use Rattle.forest.specs.Sides.{pick}
 use Rattle.forest.specs.Position.{orElse, Position, Located, cells, locatedOf, Named}
 use Rattle.forest.specs.Letter.{Letter, isRoot}
 use Rattle.forest.specs.Reference.{Path, labelAt, isAbove, answer, moved}

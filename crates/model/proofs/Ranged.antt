@@ -6,7 +6,8 @@ use mathlib.Core.Path.{_≡_}
 use mathlib.Core.List.{[], _∷_}
 use mathlib.Core.Option.{some, Option·none-ne-some, Option·some-injective}
 use Rattle.forest.specs.Expression.{Expression, ruleNumber}
-use Rattle.forest.specs.Place.{Cells, Side, cellRow, cellSpine, cellRun, isEmpty, representative, step, pick}
+use Rattle.forest.specs.Place.{Cells, Side, cellRow, cellSpine, cellRun, isEmpty, representative, step}
+use Rattle.forest.specs.Sides.{pick}
 use Rattle.forest.specs.Position.{Position, At, Where, cells, continues}
 use Rattle.forest.proofs.Cases.{by-bool}
 use Rattle.model.proofs.Fit.{picked}

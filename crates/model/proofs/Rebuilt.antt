@@ -9,7 +9,8 @@ use mathlib.Core.Option.{Option, none, some, Option·map}
 use lib.Dec.{eqb, eqb→eq}
 use Rattle.rule.specs.declared.Rule.{Rule}
 use Rattle.forest.specs.Expression.{Expression, ruleNumber}
-use Rattle.forest.specs.Place.{Cell, Cells, Side, cellRow, cellSpine, cellRun, rowOfNode, rowOfPart, representative, pick}
+use Rattle.forest.specs.Place.{Cell, Cells, Side, cellRow, cellSpine, cellRun, rowOfNode, rowOfPart, representative}
+use Rattle.forest.specs.Sides.{pick}
 use Rattle.forest.specs.Good.{Sort}
 use Rattle.forest.specs.Position.{Position, At, Where, cells, continues}
 use Rattle.model.specs.Facts.{Facts}

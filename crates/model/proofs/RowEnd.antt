@@ -7,7 +7,8 @@ use mathlib.Core.Bool.{false}
 use mathlib.Core.List.{[], _∷_}
 use mathlib.Core.Option.{Option, none, some, Option·none-ne-some}
 use Rattle.forest.specs.Expression.{Expression, ruleNumber}
-use Rattle.forest.specs.Place.{Cells, Side, cellRow, cellRun, rowOfNode, rowOfPart, isEmpty, representative, pick, other}
+use Rattle.forest.specs.Place.{Cells, Side, cellRow, cellRun, rowOfNode, rowOfPart, isEmpty, representative}
+use Rattle.forest.specs.Sides.{pick, other}
 use Rattle.forest.specs.Position.{Position, At, Where, cells}
 use Rattle.forest.specs.Good.{Sort}
 use Rattle.model.specs.Facts.{Facts}

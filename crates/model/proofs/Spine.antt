@@ -6,7 +6,8 @@ use mathlib.Core.Path.{_≡_, refl}
 use mathlib.Core.List.{_∷_}
 use mathlib.Core.Option.{Option, none, some, Option·map}
 use Rattle.forest.specs.Expression.{Expression, ruleNumber}
-use Rattle.forest.specs.Place.{Cells, Side, cellSpine, cellRun, representative, pick, other}
+use Rattle.forest.specs.Place.{Cells, Side, cellSpine, cellRun, representative}
+use Rattle.forest.specs.Sides.{pick, other}
 use Rattle.forest.specs.Position.{orElse, Position, Located, At, Where, cells, continues}
 use Rattle.forest.specs.Good.{Sort}
 use Rattle.forest.specs.Position as P

@@ -8,7 +8,8 @@ use mathlib.Core.List.{List, [], _∷_, map}
 use mathlib.Core.Option.{Option, none, some, Option·map}
 use lib.Dec.{eqb}
 use Rattle.rule.specs.declared.Rule.{Rule}
-use Rattle.forest.specs.Place.{Cell, Cells, Side, rowOfPart, other, pick}
+use Rattle.forest.specs.Place.{Cell, Cells, Side, rowOfPart}
+use Rattle.forest.specs.Sides.{other, pick}
 use Rattle.forest.specs.Position.{orElse}
 use Rattle.forest.proofs.Cases.{by-bool, by-option}
 use Rattle.model.specs.Facts.{Facts}

@@ -6,7 +6,8 @@ use mathlib.Core.Path.{_≡_}
 use mathlib.Core.Bool.{true, false}
 use mathlib.Core.Option.{some, Option·none-ne-some, Option·some-injective}
 use Rattle.forest.specs.Expression.{Expression, ruleNumber}
-use Rattle.forest.specs.Place.{Cells, Side, isEmpty, representative, pick}
+use Rattle.forest.specs.Place.{Cells, Side, isEmpty, representative}
+use Rattle.forest.specs.Sides.{pick}
 use Rattle.forest.specs.Good.{Sort}
 use Rattle.forest.specs.Position.{Position, At, Where, cells, continues}
 use Rattle.model.specs.Facts.{Facts}

@@ -9,7 +9,8 @@ use mathlib.Core.List.{[], _∷_}
 use mathlib.Core.Option.{Option, none, Option·map}
 use lib.Dec.{eqb, ltb, ltb→lt, eqb→eq}
 use Rattle.forest.specs.Expression.{Expression, ruleNumber}
-use Rattle.forest.specs.Place.{Cells, Side, cellSpine, cellRun, isEmpty, representative, step, pick}
+use Rattle.forest.specs.Place.{Cells, Side, cellSpine, cellRun, isEmpty, representative, step}
+use Rattle.forest.specs.Sides.{pick}
 use Rattle.forest.specs.Good.{Sort}
 use Rattle.forest.specs.Position.{Position, At, Where, cells, continues}
 use Rattle.model.specs.Facts.{Facts, depth}

@@ -9,7 +9,8 @@ use mathlib.Core.List.{[], _∷_}
 use mathlib.Core.Option.{Option, none, some}
 use lib.Dec.{eqb}
 use Rattle.forest.specs.Expression.{Expression, ruleNumber}
-use Rattle.forest.specs.Place.{Cell, Cells, Side, cellRow, cellSpine, cellRun, rowOfPart, isEmpty, representative, step, pick}
+use Rattle.forest.specs.Place.{Cell, Cells, Side, cellRow, cellSpine, cellRun, rowOfPart, isEmpty, representative, step}
+use Rattle.forest.specs.Sides.{pick}
 use Rattle.forest.specs.Good.{Sort}
 use Rattle.forest.specs.Position.{Position, At, Where, cells, continues}
 use Rattle.model.specs.Facts.{Facts}

@@ -6,7 +6,8 @@ use mathlib.Core.List.{List}
 use Rattle.rule.specs.declared.Rule.{Rule}
 use Rattle.rule.specs.Sound.{rule}
 use Rattle.forest.specs.Expression.{Expression, expression, ruleNumber}
-use Rattle.forest.specs.Place.{Side, isEmpty, representative, pick}
+use Rattle.forest.specs.Place.{Side, isEmpty, representative}
+use Rattle.forest.specs.Sides.{pick}
 
 -- the facts of each rule: its right-hand side; whether it has no trees; its representative; one step left or right within a
 -- row or spine; the end of the longest run of such steps, and the number of steps to it

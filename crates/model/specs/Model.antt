@@ -5,7 +5,8 @@ use mathlib.Core.List.{[], _∷_}
 use mathlib.Core.Option.{Option, none, some}
 use lib.Dec.{eqb}
 use Rattle.rule.specs.declared.Rule.{Rule}
-use Rattle.forest.specs.Place.{Cells, Side, cellRow, rowOfNode, rowOfPart, pick}
+use Rattle.forest.specs.Place.{Cells, Side, cellRow, rowOfNode, rowOfPart}
+use Rattle.forest.specs.Sides.{pick}
 use Rattle.forest.specs.Position.{orElse}
 use Rattle.model.specs.Facts.{Facts}
 unfoldable pub use Rattle.model.specs.Run.{Node, along, oneAbove, tail, popRun, run, shrunk, turned, besideTop, beside}

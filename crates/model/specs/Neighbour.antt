@@ -10,7 +10,8 @@ use mathlib.Core.List.{List, [], _∷_}
 use mathlib.Core.Option.{Option, none, some, Option·map}
 use lib.Dec.{eqb}
 use Rattle.rule.specs.declared.Rule.{Rule}
-use Rattle.forest.specs.Place.{Cells, Side, rowOfNode, rowOfPart, other, pick}
+use Rattle.forest.specs.Place.{Cells, Side, rowOfNode, rowOfPart}
+use Rattle.forest.specs.Sides.{other, pick}
 use Rattle.model.specs.Facts.{Facts}
 use Rattle.model.specs.Run.{Node, tail, popRun, beside}
 use Rattle.model.specs.Pieces.{opened, inward, under, outward, besideHole}

@@ -6,7 +6,8 @@ use mathlib.Core.List.{[], _∷_}
 use mathlib.Core.Option.{Option, none, some, Option·map}
 use lib.Dec.{eqb}
 use Rattle.rule.specs.declared.Rule.{Rule}
-use Rattle.forest.specs.Place.{Cells, Side, cellRow, cellSpine, rowOfPart, other, pick}
+use Rattle.forest.specs.Place.{Cells, Side, cellRow, cellSpine, rowOfPart}
+use Rattle.forest.specs.Sides.{other, pick}
 use Rattle.forest.specs.Position.{orElse}
 use Rattle.model.specs.Facts.{Facts}
 unfoldable pub use Rattle.model.specs.Run.{Node, along, oneAbove, tail, popRun, run, shrunk, turned, besideTop, beside}

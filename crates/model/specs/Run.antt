@@ -5,7 +5,8 @@ use mathlib.Core.Bool.{cond}
 use mathlib.Core.List.{[], _∷_}
 use mathlib.Core.Option.{Option, none, some}
 use lib.Dec.{eqb, leb}
-use Rattle.forest.specs.Place.{Cells, Side, cellRun, step, other}
+use Rattle.forest.specs.Place.{Cells, Side, cellRun, step}
+use Rattle.forest.specs.Sides.{other}
 use Rattle.model.specs.Facts.{Facts}
 
 -- a node: its rule's number and its cells

@@ -4,7 +4,8 @@ use native.Mathlib.Omega.{arith}
 use mathlib.Core.Path.{_≡_, sym, _∙_}
 use mathlib.Core.List.{List}
 use native.Mathlib.Decide.{decLt}
-use Rattle.forest.specs.Place.{Cell, Side, other}
+use Rattle.forest.specs.Place.{Cell, Side}
+use Rattle.forest.specs.Sides.{other}
 use Rattle.forest.specs.Walk.{cellAt, cellsIn}
 use Rattle.facts.specs.Facts.{In}
 use Rattle.facts.proofs.Closes.{above-has}

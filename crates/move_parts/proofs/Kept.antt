@@ -10,7 +10,8 @@ use mathlib.Core.Option.{Option, none, some, Option·map}
 use lib.Dec.{eqb, leb}
 use borrow.Author.Tests.{eqb-true}
 use Rattle.rule.specs.declared.Rule.{Rule}
-use Rattle.forest.specs.Place.{Cell, Cells, Side, cellRow, cellSpine, cellRun, rowOfNode, rowOfPart, step, other, pick}
+use Rattle.forest.specs.Place.{Cell, Cells, Side, cellRow, cellSpine, cellRun, rowOfNode, rowOfPart, step}
+use Rattle.forest.specs.Sides.{other, pick}
 use Rattle.forest.specs.Position.{orElse}
 use Rattle.forest.proofs.Sides.{picked}
 use Rattle.model.specs.Facts.{Facts}

@@ -9,7 +9,8 @@ use mathlib.Core.Option.{Option, none, some, Option·map}
 use lib.Dec.{eqb}
 use borrow.Author.Tests.{eq-eqb, ne-eqb}
 use Rattle.forest.proofs.Cases.{by-bool}
-use Rattle.forest.specs.Place.{Cells, Side, cellRow, cellSpine, cellRun, other}
+use Rattle.forest.specs.Place.{Cells, Side, cellRow, cellSpine, cellRun}
+use Rattle.forest.specs.Sides.{other}
 use Rattle.forest.specs.Letter.{Letter}
 use Rattle.forest.specs.Position.{orElse}
 use Rattle.forest.specs.Walk.{cellAt, cellsIn}

@@ -7,7 +7,8 @@ use mathlib.Core.Path.{_≡_, sym, ap, _∙_}
 use mathlib.Core.List.{List, _∷_}
 use mathlib.Core.Option.{none, some as some′}
 use borrow.Author.Tests.{eq-eqb, ne-eqb, le-leb, lt-leb}
-use Rattle.forest.specs.Place.{Cell, Cells, Side, cellSpine, cellRun, step, other}
+use Rattle.forest.specs.Place.{Cell, Cells, Side, cellSpine, cellRun, step}
+use Rattle.forest.specs.Sides.{other}
 use Rattle.forest.specs.Walk.{cellAt, cellsIn}
 use Rattle.model.specs.Facts.{Facts}
 use Rattle.model.specs.Model.{Node, outer, standing, shrunk, turned, besideTop}

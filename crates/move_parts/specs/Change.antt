@@ -4,7 +4,8 @@ use mathlib.Core.Path.{_≡_}
 use mathlib.Core.Bool.{cond}
 use mathlib.Core.List.{List, _∷_}
 use mathlib.Core.Option.{Option, none, some}
-use Rattle.forest.specs.Place.{Cells, Side, cellRow, other}
+use Rattle.forest.specs.Place.{Cells, Side, cellRow}
+use Rattle.forest.specs.Sides.{other}
 use Rattle.forest.specs.Letter.{Letter}
 use Rattle.forest.specs.Walk.{cellsIn}
 use Rattle.model.specs.Facts.{Facts}

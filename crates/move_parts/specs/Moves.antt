@@ -3,7 +3,8 @@ use Prim.Native.Nat.{ℕ, _<_}
 use mathlib.Core.Path.{_≡_}
 use mathlib.Core.List.{List, [], _∷_}
 use mathlib.Core.Option.{Option, none, some}
-use Rattle.forest.specs.Place.{Cell, Cells, Side, cellRow, cellRun, other}
+use Rattle.forest.specs.Place.{Cell, Cells, Side, cellRow, cellRun}
+use Rattle.forest.specs.Sides.{other}
 use Rattle.forest.specs.Walk.{cellAt, cellsIn}
 use Rattle.model.specs.Model.{Node, oneAbove, besideTop}
 use Rattle.facts.specs.Facts.{In, factsIn, Climbs}

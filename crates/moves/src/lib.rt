@@ -6,6 +6,7 @@ ghost use mathlib.Core.Option.{none, some};
 ghost use mathlib.Core.Bool.{not, _&&_};
 ghost use lib.Dec.{eqb};
 ghost use Rattle.forest.specs.Place as place;
+ghost use Rattle.forest.specs.Sides as sides;
 ghost use Rattle.forest.specs.Letter.{Letter};
 ghost use Rattle.forest.specs.Position.{orElse};
 ghost use Rattle.forest.specs.Walk.{cellsIn};
@@ -162,7 +163,7 @@ fn ends_at_hole(cursor: &[u8], j: usize, side: Side) -> bool
     requires { ⌜ Lies (now cursor) j ⌝ }
     ensures { λ r.
         let end = cellsIn (now (cursor .entry)) j in
-        ⌜ r ≡ (not (isNil (tail end)) && eqb (numberOf end) (place.rowOfPart (place.other (sideOf side)))) ⌝ }
+        ⌜ r ≡ (not (isNil (tail end)) && eqb (numberOf end) (place.rowOfPart (sides.other (sideOf side)))) ⌝ }
 {
     if j <= 1 {
         return false;

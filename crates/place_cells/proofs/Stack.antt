@@ -9,7 +9,8 @@ use mathlib.Core.Bool.{true, false}
 use mathlib.Core.List.{List, [], _∷_}
 use lib.Dec.{eqb}
 use borrow.Author.Tests.{eq-eqb, ne-eqb}
-use Rattle.forest.specs.Place.{Cell, Cells, Side, cellRow, cellRun, step, other}
+use Rattle.forest.specs.Place.{Cell, Cells, Side, cellRow, cellRun, step}
+use Rattle.forest.specs.Sides.{other}
 use Rattle.forest.specs.Walk.{cellAt, cellsIn}
 use Rattle.model.specs.Facts.{Facts}
 use Rattle.model.specs.Model.{along, oneAbove, run}

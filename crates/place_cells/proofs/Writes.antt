@@ -9,7 +9,8 @@ use mathlib.Core.List.{List, _∷_}
 use lib.ListN.{length}
 use lib.Dec.{eqb}
 use borrow.Author.Tests.{eq-eqb, ne-eqb}
-use Rattle.words.specs.Number.{base, number, put}
+use Rattle.words.specs.Number.{base, number}
+use Rattle.words.specs.Put.{put}
 use Rattle.words.proofs.Laws.{number-take, length-put, put-same, put-other, put-take, put-drop}
 use Rattle.record.specs.Record.{wordLength}
 use Rattle.work_rows.specs.Rows.{Within}

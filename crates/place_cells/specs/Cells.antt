@@ -4,7 +4,7 @@ use mathlib.Core.Bool.{cond}
 use mathlib.Core.List.{List}
 use lib.ListN.{length}
 use lib.Dec.{eqb}
-use Rattle.words.specs.Number.{put}
+use Rattle.words.specs.Put.{put}
 use Rattle.record.specs.Record.{wordLength}
 use Rattle.forest.specs.Place.{Side, Cell, cellRun}
 use Rattle.forest.specs.Walk.{cellLength, cursorWords}

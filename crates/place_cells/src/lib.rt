@@ -3,7 +3,7 @@ ghost use mathlib.Core.Path.{_≡_};
 ghost use Prim.Native.Nat.{ℕ, _+_, _*_, _≤_};
 ghost use mathlib.Core.List.{List};
 ghost use lib.ListN.{length};
-ghost use Rattle.words.specs.Number.{put};
+ghost use Rattle.words.specs.Put.{put};
 ghost use Rattle.record.specs.Record.{wordLength};
 ghost use Rattle.forest.specs.Place.{cellRow, cellSpine, cellRun, rowOfPart};
 ghost use Rattle.forest.specs.Walk.{cellLength, cellAt, cellsIn};

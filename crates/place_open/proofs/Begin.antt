@@ -10,7 +10,8 @@ use Rattle.refusal.specs.declared.Refusal.{Refusal}
 use Rattle.rule.specs.Sound.{Sound, Closed}
 use Rattle.words.specs.Front.{inFront}
 use Rattle.forest.specs.Expression.{expression, ruleNumber}
-use Rattle.forest.specs.Forest.{Forest, forest, relabel}
+use Rattle.forest.specs.Forest.{Forest, forest}
+use Rattle.forest.specs.Relabel.{relabel}
 use Rattle.forest.specs.Place.{Cells, placedOf, placedForest}
 use Rattle.forest.specs.Reference.{Path, labelAt, answers, pathAfter}
 use Rattle.forest.specs.Walk.{cellAt, cellsIn, usedCells, headed, pathOf, Begun, stored, placeJudged, lettersOf, placeAt, storedCursor, cursorAfter, answerWord, answersBytes, answersAfter}

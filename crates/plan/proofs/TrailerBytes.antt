@@ -11,7 +11,8 @@ use lib.Dec.{leb, eqb}
 use lib.ListN.{length, getD, set, take, drop, length-append, length-drop}
 use lib.Seq.{sets, sets-eq, drop-append-add, take-append-seam, take-all}
 use borrow.Author.Tests.{le-leb, eq-eqb, eqb-true}
-use Rattle.words.specs.Number.{number, bytes, base, put}
+use Rattle.words.specs.Number.{number, bytes, base}
+use Rattle.words.specs.Put.{put}
 use Rattle.words.proofs.Laws.{number-after, number-bytes}
 use Rattle.record.specs.declared.Format.{Format}
 use Rattle.record.specs.Format.{recordLength}

@@ -8,7 +8,8 @@ use lib.ListN.{length}
 use Rattle.record.specs.Format.{recordLength}
 use Rattle.record.proofs.Formats.{record-lies}
 use Rattle.record.specs.declared.Format.{Format}
-use Rattle.words.specs.Number.{base, put}
+use Rattle.words.specs.Number.{base}
+use Rattle.words.specs.Put.{put}
 use Rattle.words.specs.Within.{Within}
 use Rattle.words.proofs.Laws.{length-put, put-same, put-other}
 use Rattle.words.proofs.Within.{within-both, within-number-put}

@@ -8,7 +8,8 @@ use native.Mathlib.Nat.{add-assoc}
 use native.Mathlib.Omega.{arith}
 use lib.ListN.{length, getD, take, drop}
 use lib.Seq.{getD-append-add}
-use Rattle.words.specs.Number.{number, bytes, put}
+use Rattle.words.specs.Number.{number, bytes}
+use Rattle.words.specs.Put.{put}
 use Rattle.words.proofs.Laws.{number-agrees, four-put, put-after}
 use Rattle.record.specs.declared.Format.{Format}
 use Rattle.record.specs.declared.Record.{Record}

@@ -8,7 +8,7 @@ use mathlib.Core.List.{List, [], _∷_}
 use lib.ListN.{length}
 use lib.Dec.{eqb}
 use borrow.Author.Tests.{eq-eqb, ne-eqb, eqb-true, eqb-false}
-use Rattle.words.specs.Number.{put}
+use Rattle.words.specs.Put.{put}
 use Rattle.words.specs.Within.{Within}
 use Rattle.words.proofs.Laws.{length-put, put-same, put-other}
 use Rattle.words.proofs.Within.{within-none, within-both, within-wider, within-number, within-number-put}

@@ -7,11 +7,12 @@ use mathlib.Core.List.{List, [], _∷_}
 use lib.ListN.{length}
 use lib.Dec.{eqb, leb}
 use borrow.Author.Tests.{eqb-true, ne-eqb}
-use Rattle.words.specs.Number.{put}
+use Rattle.words.specs.Put.{put}
 use Rattle.words.specs.Within.{Within}
 use Rattle.words.proofs.Within.{within-both, within-number-put}
 use Rattle.record.specs.Record.{wordLength}
-use Rattle.forest.specs.Place.{Cell, Cells, Side, cellRow, cellSpine, cellRun, step, other}
+use Rattle.forest.specs.Place.{Cell, Cells, Side, cellRow, cellSpine, cellRun, step}
+use Rattle.forest.specs.Sides.{other}
 use Rattle.forest.specs.Walk.{cellAt, cellsIn}
 use Rattle.forest.proofs.Cases.{by-bool}
 use Rattle.model.specs.Facts.{Facts}

@@ -7,7 +7,8 @@ use mathlib.Core.Bool.{cond}
 use mathlib.Core.List.{List, [], _∷_}
 use lib.ListN.{length}
 use lib.Dec.{eqb}
-use Rattle.words.specs.Number.{number, put}
+use Rattle.words.specs.Number.{number}
+use Rattle.words.specs.Put.{put}
 use Rattle.words.specs.Within.{Within}
 use Rattle.record.specs.Record.{wordLength}
 use Rattle.forest.specs.Place.{Cells, cellRow}

@@ -4,7 +4,7 @@ use place_cells::Cell;
 ghost use mathlib.Core.Path.{_≡_};
 ghost use Prim.Native.Nat.{_+_, _-_, _*_, _≤_, _<_};
 ghost use lib.ListN.{length};
-ghost use Rattle.words.specs.Number.{put};
+ghost use Rattle.words.specs.Put.{put};
 ghost use Rattle.record.specs.Record.{wordLength};
 ghost use Rattle.forest.specs.Walk.{cellsIn};
 ghost use Rattle.work_rows.specs.Rows.{rowLength};

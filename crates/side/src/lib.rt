@@ -1,6 +1,6 @@
 // Left and right, as every move and every link of a row has them.
 ghost use mathlib.Core.Path.{_≡_};
-ghost use Rattle.forest.specs.Place.{other, pick};
+ghost use Rattle.forest.specs.Sides.{other, pick};
 ghost use Rattle.side.specs.Side.{sideOf};
 
 // Left and right.

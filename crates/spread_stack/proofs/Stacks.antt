@@ -9,7 +9,8 @@ use mathlib.Core.List.{List, [], _∷_, append-assoc}
 use lib.ListN.{length, take, drop, set, take-append-drop}
 use lib.Seq.{sets, sets-eq}
 use borrow.Author.Tests.{eq-eqb, ne-eqb}
-use Rattle.words.specs.Number.{base, bytes, put}
+use Rattle.words.specs.Number.{base, bytes}
+use Rattle.words.specs.Put.{put}
 use Rattle.words.proofs.Laws.{length-bytes, length-put, put-same, put-other, put-take, put-drop}
 use Rattle.record.specs.declared.Format.{Format}
 use Rattle.record.specs.Record.{wordLength}

@@ -2,7 +2,7 @@
 ghost use mathlib.Core.Path.{_≡_};
 ghost use Prim.Native.Nat.{_+_, _*_, _≤_};
 ghost use lib.ListN.{length};
-ghost use Rattle.words.specs.Number.{put};
+ghost use Rattle.words.specs.Put.{put};
 ghost use Rattle.record.specs.Format.{labelLength};
 ghost use Rattle.work_rows.specs.Rows.{ruleIn};
 ghost use Rattle.spread_step.specs.Step.{saidBytes, Steppable};

@@ -9,7 +9,8 @@ use native.Mathlib.Numerals.{add-two, add-four, add-six}
 use native.Mathlib.Omega.{arith}
 use lib.ListN.{length, getD, take, drop, set, length-append, length-drop, take-append-drop}
 use lib.Seq.{sets-eq, length-sets, length-take-le, getD-append-add, getD-set-other, getD-take, drop-cons, take-set-le, drop-set-lt, take-append-seam, drop-append-add, drop-drop}
-use Rattle.words.specs.Number.{base, number, bytes, put}
+use Rattle.words.specs.Number.{base, number, bytes}
+use Rattle.words.specs.Put.{put}
 
 -- a number depends only on its own bytes
 pub number-agrees : (w : ℕ) (s t : List ℕ) (at to : ℕ) → ((i : ℕ) → i < w → getD s (at + i) 0 ≡ getD t (to + i) 0)

@@ -6,7 +6,8 @@ use native.Mathlib.Omega.{arith}
 use native.Mathlib.Decide.{decLt}
 use lib.ListN.{length, getD, take, drop, replicate, length-replicate, getD-replicate, List·getD-append}
 use lib.Seq.{getD-take, getD-drop, take-take, drop-drop, drop-at}
-use Rattle.words.specs.Number.{number, put}
+use Rattle.words.specs.Number.{number}
+use Rattle.words.specs.Put.{put}
 use Rattle.words.specs.Front.{cleared}
 use Rattle.words.specs.Within.{Within}
 use Rattle.words.proofs.Laws.{number-agrees, length-put, put-take, put-drop}

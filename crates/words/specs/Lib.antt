@@ -1,4 +1,5 @@
 pub mod Number
+pub mod Put
 pub mod Front
 pub mod Within
 pub mod Words

@@ -3,7 +3,6 @@
 use Prim.Native.Nat.{ℕ, zero, suc, _+_, _*_, _/_, _%_}
 use mathlib.Core.List.{List, [], _∷_}
 use lib.ListN.{length, getD}
-use lib.Seq.{sets}
 
 -- how many values a byte has
 abbrev pub base : ℕ
@@ -18,10 +17,6 @@ number (suc w) s at = getD s at 0 + base * number w s (suc at)
 unfoldable pub bytes : ℕ → ℕ → List ℕ
 bytes zero v = []
 bytes (suc w) v = v % base ∷ bytes w (v / base)
-
--- s with the w bytes from offset at on those of v
-unfoldable pub put : ℕ → List ℕ → ℕ → ℕ → List ℕ
-put w s at v = sets s at (bytes w v)
 
 -- how many 16-bit words a slice has: an odd last byte isn't counted
 abbrev pub wordCount : List ℕ → ℕ

@@ -2,7 +2,8 @@
 ghost use mathlib.Core.Path.{_≡_};
 ghost use Prim.Native.Nat.{_+_, _≤_, _<_};
 ghost use lib.ListN.{length};
-ghost use Rattle.words.specs.Number.{number, put, wordCount};
+ghost use Rattle.words.specs.Number.{number, wordCount};
+ghost use Rattle.words.specs.Put.{put};
 ghost use Rattle.words.specs.Front.{cleared};
 
 // A byte as a wider number.

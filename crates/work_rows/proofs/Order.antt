@@ -7,7 +7,8 @@ use mathlib.Core.List.{List, _∷_}
 use mathlib.Core.Logic.{_⊎_, inl, inr}
 use native.Mathlib.Decide.{decLt}
 use lib.ListN.{length, getD}
-use Rattle.words.specs.Number.{number, put}
+use Rattle.words.specs.Number.{number}
+use Rattle.words.specs.Put.{put}
 use Rattle.record.specs.Record.{wordLength}
 use Rattle.reach.specs.Order.{numbersFrom}
 use Rattle.work_rows.specs.Rows.{Within}

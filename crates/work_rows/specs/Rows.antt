@@ -4,7 +4,8 @@ use mathlib.Core.Path.{_≡_}
 use mathlib.Core.Bool.{Bool, cond}
 use mathlib.Core.List.{List, [], _∷_}
 use lib.Dec.{eqb, ltb}
-use Rattle.words.specs.Number.{number, put}
+use Rattle.words.specs.Number.{number}
+use Rattle.words.specs.Put.{put}
 pub use Rattle.words.specs.Within.{Within}
 use Rattle.record.specs.declared.Format.{Format}
 use Rattle.record.specs.declared.Record.{Record}

@@ -5,7 +5,7 @@ use mathlib.Core.Path.{ap, ap₂, _∙_}
 use mathlib.Core.List.{List}
 use Prim.Native.Nat.{ℕ, _+_, _-_, _*_}
 use denote.Ref.{now}
-use Rattle.words.specs.Number.{put}
+use Rattle.words.specs.Put.{put}
 use Rattle.count_passes.specs.Says.{before, after}
 use Rattle.spread_step.specs.Task.{taskWord}
 use Rattle.compare_begin.proofs.Stacks.{grown-around}

@@ -6,7 +6,8 @@ use native.Mathlib.Omega.{arith}
 use borrow.Author.Tests.{ltb-true, lt-ltb, eqb-true, eq-eqb}
 use lib.ListN.{length}
 use denote.Ref.{now}
-use Rattle.forest.specs.Place.{cellRun, step, other}
+use Rattle.forest.specs.Place.{cellRun, step}
+use Rattle.forest.specs.Sides.{other}
 use Rattle.forest.specs.Walk.{cellAt, cellsIn}
 use Rattle.model.specs.Model.{shrunk}
 use Rattle.place_cells.specs.declared.Cell.{Cell as Words}

@@ -3,7 +3,8 @@ use mathlib.Core.Path.{_≡_, refl, _∙_}
 use native.Mathlib.Omega.{arith}
 use lib.ListN.{length}
 use denote.Ref.{now}
-use Rattle.forest.specs.Place.{step, other}
+use Rattle.forest.specs.Place.{step}
+use Rattle.forest.specs.Sides.{other}
 use Rattle.forest.specs.Walk.{cellsIn}
 use Rattle.model.specs.Model.{shrunk}
 use Rattle.facts.specs.Facts.{factsIn}

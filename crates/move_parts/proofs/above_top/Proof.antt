@@ -3,7 +3,8 @@ use Prim.Native.Nat.{ℕ}
 use mathlib.Core.Path.{_≡_, sym, ap, _∙_}
 use native.Mathlib.Omega.{arith}
 use denote.Ref.{now}
-use Rattle.forest.specs.Place.{cellRun, other}
+use Rattle.forest.specs.Place.{cellRun}
+use Rattle.forest.specs.Sides.{other}
 use Rattle.forest.specs.Walk.{cellAt}
 use Rattle.model.specs.Model.{oneAbove}
 use Rattle.facts.specs.Facts.{factsIn}

@@ -2,7 +2,8 @@
 use Prim.Native.Nat.{ℕ}
 use mathlib.Core.Path.{sym, ap, _∙_}
 use denote.Ref.{now}
-use Rattle.forest.specs.Place.{rowOfPart, other}
+use Rattle.forest.specs.Place.{rowOfPart}
+use Rattle.forest.specs.Sides.{other}
 use Rattle.forest.specs.Walk.{cellsIn}
 use Rattle.forest.proofs.Sides.{picked}
 use Rattle.model.specs.Model.{enter, besideHole}

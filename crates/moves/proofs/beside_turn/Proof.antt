@@ -4,7 +4,8 @@ use mathlib.Core.Path.{_≡_, sym, ap, _∙_}
 use mathlib.Core.Option.{some}
 use native.Mathlib.Omega.{arith}
 use denote.Ref.{now}
-use Rattle.forest.specs.Place.{Side, rowOfPart, other, pick}
+use Rattle.forest.specs.Place.{Side, rowOfPart}
+use Rattle.forest.specs.Sides.{other, pick}
 use Rattle.forest.specs.Walk.{cellsIn}
 use Rattle.forest.proofs.Sides.{picked}
 use Rattle.model.specs.Model.{turned, besideHole}

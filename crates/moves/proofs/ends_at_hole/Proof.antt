@@ -4,7 +4,8 @@ use native.Mathlib.Omega.{arith}
 use mathlib.Core.Path.{sym, ap, _∙_}
 use lib.Dec.{eqb}
 use denote.Ref.{now}
-use Rattle.forest.specs.Place.{rowOfPart, other}
+use Rattle.forest.specs.Place.{rowOfPart}
+use Rattle.forest.specs.Sides.{other}
 use Rattle.side.specs.Side.{sideOf}
 use Rattle.place_cells.proofs.Stack.{top-one}
 use Rattle.move_parts.proofs.Outcomes.{end-lowest, end-number}

@@ -1,7 +1,7 @@
 -- Case 4 where the row ends at a hole, else case 5. Assumes nothing.
 use mathlib.Core.Path.{refl, sym, ap, _∙_}
 use denote.Ref.{now}
-use Rattle.forest.specs.Place.{other}
+use Rattle.forest.specs.Sides.{other}
 use Rattle.model.specs.Model.{inward}
 use Rattle.model.proofs.Stages.{case-hole, case-off}
 use Rattle.facts.specs.Facts.{factsIn}

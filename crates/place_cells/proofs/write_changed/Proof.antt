@@ -2,7 +2,8 @@
 use mathlib.Core.Path.{_≡_, sym, ap, _∙_}
 use native.Mathlib.Omega.{arith}
 use denote.Ref.{now}
-use Rattle.words.specs.Number.{number, put}
+use Rattle.words.specs.Number.{number}
+use Rattle.words.specs.Put.{put}
 use Rattle.words.proofs.Laws.{put-there}
 use Rattle.record.specs.Record.{wordLength}
 use borrow.Author.Needs.{needs}

@@ -4,7 +4,7 @@ use mathlib.Core.List.{List}
 use mathlib.Core.Path.{sym, ap, subst, _∙_}
 use native.Mathlib.Omega.{arith}
 use denote.Ref.{now}
-use Rattle.words.specs.Number.{put}
+use Rattle.words.specs.Put.{put}
 use Rattle.reach_order.specs.Room.{Placed}
 use Rattle.reach_order.proofs.Placing.{placed}
 use borrow.Author.Needs.{needs}

@@ -3,7 +3,7 @@ use Prim.Native.Nat.{ℕ}
 use mathlib.Core.Path.{ap, _∙_}
 use mathlib.Core.List.{List}
 use denote.Ref.{now}
-use Rattle.words.specs.Number.{put}
+use Rattle.words.specs.Put.{put}
 use Rattle.record.specs.Record.{wordLength}
 use Rattle.row_links.specs.Links.{linkAt, opensRow}
 use borrow.Author.Needs.{needs}

@@ -2,7 +2,7 @@
 use Prim.Native.Nat.{ℕ}
 use mathlib.Core.Path.{ap, _∙_}
 use denote.Ref.{now}
-use Rattle.words.specs.Number.{put}
+use Rattle.words.specs.Put.{put}
 use Rattle.record.specs.Record.{wordLength}
 use borrow.Author.Needs.{needs}
 use Rattle.row_links.proofs.write_link.Statement.{statement}

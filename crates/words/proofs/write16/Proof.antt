@@ -5,7 +5,8 @@ use lib.ListN.{length-set}
 use Prim.Native.Nat.{_/_, _%_}
 use mathlib.Core.Path.{_≡_}
 use borrow.Author.Needs.{needs}
-use Rattle.words.specs.Number.{put, bytes}
+use Rattle.words.specs.Number.{bytes}
+use Rattle.words.specs.Put.{put}
 use Rattle.words.proofs.write16.Statement.{statement}
 use Rattle.words.proofs.write16.Tie as tie
 

@@ -4,7 +4,7 @@ use mathlib.Core.Path.{sym, ap, _∙_}
 use mathlib.Core.List.{List}
 use denote.Ref.{now}
 use borrow.Author.Needs.{needs}
-use Rattle.words.specs.Number.{put}
+use Rattle.words.specs.Put.{put}
 use Rattle.words.proofs.Laws.{put-double}
 use Rattle.words.proofs.write32.Statement.{statement}
 use Rattle.words.proofs.write32.Tie as tie

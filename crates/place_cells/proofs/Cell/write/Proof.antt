@@ -2,7 +2,7 @@
 use Prim.Native.Nat.{ℕ, _+_, _*_}
 use mathlib.Core.Path.{ap, _∙_}
 use mathlib.Core.List.{List}
-use Rattle.words.specs.Number.{put}
+use Rattle.words.specs.Put.{put}
 use Rattle.record.specs.Record.{wordLength}
 use Rattle.forest.specs.Walk.{cellLength}
 use Rattle.place_cells.specs.Cells.{putCell}

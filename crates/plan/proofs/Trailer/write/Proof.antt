@@ -5,7 +5,7 @@ use mathlib.Core.List.{List}
 use native.Mathlib.Omega.{arith}
 use lib.Seq.{sets}
 use denote.Ref.{now}
-use Rattle.words.specs.Number.{put}
+use Rattle.words.specs.Put.{put}
 use Rattle.record.specs.Format.{recordLength}
 use Rattle.record.proofs.Formats.{records-most}
 use Rattle.plan.specs.Check.{atStart, atDistance, atMark, magic}

@@ -1,6 +1,7 @@
 -- No bytes are put, or a word. Assumes nothing.
 use native.Mathlib.Omega.{arith}
-use Rattle.words.specs.Number.{bytes, put}
+use Rattle.words.specs.Number.{bytes}
+use Rattle.words.specs.Put.{put}
 use Rattle.record.specs.Format.{highLength}
 use borrow.Author.Needs.{needs}
 use Rattle.record.proofs.Format.write_high.Statement.{statement}

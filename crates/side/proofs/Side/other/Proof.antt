@@ -1,6 +1,6 @@
 -- Each arm of the match is a case of the definition. Assumes nothing.
 use Rattle.side.specs.Side.{sideOf}
-use Rattle.forest.specs.Place.{other}
+use Rattle.forest.specs.Sides.{other}
 use borrow.Author.Needs.{needs}
 use Rattle.side.proofs.Side.other.Statement.{statement}
 use Rattle.side.proofs.Side.other.Tie as tie

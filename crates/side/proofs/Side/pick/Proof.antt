@@ -1,5 +1,5 @@
 -- Each side has its one. Assumes nothing.
-use Rattle.forest.specs.Place.{pick}
+use Rattle.forest.specs.Sides.{pick}
 use Rattle.side.specs.Side.{sideOf}
 use borrow.Author.Needs.{needs}
 use Rattle.side.proofs.Side.pick.Statement.{statement}
