@@ -14,7 +14,7 @@ use Rattle.forest.specs.Expression.{Expression}
 use Rattle.forest.proofs.Cases.{by-bool}
 use Rattle.work_rows.specs.Rows.{Within}
 use Rattle.work_rows.proofs.Rows.{within-none, within-both, within-wider}
-use Rattle.count_capped.specs.Count.{limit}
+use Rattle.count_capped.specs.Count.{countLimit}
 use Rattle.spread_step.specs.Task.{parts, taskLimit}
 use Rattle.spread_stack.specs.Stack.{tasksSpoken, tasksTurns, tasksIn, AllPushed}
 use Rattle.spread_stack.specs.Run.{meant, stackAt, workEnd, Stacked}
@@ -40,7 +40,7 @@ pub record Advanced (n first second budget : ℕ) (x y : Progress) (s t : List �
   pub within : Within first (stackEnd n second) s t
 
 module _ {s : List ℕ} {n first second budget : ℕ} (x : Progress) (a : Comparable s n first (x .one) second (x .two)) (more : 0 < x .one + x .two)
-    (low : x .count ≤ budget) (small : budget < limit) where
+    (low : x .count ≤ budget) (small : budget < countLimit) where
   one-high : x .one ≤ highest n + 1
   one-high = height s first (x .one) (a .one)
 
@@ -135,7 +135,7 @@ module _ {n first j second k budget : ℕ} {s t : List ℕ} {x : Progress} (p : 
         counted = low;
       }
 
-  module _ {u : List ℕ} {y : Progress} (low : (x .count ≤ budget) × (0 < x .one + x .two)) (small : budget < limit)
+  module _ {u : List ℕ} {y : Progress} (low : (x .count ≤ budget) × (0 < x .one + x .two)) (small : budget < countLimit)
       (made : TurnMade first second budget x (topIn t first (x .one)) (topIn t second (x .two)) t y u) where
     next : Advanced n first second budget x y t u
     next = advanced x (p .comparable) (low .1) (low .0) small made

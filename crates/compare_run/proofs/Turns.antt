@@ -12,7 +12,7 @@ use Rattle.forest.specs.declared.Compared.{Compared}
 use Rattle.forest.specs.Compare.{Found, within}
 use Rattle.forest.specs.Expression.{Expression}
 use Rattle.forest.proofs.Cases.{by-bool}
-use Rattle.count_capped.specs.Count.{limit, capped}
+use Rattle.count_capped.specs.Count.{countLimit, capped}
 use Rattle.spread_step.specs.Task.{noTask}
 use Rattle.spread_stack.specs.Stack.{tasksSpoken, tasksTurns, addTasks, tasksIn}
 use Rattle.spread_stack.specs.Run.{meant, Stacked, none, on}
@@ -100,7 +100,7 @@ module _ {t : List ℕ} {n first j second k : ℕ} (a : Comparable t n first j s
       omega arith)
 
   -- the same task on both
-  pub turned-skip : v ≡ w → 0 < j + k → c ≤ budget → budget < limit
+  pub turned-skip : v ≡ w → 0 < j + k → c ≤ budget → budget < countLimit
       → Next b (min (c + taskNodesIn t v) (budget + 1)) (tasksIn t first (j - 1)) (tasksIn t second (k - 1))
   turned-skip q more low small =
       let one : v ≡ noTask → ⊥ = λ z.
@@ -117,7 +117,7 @@ module _ {t : List ℕ} {n first j second k : ℕ} (a : Comparable t n first j s
       rw e
       (record {
         answer =
-            capped-since budget limit b c (taskNodes (meant t n) v) (differs (tasksTokens (meant t n) (tasksIn t first (j - 1))) (tasksTokens (meant t n) (tasksIn t second (k - 1)))) small
+            capped-since budget countLimit b c (taskNodes (meant t n) v) (differs (tasksTokens (meant t n) (tasksIn t first (j - 1))) (tasksTokens (meant t n) (tasksIn t second (k - 1)))) small
             ∙ same-answer (meant t n) budget b c (taskNodes (meant t n) v) vs ws (tasksIn t first (j - 1)) (tasksIn t second (k - 1)) d;
         one = rest-stacked rows first j (a .one) one;
         two = rest-stacked rows second k (a .two) two;

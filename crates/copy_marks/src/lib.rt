@@ -8,15 +8,13 @@ ghost use Rattle.copy_passes.specs.Passes.{renamed};
 ghost use Rattle.copy_marks.specs.Marks.{markAt, marksEnd, markIn, marked, numberIn, variantIn, placesIn};
 ghost use Rattle.copy_marks.specs.Marks.{Markable, Nameable, MarkedOne, MarkedNamed, Passed, Unmarked, MarkedAll, Marked};
 ghost use Rattle.copy_marks.specs.Written.{Writable, VariantWritten, Written};
+use copy_rows::VARIANTS;
 use record::Format;
 use record::Record;
 use rule::Rule;
 
 // Where the marks begin, in bytes a rule: behind the rows, a word a rule, and the order.
 const MARKS: usize = 36;
-
-// The variants of a rule.
-const VARIANTS: u16 = 3;
 
 // The mark of variant k.
 fn mark_in(work: &[u8], n: u16, k: u16) -> u16
@@ -193,9 +191,6 @@ fn renumbered(work: &[u8], n: u16, rule: Rule) -> Rule
     }
 }
 
-// What the fifth word of a record counts for in a label.
-const HIGH_PART: u32 = 65536;
-
 // A record with these words.
 fn record(kind: u16, one: u16, two: u16, three: u16, high: u16) -> Record
     ensures { λ w. ⌜ w ≡ record { kind = kind; one = one; two = two; three = three; high = high } ⌝ }
@@ -218,18 +213,18 @@ fn encode(rule: Rule) -> Record
         Rule::Pair { first, second } => record(Rule::PAIR, first, second, 0, 0),
         Rule::Node { label, under } => record(
             Rule::NODE,
-            (label % HIGH_PART) as u16,
+            (label % Rule::HIGH_PART) as u16,
             under,
             0,
-            (label / HIGH_PART) as u16,
+            (label / Rule::HIGH_PART) as u16,
         ),
         Rule::Fill { outer, inner } => record(Rule::FILL, outer, inner, 0, 0),
         Rule::Part { label, left, right } => record(
             Rule::PART,
-            (label % HIGH_PART) as u16,
+            (label % Rule::HIGH_PART) as u16,
             left,
             right,
-            (label / HIGH_PART) as u16,
+            (label / Rule::HIGH_PART) as u16,
         ),
         Rule::Join { outer, inner } => record(Rule::JOIN, outer, inner, 0, 0),
     }

@@ -18,7 +18,8 @@ pub const WHOLE: u16 = 1;
 
 const SHUT: u16 = 2;
 
-const VARIANTS: u16 = 3;
+// How many variants a rule has.
+pub const VARIANTS: u16 = 3;
 
 // Where a row keeps the whole variant and the shut one, and whether its rule's own label may be seen.
 const AT_WHOLE: usize = 10;

@@ -15,14 +15,14 @@ use Rattle.work_rows.specs.Rows.{workLength, rowLength, ownEnd, ruleIn, Within}
 use Rattle.work_rows.proofs.Rows.{within-none, within-both, within-wider, within-number, within-number-put, within-rule}
 use Rattle.work_rows.proofs.Kept.{first-rule, first-same}
 use Rattle.work_rows.proofs.Order.{order-kept}
-use Rattle.count_capped.specs.Count.{limit}
+use Rattle.count_capped.specs.Count.{countLimit}
 use Rattle.count_capped.proofs.Digits.{put-add}
 use Rattle.count_passes.specs.Tally.{Ready}
 use Rattle.count_all.specs.declared.Counts.{Counts}
 use Rattle.count_all.specs.Rows.{longLength, topsAt, behindAt, countsEnd, countsAt, TwoPut, RulesKept, CountsPut, Passable}
 
 -- eight bytes are written as two double words
-pub written-long : (s : List ℕ) {t u : List ℕ} (at x : ℕ) → x < limit → t ≡ put 4 s at (x % 4294967296) → u ≡ put 4 t (at + 4) (x / 4294967296)
+pub written-long : (s : List ℕ) {t u : List ℕ} (at x : ℕ) → x < countLimit → t ≡ put 4 s at (x % 4294967296) → u ≡ put 4 t (at + 4) (x / 4294967296)
     → u ≡ put longLength s at x
 written-long s at x small p q = q ∙ rw p (sym (ap (put longLength s at) parts ∙ put-add 4 4 s at (x % 4294967296) (x / 4294967296) (omega arith)))
   where
@@ -30,7 +30,7 @@ written-long s at x small p q = q ∙ rw p (sym (ap (put longLength s at) parts 
     parts = omega arith
 
 -- two numbers, one after another
-pub two-put : (s : List ℕ) {t u : List ℕ} (at a b : ℕ) → at + longLength + longLength ≤ length s → a < limit → b < limit → t ≡ put longLength s at a
+pub two-put : (s : List ℕ) {t u : List ℕ} (at a b : ℕ) → at + longLength + longLength ≤ length s → a < countLimit → b < countLimit → t ≡ put longLength s at a
     → u ≡ put longLength t (at + longLength) b → TwoPut at a b s u
 two-put s {t} {u} at a b fits small-a small-b p q =
     let long : length t ≡ length s = ap length p ∙ length-put longLength s at a in

@@ -1,15 +1,16 @@
 -- What is kept of counts in numbers of 64 bits: the counts themselves as long as the nodes fit, since no other count is above the nodes; else
 -- the most nodes and no tops, which no counts are that fit: where there are nodes there are tops.
-use Prim.Native.Nat.{ℕ, _+_, _≤_, _<_}
+use Prim.Native.Nat.{ℕ, _+_, _-_, _≤_, _<_}
 use mathlib.Core.Path.{_≡_}
 use mathlib.Core.Bool.{Bool, _&&_}
 use lib.Dec.{eqb}
+use Rattle.forest.specs.Outcome.{countLimit}
 use Rattle.count_all.specs.declared.Counts.{Counts}
 use Rattle.count_all.specs.Counts.{noCounts, joined}
 
 -- the most nodes that fit: 2^64 − 1
 abbrev pub most : ℕ
-most = 18446744073709551615
+most = countLimit - 1
 
 -- no count is above the nodes
 pub record Bounded (m : Counts) : Type 0 where

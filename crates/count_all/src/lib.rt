@@ -9,6 +9,7 @@ ghost use Rattle.count_all.specs.Counts.{beside, filling, over, oneTree}
 ghost use Rattle.count_all.specs.Kept.{Joins, Makes, Turns, IsNone, TooMany, isAbove};
 ghost use Rattle.count_all.specs.Rows.{longLength, behindAt, countsEnd, countsAt, Readable, OfRule, TwoPut, CountsPut};
 ghost use Rattle.count_all.specs.Rows.{Countable, RowCounted, Passable, AllCounted, Counted};
+use count_capped::Count;
 use rule::Rule;
 use work_rows::Row;
 
@@ -47,7 +48,7 @@ impl Counts {
     const ENTRY: u64 = 1;
 
     // The most nodes that 64 bits hold.
-    const MOST: u64 = 18446744073709551615;
+    const MOST: u64 = Count::MOST;
 
     // The counts of nothing.
     fn none() -> Counts

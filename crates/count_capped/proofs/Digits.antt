@@ -8,7 +8,7 @@ use mathlib.Core.List.{List}
 use lib.ListN.{set}
 use Rattle.words.specs.Number.{base, number, bytes}
 use Rattle.words.specs.Put.{put}
-use Rattle.count_capped.specs.Count.{limit, countLength}
+use Rattle.count_capped.specs.Count.{countLimit, countLength}
 
 -- the digits past the first
 scaled : (w b : ℕ) → base ^ suc w * b ≡ base * (base ^ w * b)
@@ -39,11 +39,11 @@ put-add (suc w) v s at a b small =
 
 -- a count's ten bytes
 pub number-count : (s : List ℕ) (at : ℕ)
-    → number countLength s at ≡ number 4 s at + 4294967296 * number 4 s (at + 4) + limit * number 2 s (at + 8)
-number-count s at = number-add 8 2 s at ∙ ap (λ (n : ℕ). n + limit * number 2 s (at + 8)) (number-add 4 4 s at)
+    → number countLength s at ≡ number 4 s at + 4294967296 * number 4 s (at + 4) + countLimit * number 2 s (at + 8)
+number-count s at = number-add 8 2 s at ∙ ap (λ (n : ℕ). n + countLimit * number 2 s (at + 8)) (number-add 4 4 s at)
 
-pub put-count : (s : List ℕ) (at x c : ℕ) → x < limit
-    → put countLength s at (x + limit * c) ≡ put 2 (put 4 (put 4 s at (x % 4294967296)) (at + 4) (x / 4294967296)) (at + 8) c
+pub put-count : (s : List ℕ) (at x c : ℕ) → x < countLimit
+    → put countLength s at (x + countLimit * c) ≡ put 2 (put 4 (put 4 s at (x % 4294967296)) (at + 4) (x / 4294967296)) (at + 8) c
 put-count s at x c small =
     put-add 8 2 s at x c small
     ∙ ap (λ (t : List ℕ). put 2 t (at + 8) c)
@@ -53,5 +53,5 @@ put-count s at x c small =
     parts = omega arith
 
 pub written-count : (s : List ℕ) {t u v : List ℕ} (at x c : ℕ) → t ≡ put 4 s at (x % 4294967296) → u ≡ put 4 t (at + 4) (x / 4294967296)
-    → v ≡ put 2 u (at + 8) c → x < limit → v ≡ put countLength s at (x + limit * c)
+    → v ≡ put 2 u (at + 8) c → x < countLimit → v ≡ put countLength s at (x + countLimit * c)
 written-count s at x c p q r small = r ∙ rw (q, p) (sym (put-count s at x c small))

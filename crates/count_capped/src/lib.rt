@@ -1,11 +1,11 @@
 // A count that stops at 2^64, and counts in columns of the rows of work.
 ghost use mathlib.Core.Path.{_≡_};
-ghost use Prim.Native.Nat.{_+_, _*_, _^_, _≤_};
+ghost use Prim.Native.Nat.{_+_, _*_, _≤_};
 ghost use lib.ListN.{length};
 ghost use Rattle.words.specs.Number.{number};
 ghost use Rattle.words.specs.Put.{put};
 ghost use Rattle.work_rows.specs.Rows.{rowLength, field, putField};
-ghost use Rattle.count_capped.specs.Count.{capped, numberOf, countLength};
+ghost use Rattle.count_capped.specs.Count.{countLimit, capped, numberOf, countLength};
 use work_rows::Row;
 
 // A count with a flag of its own: below 2^64 it is low, and over is 0; from 2^64 on low is 0 and over is 1.
@@ -18,6 +18,9 @@ impl Count {
     // Bytes of a count.
     pub const LENGTH: usize = 10;
 
+    // The most that 64 bits hold.
+    pub const MOST: u64 = 18446744073709551615;
+
     // A number that fits.
     pub fn of(n: u64) -> Count
         ensures { λ r. ⌜ numberOf r ≡ n ⌝ }
@@ -27,7 +30,7 @@ impl Count {
 
     // 2^64 or more.
     fn most() -> Count
-        ensures { λ r. ⌜ numberOf r ≡ 2 ^ 64 ⌝ }
+        ensures { λ r. ⌜ numberOf r ≡ countLimit ⌝ }
     {
         Count { low: 0, over: 1 }
     }
@@ -42,7 +45,7 @@ impl Count {
         if other.over != 0 {
             return Count::most();
         }
-        if self.low <= 18446744073709551615 - other.low {
+        if self.low <= Count::MOST - other.low {
             Count::of(self.low + other.low)
         } else {
             Count::most()

@@ -19,7 +19,7 @@ use Rattle.forest.proofs.Labels.{forest-labels}
 use Rattle.forest.proofs.Steps.{answer-label}
 
 -- every label, also the largest, is below the word for nowhere
-below-nowhere : (a : ℕ) → a ≤ 16777215 → a < nowhere
+below-nowhere : (a : ℕ) → a ≤ largestLabel → a < nowhere
 below-nowhere a h = omega arith
 
 word-label : (x : Option ℕ) → ((a : ℕ) → x ≡ some a → a < nowhere) → answerWord x ≡ nowhere → x ≡ none

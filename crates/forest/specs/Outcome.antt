@@ -47,10 +47,14 @@ workAfter enough (Checked.Refused r) work = work
 unfoldable pub entry : ℕ → ℕ
 entry a = 1
 
+-- "over 2^64 − 1": the least number that is too large to be given
+abbrev pub countLimit : ℕ
+countLimit = 2 ^ 64
+
 -- "11: over 2^64 − 1 nodes. It gives trees, entries (all nodes) and levels"
 unfoldable pub counted : Forest ℕ → Measured
 unfolding count weigh levels entry
-counted g = cond (ltb (weigh one g) (2 ^ 64)) (Measured.Counts (count g) (weigh entry g) (levels g)) (Measured.Refused Refusal.Room)
+counted g = cond (ltb (weigh one g) countLimit) (Measured.Counts (count g) (weigh entry g) (levels g)) (Measured.Refused Refusal.Room)
 
 -- "As check; 8: work has fewer than 32 × n words": n and start, or the refusal
 unfoldable pub workJudged : List ℕ → Checked → Checked

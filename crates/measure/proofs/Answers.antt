@@ -1,5 +1,5 @@
 -- Too many nodes are told from counts that fit, and counts that fit are kept as they are. Assumes nothing.
-use Prim.Native.Nat.{ℕ, _^_, _<_, _≤_}
+use Prim.Native.Nat.{ℕ, _<_, _≤_}
 use native.Mathlib.Omega.{arith}
 use mathlib.Core.Path.{_≡_}
 use mathlib.Core.Bool.{true, false}
@@ -9,7 +9,7 @@ use Rattle.refusal.specs.declared.Refusal.{Refusal}
 use Rattle.forest.specs.declared.Measured.{Measured}
 use Rattle.forest.specs.Algebra.{value}
 use Rattle.forest.specs.Forest.{Forest, trees, weigh, one}
-use Rattle.forest.specs.Outcome.{counted}
+use Rattle.forest.specs.Outcome.{countLimit, counted}
 use Rattle.count_all.specs.declared.Counts.{Counts}
 use Rattle.count_all.specs.Counts.{forestCounts}
 use Rattle.count_all.specs.Kept.{most, Keeps, isAbove}
@@ -20,14 +20,14 @@ use Rattle.measure.specs.Answer.{Answered}
 -- the answer of a forest
 counted-above : (g : Forest ℕ) {c : Counts} → Keeps c (forestCounts g) → isAbove c ≡ true → Measured.Refused Refusal.Room ≡ counted g
 unfolding counted
-counted-above g k h = let more : most < weigh one g = forest-above g k h in rw (le-ltb (weigh one g) (2 ^ 64) (omega arith))
+counted-above g k h = let more : most < weigh one g = forest-above g k h in rw (le-ltb (weigh one g) countLimit (omega arith))
 
 counted-exact : (g : Forest ℕ) {c : Counts} → Keeps c (forestCounts g) → isAbove c ≡ false → Measured.Counts (c .tops) (c .entries) (c .levels) ≡ counted g
 unfolding counted
 counted-exact g k h =
     let e = forest-exact g k h in
     let few : weigh one g ≤ most = e .1 in
-    rw (lt-ltb (weigh one g) (2 ^ 64) (omega arith), e .0)
+    rw (lt-ltb (weigh one g) countLimit (omega arith), e .0)
 
 -- and of a rule
 module _ {n r : ℕ} {c : Counts} {s t : List ℕ} (p : Counted n r c s t) where

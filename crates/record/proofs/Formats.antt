@@ -5,7 +5,7 @@ use native.Mathlib.Omega.{arith}
 use native.Mathlib.Nat.{mul-le-mul-left}
 use mathlib.Core.Path.{_≡_, refl}
 use Rattle.record.specs.declared.Format.{Format}
-use Rattle.record.specs.Format.{wordLength, highLength, recordLength, recordWords, mostLabel}
+use Rattle.record.specs.Format.{wordLength, highLength, recordLength, recordWords, largestLabel, mostLabel}
 
 pub narrow-high : highLength Format.Narrow ≡ 0
 unfolding highLength
@@ -22,7 +22,7 @@ words-length Format.Narrow = refl
 words-length Format.Wide = refl
 
 -- labels have three bytes at most
-pub label-most : (f : Format) → mostLabel f ≤ 16777215
+pub label-most : (f : Format) → mostLabel f ≤ largestLabel
 unfolding mostLabel
 label-most Format.Narrow = omega arith
 label-most Format.Wide = omega arith

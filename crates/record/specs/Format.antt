@@ -20,10 +20,14 @@ unfoldable pub recordWords : Format → ℕ
 recordWords Format.Narrow = 4
 recordWords Format.Wide = 5
 
--- "A label is 0 to 255"; Note 2: "Labels go to 16,777,215"
+-- Note 2: "Labels go to 16,777,215"
+abbrev pub largestLabel : ℕ
+largestLabel = 16777215
+
+-- "A label is 0 to 255", and in a wide plan to the largest
 unfoldable pub mostLabel : Format → ℕ
 mostLabel Format.Narrow = 255
-mostLabel Format.Wide = 16777215
+mostLabel Format.Wide = largestLabel
 
 -- the bytes of a label; Note 2: "a wide label as three bytes"
 abbrev pub labelLength : Format → ℕ

@@ -7,6 +7,7 @@ use lib.Dec.{leb, eqb}
 use Rattle.record.specs.declared.Format.{Format}
 use Rattle.record.specs.declared.Record.{Record}
 use Rattle.record.specs.Format.{mostLabel}
+pub use Rattle.record.specs.Format.{largestLabel}
 use Rattle.rule.specs.declared.Rule.{Rule}
 use Rattle.rule.specs.declared.Decoded.{Decoded}
 
@@ -28,10 +29,6 @@ kindPart = 4
 
 abbrev pub kindJoin : ℕ
 kindJoin = 5
-
--- Note 2: "Labels go to 16,777,215"
-abbrev pub largestLabel : ℕ
-largestLabel = 16777215
 
 -- Note 2: "the fifth word is the label's high part"
 abbrev pub highPart : ℕ

@@ -59,7 +59,7 @@ impl Rule {
     pub const JOIN: u16 = 5;
 
     // What the fifth word counts for in a label.
-    const HIGH_PART: u32 = 65536;
+    pub const HIGH_PART: u32 = 65536;
 
     // The label of a record that has one: word 1, and the fifth word as its high part.
     pub fn label(w: Record) -> u32

@@ -10,7 +10,7 @@ use Rattle.record.specs.declared.Record.{Record}
 use Rattle.refusal.specs.declared.Refusal.{Refusal}
 use Rattle.judge.specs.declared.Judged.{Judged}
 use Rattle.plan.specs.declared.Written.{Written}
-use Rattle.record.specs.Format.{recordLength, recordWords}
+use Rattle.record.specs.Format.{highLength, recordLength, recordWords}
 use Rattle.record.specs.Records.{recordsFrom}
 use Rattle.judge.specs.Judge.{judged}
 use Rattle.plan.specs.Check.{trailerLength, mostRules, inLimits, planBytes}
@@ -18,11 +18,13 @@ use Rattle.plan.specs.Written.{outputAfter}
 
 -- Note 2: "Seal is told the record length": the format whose records have it
 unfoldable pub formatFor : ℕ → Format
-formatFor l = cond (eqb l 10) Format.Wide Format.Narrow
+unfolding highLength
+formatFor l = cond (eqb l (recordLength Format.Wide)) Format.Wide Format.Narrow
 
 -- Note 2: "any but 8 or 10 is refused"
 unfoldable pub isLength : ℕ → Bool
-isLength l = eqb l 8 || eqb l 10
+unfolding highLength
+isLength l = eqb l (recordLength Format.Narrow) || eqb l (recordLength Format.Wide)
 
 -- the records of a slice of rule words, four words to a rule, or five in a wide plan
 unfoldable pub givenCount : Format → List ℕ → ℕ

@@ -60,17 +60,14 @@ fits-above f room h small g k = sym (lt-leb (nodeLength f * weigh one g) room (o
 nodes-exact : {c : Counts} → isAbove c ≡ false → (g : Forest ℕ) → Keeps c (forestCounts g) → c .nodes ≡ weigh one g
 nodes-exact h g k = ap (λ (m : Counts). m .nodes) (forest-exact g k h .0)
 
-pub fits-narrow : {f : Format} (c : Counts) (room : ℕ) → f ≡ Format.Narrow → isAbove c ≡ false → Fitting f c room (leb (c .nodes) (room / 3))
+-- so many times the nodes are at most the room where the nodes are at most that part of it
+shared : (f : Format) (m room : ℕ) → leb m (room / nodeLength f) ≡ leb (nodeLength f * m) room
 unfolding highLength
-fits-narrow c room q h g k =
-    let m : c .nodes ≡ weigh one g = nodes-exact h g k in
-    rw q (same-test (c .nodes) (room / 3) (3 * weigh one g) room (λ l. omega arith) (λ l. omega arith))
+shared Format.Narrow m room = same-test m (room / 3) (3 * m) room (λ l. omega arith) (λ l. omega arith)
+shared Format.Wide m room = same-test m (room / 5) (5 * m) room (λ l. omega arith) (λ l. omega arith)
 
-pub fits-wide : {f : Format} (c : Counts) (room : ℕ) → f ≡ Format.Wide → isAbove c ≡ false → Fitting f c room (leb (c .nodes) (room / 5))
-unfolding highLength
-fits-wide c room q h g k =
-    let m : c .nodes ≡ weigh one g = nodes-exact h g k in
-    rw q (same-test (c .nodes) (room / 5) (5 * weigh one g) room (λ l. omega arith) (λ l. omega arith))
+pub fits-shared : {e : Format} (f : Format) (c : Counts) (room : ℕ) → e ≡ f → isAbove c ≡ false → Fitting e c room (leb (c .nodes) (room / nodeLength f))
+fits-shared f c room q h g k = rw (q, nodes-exact h g k) (shared f (weigh one g) room)
 
 -- from the rows
 module _ {t : List ℕ} {n r : ℕ} (a : Answerable t n r) where

@@ -9,7 +9,12 @@ use plan::Written;
 use record::Format;
 use refusal::Refusal;
 
-// Whether the text of a forest with these counts fits the output: three bytes a node, or five where labels are wide.
+// Bytes of a node's text, in each format: those that open and close it, and its label's.
+const NARROW_NODE: u64 = 3;
+
+const WIDE_NODE: u64 = 5;
+
+// Whether the text of a forest with these counts fits the output.
 fn fits(counts: Counts, room: usize, format: Format) -> bool
     ensures { λ r. ⌜ Fitting format counts room r ⌝ }
 {
@@ -17,8 +22,8 @@ fn fits(counts: Counts, room: usize, format: Format) -> bool
         return false;
     }
     match format {
-        Format::Narrow => counts.nodes <= (room as u64) / 3,
-        Format::Wide => counts.nodes <= (room as u64) / 5,
+        Format::Narrow => counts.nodes <= (room as u64) / NARROW_NODE,
+        Format::Wide => counts.nodes <= (room as u64) / WIDE_NODE,
     }
 }
 
