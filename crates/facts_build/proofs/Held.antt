@@ -31,7 +31,7 @@ use Rattle.facts.proofs.Along.{leads-more, leads-copy, leads-next, leads-over}
 use Rattle.forest.proofs.Cases.{by-bool}
 use Rattle.facts_build.proofs.Ways.{Way, wayOf, Follows, Every, follows, way-done, representative-done, depth-rank}
 
--- a link, and an entry, that say what is true of rule r
+-- a link, and facts, that say what is true of rule r
 pub record TrueLink (F : Facts) (Done : ℕ → Type 0) (s : Side) (r : ℕ) (l : Link) : Type 0 where
   pub toward : l .toward ≡ F .toward s r
   pub last : l .last ≡ F .last s r

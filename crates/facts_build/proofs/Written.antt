@@ -1,4 +1,4 @@
--- Laws of what a row keeps beside its rule. Its words lie apart from each other, from the rule and from other rows, so an entry is read
+-- Laws of what a row keeps beside its rule. Its words lie apart from each other, from the rule and from other rows, so they are read
 -- back as written and nothing else changes. Assumes nothing.
 use Prim.Native.Nat.{ℕ, _+_, _*_, _^_, _≤_, _<_}
 use mathlib.Core.Path.{_≡_, refl, ap, _∙_}
@@ -96,7 +96,7 @@ linkIn-putLink t s r l fits small =
       jump = jump-kept t o r l fits small i;
     }
 
--- a link outside a frame stays, and so does a whole entry
+-- a link outside a frame stays, and so do all facts of a rule
 within-link : {a e : ℕ} {x y : List ℕ} → Within a e x y → (s : Side) (r : ℕ)
     → (a < rowLength * r + atLink s + linkLength → e ≤ rowLength * r + atLink s) → linkIn y s r ≡ linkIn x s r
 unfolding linkIn
@@ -135,7 +135,7 @@ unfolding flag
 flag-small true = omega arith
 flag-small false = omega arith
 
--- an entry after it is written to its row
+-- facts after they are written to their row
 module _ (t : List ℕ) (r : ℕ) (e : RuleFacts) where
   one : List ℕ
   one = putField 2 t r atRepresentative (e .representative)
@@ -199,7 +199,7 @@ module _ (t : List ℕ) (r : ℕ) (e : RuleFacts) where
     unfolding ruleFactsIn
     ruleFactsIn-putRuleFacts = λ i. record { representative = representative-kept i; empty = empty-kept i; left = left-kept i; right = right-kept i }
 
--- another row keeps its entry, and every row its rule
+-- another row keeps its facts, and every row its rule
 apart : (r k low high : ℕ) → low ≤ rowLength → high ≤ rowLength → (k ≡ r → ⊥)
     → rowLength * r + ownEnd < rowLength * k + high → rowLength * r + factsEnd ≤ rowLength * k + low
 apart r k low high a b other h =

@@ -1,4 +1,4 @@
--- All that is known of a rule: its entry, in its row behind the rule, and how it is made from the rows of the rules that its rule names.
+-- All that is known of a rule: its facts, in its row behind the rule, and how they are made from the rows of the rules that its rule names.
 use Prim.Native.Nat.{ℕ}
 use mathlib.Core.Bool.{Bool, true, false, cond, _&&_}
 use mathlib.Core.List.{List}

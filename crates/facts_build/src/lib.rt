@@ -95,7 +95,7 @@ impl RuleFacts {
         }
     }
 
-    // The entry into row r.
+    // These facts into row r.
     fn write(self, work: &mut [u8], r: u16)
         requires { ⌜ In (now work) r ⌝ }
         ensures { λ x. ⌜ now (work .exit) ≡ putRuleFacts (now (work .entry)) r self ⌝ }

@@ -72,7 +72,7 @@ Placed = ℕ × Cells
 
 -- The forest of an expression, each node with its place. cs is the place so far; hole says what stands in the hole, given the
 -- place of the node around it (closed expressions never ask).
---   "A row breaks its stand-in down through kind 1 rules to a tree, taking stand-ins at each step."
+--   "A row breaks its stand-in down through kind 1 rules to a tree (kind 2 or 3), taking stand-ins at each step."
 --   "A spine of a kind 3 rule breaks its B down through kind 5 rules to a kind 4 rule; a kind 2 rule's spine is itself."
 --   "(2, A, 0, 0) opens the spine of tree A: the tree just reached in a row, or the C of the kind 3 spine whose last part was
 --   just reached."

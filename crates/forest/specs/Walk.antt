@@ -138,7 +138,7 @@ begunFrom s work cursor letters given (Checked.Accepted n start) =
     (refused Refusal.Lent)
 begunFrom s work cursor letters given (Checked.Refused r) = refused r
 
--- "As check; 8; 9; 10"
+-- "As check; 8: .. 9: .. 10: .."
 unfoldable pub begun : List ℕ → List ℕ → List ℕ → List ℕ → List ℕ → Begun
 begun s work cursor letters given = begunFrom s work cursor letters given (checked s)
 

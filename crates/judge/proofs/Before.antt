@@ -25,7 +25,7 @@ use Rattle.judge.specs.Judge.{namesJudged, ruleJudged, andThen, rulesJud
 use Rattle.judge.proofs.Fit.{fine-passed, andThen-fine, is-test}
 
 module _ (f : Format) where
-  -- refusals 4 to 7 as document 01 has them: "5: names a rule that isn't lower"
+  -- refusals 4 to 7 as document 01 has them: "5: names a rule not lower"
   namesBefore : List Record → ℕ → Decoded → Judged
   namesBefore ws i Decoded.Malformed = Judged.Refused (Refusal.Malformed i)
   namesBefore ws i (Decoded.Whole r) =

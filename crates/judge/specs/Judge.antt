@@ -14,8 +14,9 @@ use Rattle.reach.specs.Reaches.{lowestCycle}
 use Rattle.record.specs.Records.{recordIn, kindAt}
 use Rattle.judge.specs.declared.Judged.{Judged}
 
--- "the first of: 4: kind above 5, label above 255, unused word not 0"; Note 2: "In a wide plan refusal 4 covers a fifth word that breaks this"; Note 1: "Refusal 5 now means a named rule is not below n. A named rule
--- of kind above 5 is of the wrong sort, so 6"; "6: names one of the wrong sort"
+-- "the first of: 4: kind above 5, label above 255, unused word not 0"; Note 2: "In a wide plan refusal 4 covers a fifth word that breaks
+-- this"; Note 1: "Refusal 5 now means a named rule is not below n. A named rule of kind above 5 is of the wrong sort, so 6"; "6: names one
+-- of the wrong sort"
 unfoldable pub namesJudged : List Record → ℕ → Decoded → Judged
 unfolding every sorts kindAt
 namesJudged ws i Decoded.Malformed = Judged.Refused (Refusal.Malformed i)

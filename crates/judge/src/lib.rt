@@ -104,7 +104,7 @@ fn verdict_of_two(i: u16, n: u16, formed: bool, one: u16, two: u16, sorted: bool
     )
 }
 
-// The test of a rule without a hole, kinds 0 to 2.
+// The test of rule i by its record's words: kinds 0 to 2 here, all others in test_filled.
 fn test_rule(s: &[u8], format: Format, first: usize, n: u16, i: u16) -> Tested
     requires { ⌜ (first + recordLength format * n ≤ length (now s)) × (i < n) ⌝ }
     ensures { λ t. ⌜ t ≡ tested format (recordsFrom format (now (s .entry)) first n) i ⌝ }
@@ -148,7 +148,7 @@ fn test_rule(s: &[u8], format: Format, first: usize, n: u16, i: u16) -> Tested
     test_filled(s, format, first, n, i, w)
 }
 
-// The same of the kinds that have to do with a hole, from the rule's record.
+// The same from the rule's record, of every kind but 0 to 2: those that have to do with a hole, and kinds above 5.
 fn test_filled(s: &[u8], format: Format, first: usize, n: u16, i: u16, w: Record) -> Tested
     requires { ⌜ (first + recordLength format * n ≤ length (now s))
         × (i < n)

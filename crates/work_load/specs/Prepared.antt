@@ -1,5 +1,5 @@
--- What measure, spread and walk begin with: the rules of an accepted plan with enough work are in the rows, and an order of them behind; and
--- what load_plan's answer x says of it. Refused, the work is as measure and spread leave it.
+-- What every operation that is lent work begins with: the rules of an accepted plan with enough work are in the rows, and an order of them
+-- behind; and what load_plan's answer x says of it. Refused, the work is as measure and spread leave it.
 use Prim.Native.Nat.{ℕ, _*_, _≤_}
 use mathlib.Core.Path.{_≡_}
 use mathlib.Core.Bool.{true}

@@ -1,5 +1,5 @@
-// What measure, spread and walk begin with: a plan's rules in the rows of the lent work, and behind them an order in which each stands after
-// those that it names; for measure and spread with their refusals (document 01, "As check; 8").
+// What every operation that is lent work begins with: a plan's rules in the rows of the work, and behind them an order in which each stands
+// after those that it names; for measure and spread with their refusals (document 01, "As check; 8").
 use plan::Checked;
 use plan::Trailer;
 use refusal::Refusal;

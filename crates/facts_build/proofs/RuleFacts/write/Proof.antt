@@ -1,4 +1,4 @@
--- The four writes are those of `putEntry`, one after the other. Assumes nothing.
+-- The four writes are those of `putRuleFacts`, one after the other. Assumes nothing.
 use Prim.Native.Nat.{ℕ}
 use mathlib.Core.Path.{_≡_}
 use mathlib.Core.List.{List}
