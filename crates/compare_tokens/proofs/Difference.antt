@@ -1,7 +1,7 @@
 -- Two forests differ at the same node whether their nodes are compared with levels or their tokens: where one closes a node and the other
 -- opens one, the next nodes' levels differ, or one list has ended. By recursion over the first forest, whatever follows both.
 -- Assumes nothing.
-use Prim.Native.Nat.{ℕ, suc, _<_}
+use Prim.Native.Nat.{ℕ, suc}
 use native.Mathlib.Omega.{arith}
 use mathlib.Core.Path.{_≡_, refl, sym, _∙_, ap}
 use mathlib.Core.Bool.{Bool, true, false, _&&_}
@@ -12,25 +12,13 @@ use Rattle.forest.specs.Forest.{Forest}
 use Rattle.forest.specs.Spelling.{spelled, inTokens}
 use Rattle.forest.specs.Compare.{listed, sameNode, further, found}
 use Rattle.forest.proofs.Cases.{by-bool}
+use Rattle.forest.proofs.Listed.{Above, above-listed}
 use Rattle.compare_tokens.specs.Tokens.{tokens, closing, differs}
 
--- tokens that open nothing more at this level, and nodes that are above it
+-- tokens that open nothing more at this level
 data Shut : List ℕ → Type 0 where
   ended : Shut []
   closes : {ts : List ℕ} → Shut (closing ∷ ts)
-
-data Above (d : ℕ) : List (ℕ × ℕ) → Type 0 where
-  ended : Above d []
-  higher : {a e : ℕ} {ns : List (ℕ × ℕ)} → e < d → Above d ((a, e) ∷ ns)
-
-above-more : {d : ℕ} {ns : List (ℕ × ℕ)} → Above d ns → Above (suc d) ns
-above-more ended = ended
-above-more {d} (higher {e = e} l) = let m : e < suc d = omega arith in higher m
-
-above-listed : (d : ℕ) (f : Forest ℕ) (ns : List (ℕ × ℕ)) → Above d ns → Above (suc d) (listed d f ++ ns)
-unfolding listed
-above-listed d Forest.none ns h = above-more h
-above-listed d (Forest.tree a c f) ns h = let m : d < suc d = omega arith in higher m
 
 -- what is shut differs from an opening
 shut-left : {ts : List ℕ} (b : ℕ) (us : List ℕ) → Shut ts → differs ts (suc b ∷ us) ≡ (false, 1)
@@ -53,13 +41,13 @@ other-level a b d e n = rw (ne-eqb d e n) (and-false (eqb a b))
 
 above-left : {d : ℕ} {ns : List (ℕ × ℕ)} (b : ℕ) (ms : List (ℕ × ℕ)) → Above d ns → found ns ((b, d) ∷ ms) ≡ (false, 1)
 unfolding found
-above-left b ms ended = refl
-above-left {d} b ms (higher {a} {e} l) = rw (other-level a b e d (λ q. omega arith))
+above-left b ms Above.ended = refl
+above-left {d} b ms (Above.higher {a} {e} l) = rw (other-level a b e d (λ q. omega arith))
 
 above-right : {d : ℕ} {ns : List (ℕ × ℕ)} (b : ℕ) (ms : List (ℕ × ℕ)) → Above d ns → found ((b, d) ∷ ms) ns ≡ (false, 1)
 unfolding found
-above-right b ms ended = refl
-above-right {d} b ms (higher {a} {e} l) = rw (other-level b a d e (λ q. omega arith))
+above-right b ms Above.ended = refl
+above-right {d} b ms (Above.higher {a} {e} l) = rw (other-level b a d e (λ q. omega arith))
 
 -- two lists of tokens, and two of nodes, with the same first difference
 abbrev Agree : List ℕ → List ℕ → List (ℕ × ℕ) → List (ℕ × ℕ) → Type 0

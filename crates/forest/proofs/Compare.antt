@@ -75,6 +75,25 @@ within-spent-count b k x e =
     by-budget b x (λ l. verdict-unspent (x .0) (x .1) k (sym (within-enough b x l) ∙ e))
     (λ l. let q : Compared.Spent b ≡ Compared.Spent k = sym (within-spent b x l) ∙ e in cc)
 
+-- a same or a differ is the verdict with its count, and comes only up to the budget
+verdict-told : (t v : Bool) (j k : ℕ) → cond t (Compared.Same j) (Compared.Differ j) ≡ cond v (Compared.Same k) (Compared.Differ k) → (t ≡ v) × (j ≡ k)
+verdict-told true true j k e = (refl, cc)
+verdict-told true false j k e = (cc, cc)
+verdict-told false true j k e = (cc, cc)
+verdict-told false false j k e = (refl, cc)
+
+pub within-exactly : (b : ℕ) (x : Found) (v : Bool) (k : ℕ)
+    → (within b x ≡ cond v (Compared.Same k) (Compared.Differ k)) ↔ ((x ≡ (v, k)) × (k ≤ b))
+within-exactly b x v k = (
+  λ e.
+      by-budget b x
+      (λ l.
+      let q = verdict-told (x .0) v (x .1) k (sym (within-enough b x l) ∙ e) in
+      (λ i. (q .0 i, q .1 i), omega (arith, q .1)))
+      (λ l. verdict-unspent v k b (sym e ∙ within-spent b x l)),
+  λ h. rw (h .0) (within-enough b (v, k) (h .1)),
+)
+
 -- the same over compare itself
 module _ (s work first second : List ℕ) (b c : ℕ) (l : b ≤ c) where
   larger-at : (R : List Rule) (x y : Begun) → settled (comparedAt R b x y) ≡ true → comparedAt R c x y ≡ comparedAt R b x y
@@ -167,7 +186,7 @@ node-listed d (Forest.tree b c f) a e =
     let h : b ≡ a = cc in
     (listed (suc d) c ++ [], ap (λ (x : ℕ). (x, d) ∷ (listed (suc d) c ++ [])) h)
 
-found-least : (x : ℕ × ℕ) (xs ys : List (ℕ × ℕ)) → 1 ≤ (found (x ∷ xs) ys) .1
+pub found-least : (x : ℕ × ℕ) (xs ys : List (ℕ × ℕ)) → 1 ≤ (found (x ∷ xs) ys) .1
 unfolding found
 found-least x xs [] = omega arith
 found-least x xs (y ∷ ys) = by-bool (sameNode x y) (λ u. rw u (omega arith)) (λ u. rw u (omega arith))

@@ -27,7 +27,9 @@ pub mod Covered
 pub mod Subtrees
 pub mod Reasons
 pub mod Search
+pub mod Listed
 pub mod Compare
+pub mod Found
 pub mod Starred
 pub mod Stored
 pub mod Fit
