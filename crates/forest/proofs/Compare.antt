@@ -4,7 +4,7 @@ use Prim.Native.Nat.{ℕ, suc, _≤_, _<_}
 use native.Mathlib.Omega.{arith}
 use mathlib.Core.Logic.{_↔_, _⊎_, inl, inr}
 use mathlib.Core.Path.{_≡_, refl, sym, _∙_, ap}
-use mathlib.Core.Bool.{Bool, true, false, cond, _&&_, false≢true}
+use mathlib.Core.Bool.{Bool, true, false, cond, false≢true}
 use mathlib.Core.List.{List, [], _∷_, _++_}
 use mathlib.Core.Option.{Option, none, some, Option·map}
 use lib.ListN.{length, length-append}
@@ -18,8 +18,7 @@ use Rattle.forest.specs.declared.Compared.{Compared}
 use Rattle.forest.specs.Forest.{Forest, forest, weigh, one}
 use Rattle.forest.specs.Place.{Cells, Placed, placedForest}
 use Rattle.forest.specs.Reference.{Path, top, nodeAt, labelAt}
-use Rattle.forest.specs.Walk.{enoughCursor, enoughAnswers, answerCount, enoughLent, firstOther, lettersJudged, Begun, refused, at, begunFrom, begun, cellsIn, usedCells, headed, pathOf, stored, placeAt, cellsOf, placeJudged}
-use Rattle.forest.specs.Outcome.{enoughWork}
+use Rattle.forest.specs.Walk.{Begun, refused, at, cellsIn, usedCells, headed, pathOf, stored, placeAt, cellsOf, placeJudged}
 use Rattle.forest.specs.Compare.{listed, sameNode, Found, found, firstTree, subtreeAt, pairsFound, within, nodeJudged, comparedAt, enoughCompared, comparedFrom, compare}
 use Rattle.forest.proofs.Cases.{by-bool}
 use Rattle.forest.proofs.Forget.{label, placedForest-forgets}
@@ -230,36 +229,3 @@ unfolding listed weigh
 listed-length d Forest.none = refl
 listed-length d (Forest.tree a c f) =
     rw (length-append (listed (suc d) c) (listed d f)) (omega (arith, listed-length (suc d) c, listed-length d f))
-
--- "Plan, work and both cursors are refused as in walk": what a walk of no letters from a cursor is refused for, its comparison with itself is
-letters-none : (work cursor given : List ℕ) (n : ℕ) → enoughCompared work cursor cursor n ≡ enoughLent work cursor [] given n
-unfolding enoughCompared enoughLent
-letters-none work cursor given n = ap (λ (t : Bool). enoughWork n work && t) (both (enoughCursor n cursor) ∙ sym (rest (enoughCursor n cursor)))
-  where
-    both : (t : Bool) → t && t ≡ t
-    both true = refl
-    both false = refl
-
-    rest : (t : Bool) → t && enoughAnswers [] given ≡ t
-    rest true = le-leb 0 (answerCount given) (omega arith)
-    rest false = refl
-
-refused-at : (R : List Rule) (b : ℕ) (x : Refusal) (y z : Begun) → y ≡ refused x → comparedAt R b (nodeJudged y) z ≡ Compared.Refused x
-unfolding comparedAt nodeJudged
-refused-at R b x y z q = rw q
-
-pub refused-as-walk : (s work cursor given : List ℕ) (b : ℕ) (x : Refusal) → begun s work cursor [] given ≡ refused x
-    → compare s work cursor cursor b ≡ Compared.Refused x
-unfolding begun compare begunFrom comparedFrom lettersJudged firstOther
-refused-as-walk s work cursor given b x e = go (checked s) e
-  where
-    lent : (t : Bool) (y z : Begun) → cond t y (refused Refusal.Lent) ≡ refused x
-        → cond t (comparedAt (rulesOf s) b (nodeJudged y) z) (Compared.Refused Refusal.Lent) ≡ Compared.Refused x
-    lent true y z q = refused-at (rulesOf s) b x y z q
-    lent false y z q = let h : Refusal.Lent ≡ x = cc in ap Compared.Refused h
-
-    go : (c : Checked) → begunFrom s work cursor [] given c ≡ refused x → comparedFrom s work cursor cursor b c ≡ Compared.Refused x
-    go (Checked.Refused y) q = let h : y ≡ x = cc in ap Compared.Refused h
-    go (Checked.Accepted n r) q =
-        rw (letters-none work cursor given n)
-        (lent (enoughLent work cursor [] given n) (placeJudged (rulesOf s) n r cursor) (nodeJudged (placeJudged (rulesOf s) n r cursor)) q)

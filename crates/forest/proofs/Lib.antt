@@ -30,6 +30,7 @@ pub mod Search
 pub mod Listed
 pub mod Compare
 pub mod Found
+pub mod Refused
 pub mod Starred
 pub mod Stored
 pub mod Fit
