@@ -1,5 +1,5 @@
--- Bytes before an accepted plan (document 01's cover) change nothing that measure, spread and walk answer and leave: they look at the
--- plan through check and its rules alone. Assumes nothing.
+-- Bytes before an accepted plan (document 01's cover) change nothing that measure, spread, walk and compare answer and leave: they look
+-- at the plan through check and its rules alone. Assumes nothing.
 use Prim.Native.Nat.{ℕ}
 use mathlib.Core.Path.{_≡_, sym, _∙_}
 use mathlib.Core.List.{List, _++_}
@@ -8,6 +8,7 @@ use Rattle.plan.specs.Check.{checked, mostRules, rulesOf, formatOf}
 use Rattle.plan.proofs.Prefix.{prefix-accepted, prefix-accepted-rules, prefix-accepted-format}
 use Rattle.forest.specs.Outcome.{measured, measuredWork, spread, textOf, spreadOutput}
 use Rattle.forest.specs.Walk.{begunFrom, begun, walkedWork}
+use Rattle.forest.specs.Compare.{comparedFrom, compare, comparedWork}
 
 module _ (p s : List ℕ) (n start : ℕ) (h : checked s ≡ Checked.Accepted n start) where
   pub prefix-check : checked (p ++ s) ≡ checked s
@@ -45,3 +46,11 @@ module _ (p s : List ℕ) (n start : ℕ) (h : checked s ≡ Checked.Accepted n 
   pub prefix-walked-work : (work cursor letters given : List ℕ) → walkedWork (p ++ s) work cursor letters given ≡ walkedWork s work cursor letters given
   unfolding walkedWork
   prefix-walked-work work cursor letters given = rw prefix-check
+
+  pub prefix-compared : (work first second : List ℕ) (b : ℕ) → compare (p ++ s) work first second b ≡ compare s work first second b
+  unfolding compare comparedFrom
+  prefix-compared work first second b = rw (prefix-check, h, prefix-plan)
+
+  pub prefix-compared-work : (work first second : List ℕ) → comparedWork (p ++ s) work first second ≡ comparedWork s work first second
+  unfolding comparedWork
+  prefix-compared-work work first second = rw prefix-check
