@@ -32,6 +32,7 @@ pub mod Compare
 pub mod Found
 pub mod Refused
 pub mod Starred
+pub mod ComparedSample
 pub mod Stored
 pub mod Fit
 pub mod Prefixed

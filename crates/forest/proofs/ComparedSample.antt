@@ -1,0 +1,100 @@
+-- Document 02, Note 4, on document 01's sample plan, as rows of one theorem on the definition of compare, from the plan's bytes on: the text of
+-- the plan is (c(a)(b)(c(a)(b)(a)(b))(b))(a)(b). All hold by computation. So what the theorems on compare ask is met.
+-- Assumes nothing.
+use Prim.Native.Nat.{ℕ}
+use mathlib.Core.Path.{_≡_, refl}
+use mathlib.Core.List.{List, [], _∷_, map}
+use lib.ListN.{replicate, take}
+use Rattle.words.specs.Number.{number, bytes}
+use Rattle.words.specs.Front.{inFront}
+use Rattle.record.specs.declared.Format.{Format}
+use Rattle.record.specs.Format.{highLength, mostLabel}
+use Rattle.rule.specs.declared.Rule.{Rule}
+use Rattle.rule.specs.Rule.{encode}
+use Rattle.refusal.specs.declared.Refusal.{Refusal}
+use Rattle.reach.specs.Reaches.{lowestCycle, cycleFrom, reaches, within as within-steps, anyNamed}
+use Rattle.judge.specs.Judge.{cycleJudged}
+use Rattle.plan.specs.Check.{checked, rulesOf, planBytes}
+use Rattle.forest.specs.declared.Compared.{Compared}
+use Rattle.forest.specs.Forest.{forest}
+use Rattle.forest.specs.Place.{placedForest}
+use Rattle.forest.specs.Reference.{Path, nodeAt, labelAt}
+use Rattle.forest.specs.Sample.{sample}
+use Rattle.forest.specs.Outcome.{enoughWork}
+use Rattle.forest.specs.Walk.{cursorWords, cellAt, cellsIn, usedCells, headed, sameCell, sameCells, firstOf, nodeWith, pathOf, stored, placeJudged, cellsOf, placeAt, cellBytes, cellsBytes, padded, storedCursor}
+use Rattle.forest.specs.Compare.{listed, sameNode, found, firstTree, subtreeAt, pairsFound, within, nodeJudged, comparedAt, enoughCompared, comparedFrom, compare}
+use Rattle.forest.proofs.Compare.{Comparable}
+
+-- what is lent: enough for eight rules; a cursor above the forest, and one at the node with a path
+abbrev work : List ℕ
+work = replicate 512 1
+
+abbrev above : List ℕ
+above = replicate 288 0
+
+abbrev cursor : List ℕ → ℕ → Path → List ℕ
+cursor s r p = storedCursor 8 (placeAt (placedForest (rulesOf s) r) p) above
+
+-- the first c, the c below it, the last of its entries b, and the root b
+abbrev root : List ℕ
+root = cursor sample 7 (1 ∷ [])
+
+abbrev inner : List ℕ
+inner = cursor sample 7 (3 ∷ 1 ∷ [])
+
+abbrev last-below : List ℕ
+last-below = cursor sample 7 (4 ∷ 1 ∷ [])
+
+abbrev last-root : List ℕ
+last-root = cursor sample 7 (3 ∷ [])
+
+-- a(a): an entry over one like it
+abbrev nested : List ℕ
+nested = planBytes Format.Narrow (map encode (Rule.Empty ∷ Rule.Node 97 0 ∷ Rule.Node 97 1 ∷ [])) 2
+
+abbrev outside : List ℕ
+outside = cursor nested 2 (1 ∷ [])
+
+abbrev inside : List ℕ
+inside = cursor nested 2 (1 ∷ 1 ∷ [])
+
+pub record ComparedSample : Type 0 where
+  -- a place and itself: nine entries, within a budget of nine
+  pub same : compare sample work root root 9 ≡ Compared.Same 9
+  pub same-spent : compare sample work root root 8 ≡ Compared.Spent 8
+  -- two places that carry the same
+  pub same-elsewhere : compare sample work last-below last-root 1 ≡ Compared.Same 1
+  -- c a b c .. against c a b a ..: the fourth pair differs
+  pub differ : compare sample work root inner 4 ≡ Compared.Differ 4
+  pub differ-spent : compare sample work root inner 3 ≡ Compared.Spent 3
+  -- "a node against an ended list included"
+  pub second-ended : compare nested work outside inside 2 ≡ Compared.Differ 2
+  pub first-ended : compare nested work inside outside 2 ≡ Compared.Differ 2
+  -- "A place above the forest is refused with 10"
+  pub above-first : compare sample work above root 9 ≡ Compared.Refused Refusal.Place
+  pub above-second : compare sample work root above 9 ≡ Compared.Refused Refusal.Place
+  -- 8, before 10
+  pub short-second : compare sample work root (take 287 root) 9 ≡ Compared.Refused Refusal.Lent
+  pub short-before-above : compare sample work above (take 287 root) 9 ≡ Compared.Refused Refusal.Lent
+  -- what the theorems on compare ask
+  pub comparable : Comparable sample work root inner 8 7 (1 ∷ []) (3 ∷ 1 ∷ [])
+  pub comparable-same : Comparable sample work root root 8 7 (1 ∷ []) (1 ∷ [])
+
+pub compared-sample : ComparedSample
+unfolding planBytes encode highLength mostLabel rulesOf checked lowestCycle cycleFrom reaches within-steps anyNamed cycleJudged bytes number enoughWork inFront labelAt nodeAt placedForest forest cursorWords cellAt cellsIn usedCells headed sameCell sameCells firstOf nodeWith pathOf stored placeJudged cellsOf placeAt cellBytes cellsBytes padded storedCursor listed sameNode found firstTree subtreeAt pairsFound within nodeJudged comparedAt enoughCompared comparedFrom compare
+compared-sample =
+    record {
+      same = refl;
+      same-spent = refl;
+      same-elsewhere = refl;
+      differ = refl;
+      differ-spent = refl;
+      second-ended = refl;
+      first-ended = refl;
+      above-first = refl;
+      above-second = refl;
+      short-second = refl;
+      short-before-above = refl;
+      comparable = record { accepted = refl; lent = refl; one = refl; two = refl };
+      comparable-same = record { accepted = refl; lent = refl; one = refl; two = refl };
+    }
