@@ -4,8 +4,9 @@ ghost use mathlib.Core.Path.{_≡_};
 ghost use mathlib.Core.Bool.{true, false};
 ghost use Prim.Native.Nat.{_+_, _-_, _*_, _≤_, _<_, min};
 ghost use lib.ListN.{length};
+ghost use lib.Dec.{leb};
 ghost use Rattle.forest.specs.Compare.{within};
-ghost use Rattle.count_capped.specs.Count.{numberOf};
+ghost use Rattle.count_capped.specs.Count.{capped, numberOf};
 ghost use Rattle.compare_nodes.specs.Columns.{Countable, taskNodesIn};
 ghost use Rattle.compare_run.specs.Turn.{silent, topIn, topStep, nextToken, tokenNodes, progress, Readable, Turnable, TurnMade};
 ghost use Rattle.compare_run.specs.Run.{Comparable, RunMade};
@@ -108,9 +109,12 @@ fn added(count: u64, nodes: Count, budget: u32) -> u64
     count + nodes.low
 }
 
-// Whether the first of two tasks opens no fewer nodes.
+// Whether the first of two tasks opens no fewer nodes, as far as they are counted.
 fn no_fewer(work: &[u8], v: u16, w: u16) -> bool
     requires { ⌜ Countable (now work) v × Countable (now work) w ⌝ }
+    ensures { λ r.
+        let s = now (work .entry) in
+        ⌜ r ≡ leb (capped (taskNodesIn s w)) (capped (taskNodesIn s v)) ⌝ }
 {
     let one = compare_nodes::task_nodes(work, v);
     let two = compare_nodes::task_nodes(work, w);
