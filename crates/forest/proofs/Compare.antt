@@ -181,9 +181,10 @@ judged-node R n r cursor p e =
 pub node-listed : (d : ℕ) (g : Forest ℕ) (a : ℕ) → top g ≡ some a → (xs : List (ℕ × ℕ)) × (listed d (firstTree g) ≡ (a, d) ∷ xs)
 unfolding top firstTree listed
 node-listed d Forest.none a e = absurd (let z : _≡_ {A = ℕ} 0 1 = cc in omega arith)
-node-listed d (Forest.tree b c f) a e =
-    let h : b ≡ a = cc in
-    (listed (suc d) c ++ [], ap (λ (x : ℕ). (x, d) ∷ (listed (suc d) c ++ [])) h)
+node-listed d (Forest.tree b c f) a e = (_, begins _ (cc))
+  where
+    begins : (xs : List (ℕ × ℕ)) → b ≡ a → (b, d) ∷ xs ≡ (a, d) ∷ xs
+    begins xs h = ap (λ (x : ℕ). (x, d) ∷ xs) h
 
 pub found-least : (x : ℕ × ℕ) (xs ys : List (ℕ × ℕ)) → 1 ≤ (found (x ∷ xs) ys) .1
 unfolding found
@@ -228,4 +229,4 @@ pub listed-length : (d : ℕ) (g : Forest ℕ) → length (listed d g) ≡ weigh
 unfolding listed weigh
 listed-length d Forest.none = refl
 listed-length d (Forest.tree a c f) =
-    rw (length-append (listed (suc d) c) (listed d f)) (omega (arith, listed-length (suc d) c, listed-length d f))
+    rw (length-append, listed-length _ c, listed-length _ f) (omega arith)

@@ -1,5 +1,5 @@
--- Document 02, Note 4, on document 01's sample plan, as rows of one theorem on the definition of compare, from the plan's bytes on: the text of
--- the plan is (c(a)(b)(c(a)(b)(a)(b))(b))(a)(b). All hold by computation. So what the theorems on compare ask is met.
+-- Document 02, Note 4, on document 01's sample plan, whose text is (c(a)(b)(c(a)(b)(a)(b))(b))(a)(b), and on two small ones: rows of one
+-- theorem on the definition of compare, from the plan's bytes on. All hold by computation. So what the theorems on compare ask is met.
 -- Assumes nothing.
 use Prim.Native.Nat.{ℕ}
 use mathlib.Core.Path.{_≡_, refl}
@@ -58,6 +58,20 @@ outside = cursor nested 2 (1 ∷ [])
 abbrev inside : List ℕ
 inside = cursor nested 2 (1 ∷ 1 ∷ [])
 
+-- (d(a(b)))(d(a)(b))
+abbrev levelled : List ℕ
+levelled =
+    planBytes Format.Narrow
+    (map encode
+    (Rule.Empty ∷ Rule.Node 97 0 ∷ Rule.Node 98 0 ∷ Rule.Node 97 2 ∷ Rule.Pair 1 2 ∷ Rule.Node 100 3 ∷ Rule.Node 100 4 ∷ Rule.Pair 5 6 ∷ []))
+    7
+
+abbrev deep : List ℕ
+deep = cursor levelled 7 (1 ∷ [])
+
+abbrev flat : List ℕ
+flat = cursor levelled 7 (2 ∷ [])
+
 pub record ComparedSample : Type 0 where
   -- a place and itself: nine entries, within a budget of nine
   pub same : compare sample work root root 9 ≡ Compared.Same 9
@@ -67,6 +81,8 @@ pub record ComparedSample : Type 0 where
   -- c a b c .. against c a b a ..: the fourth pair differs
   pub differ : compare sample work root inner 4 ≡ Compared.Differ 4
   pub differ-spent : compare sample work root inner 3 ≡ Compared.Spent 3
+  -- equal labels, and b once a level lower
+  pub level-differs : compare levelled work deep flat 3 ≡ Compared.Differ 3
   -- "a node against an ended list included"
   pub second-ended : compare nested work outside inside 2 ≡ Compared.Differ 2
   pub first-ended : compare nested work inside outside 2 ≡ Compared.Differ 2
@@ -89,6 +105,7 @@ compared-sample =
       same-elsewhere = refl;
       differ = refl;
       differ-spent = refl;
+      level-differs = refl;
       second-ended = refl;
       first-ended = refl;
       above-first = refl;
