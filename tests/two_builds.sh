@@ -70,8 +70,10 @@ refused() { # STATUS WORDS ARGUMENTS..: ./release says this and ends so
 refused 2 "usage: release" --other
 echo >>README.md
 refused 1 "there are changes that are not committed"
-sed '3s/.*/3 passed, 1 failed/' "$room/ci.txt" >target/ci.txt
-refused 1 "the gate ended with '3 passed, 1 failed'" --draft
+for last in '3 passed, 1 failed' '0 passed, 0 failed' 'none passed, 0 failed' '3 passed, 0 failed, 1 skipped' 'gate: 3 passed, 0 failed'; do
+    sed "3s/.*/$last/" "$room/ci.txt" >target/ci.txt
+    refused 1 "the gate ended with '$last'" --draft
+done
 sed '2s/.*/another/' "$room/ci.txt" >target/ci.txt
 refused 1 "the gate had another kit" --draft
 sed 3d "$room/ci.txt" >target/ci.txt
