@@ -2,18 +2,19 @@
 """Holds the documents to the sources by their names. In PROMISES, ARCHITECTURE, DECISIONS, PAPER and TRUST:
 
 - every name in backticks is declared in the sources (crates, rust, include, examples, tests);
-- one that stands behind a file, as in 'forest Counts `text-length`' or 'Walk.antt `nowhere`', is declared in that file;
+- one that stands behind a file, as in 'forest Counts `text-length`' or 'Walk.antt `nowhere`', is declared in that file, and so is one in a path, as
+  in '`Names` in rule/specs/Names';
 - every file exists that is named by its crate, as in 'forest Counts', or by its path;
 - every must-fail edit that PROMISES names exists, and every edit that exists is named there.
 
-docs/changes tells what was so at a landing, and PROOF-NOTES has names of the kit: neither is held to the sources."""
+Of PROOF-NOTES, which has names of the kit, only paths and what stands in them are held; docs/changes tells what was so at a landing."""
 
 import os
 import re
 import sys
 
 os.chdir(os.path.join(os.path.dirname(os.path.abspath(__file__)), ".."))
-DOCUMENTS = ["PROMISES", "ARCHITECTURE", "DECISIONS", "PAPER", "TRUST"]
+DOCUMENTS = ["PROMISES", "ARCHITECTURE", "DECISIONS", "PAPER", "TRUST", "PROOF-NOTES"]
 
 # Names that no source declares, and why they stand in a document.
 ELSEWHERE = {
@@ -111,6 +112,19 @@ def hold_paths(where, line):
             faults.append("%s: there is no %s" % (where, path))
 
 
+# Names in a path, with nothing but commas between.
+INSIDE = re.compile(r"((?:`[^`]+`(?:, | and )?)+) in (%s)" % PATH.pattern)
+
+
+def hold_inside(where, line):
+    for names, path in INSIDE.findall(line):
+        for text in re.findall(r"`([^`]+)`", names):
+            first = WORD.match(text)
+            homes = DECLARED.get(first.group(), set()) if first else ()
+            if first and not any(home.startswith((path, "crates/" + path)) for home in homes):
+                faults.append("%s: `%s` doesn't stand in %s" % (where, first.group(), path))
+
+
 # A file and the names behind it, with nothing but commas between: 'crate File', 'crate File.antt' or 'File.antt'.
 BEHIND = re.compile(r"(?:\b([a-z_]+) )?\b([A-Z]\w*)(\.antt)? ((?:`[^`]+`(?:, )?)+)")
 
@@ -162,8 +176,11 @@ for document in DOCUMENTS:
     with open("docs/%s.md" % document, encoding="utf-8") as f:
         for number, line in enumerate(f, 1):
             where = "docs/%s.md:%d" % (document, number)
-            hold_names(where, line)
             hold_paths(where, line)
+            hold_inside(where, line)
+            if document == "PROOF-NOTES":
+                continue
+            hold_names(where, line)
             if document != "PAPER":  # which names files of crate model without saying so
                 hold_files(where, line)
             if document == "PROMISES":
