@@ -188,7 +188,8 @@ uint32_t plan_walk(const uint8_t *plan, size_t plan_len,
 
 /* What plan_compare finds of two places. */
 enum mealplan_verdict {
-    MEALPLAN_SAME = 0,   /* the same nodes below them, and the same labels */
+    MEALPLAN_SAME = 0,   /* the same subtrees, tops included: the same labels at the same
+                            levels */
     MEALPLAN_DIFFER = 1, /* not the same */
     MEALPLAN_SPENT = 2   /* the budget was spent before that was known */
 };
@@ -274,6 +275,10 @@ uint32_t plan_copy(const uint8_t *plan, size_t plan_len,
 
 /* Of plan_class, whatever the rows: */
 #define MEALPLAN_STACK_CLASS 64
+
+/* Time isn't bounded by a proof. A plan that is refused with 12 may take the square of
+   its rules in each function that checks it, at worst some 2 milliseconds at 1,024 rules
+   and half a second, beside other work two, at 16,384, on a server's processor. */
 
 #ifdef __cplusplus
 }
