@@ -1,5 +1,5 @@
 #!/usr/bin/env python3
-"""Holds the documents to the sources by their names. In PROMISES, ARCHITECTURE, DECISIONS, PAPER and TRUST:
+"""Holds the documents to the sources by their names. In docs/ PROMISES, ARCHITECTURE, DECISIONS, PAPER and TRUST:
 
 - every name in backticks is declared in the sources (crates, rust, include, examples, tests);
 - one that stands behind a file, as in 'forest Counts `text-length`' or 'Walk.antt `nowhere`', is declared in that file, and so is one in a path, as
@@ -7,14 +7,16 @@
 - every file exists that is named by its crate, as in 'forest Counts', or by its path;
 - every must-fail edit that PROMISES names exists, and every edit that exists is named there.
 
-Of PROOF-NOTES, which has names of the kit, only paths and what stands in them are held; docs/changes tells what was so at a landing."""
+Of PROOF-NOTES, which has names of the kit, of README and of CONTRIBUTING only paths and what stands in them are held; docs/changes tells what was so
+at a landing."""
 
 import os
 import re
 import sys
 
 os.chdir(os.path.join(os.path.dirname(os.path.abspath(__file__)), ".."))
-DOCUMENTS = ["PROMISES", "ARCHITECTURE", "DECISIONS", "PAPER", "TRUST", "PROOF-NOTES"]
+BY_NAME = ["docs/%s.md" % name for name in ("PROMISES", "ARCHITECTURE", "DECISIONS", "PAPER", "TRUST")]
+BY_PATH = ["docs/PROOF-NOTES.md", "README.md", "CONTRIBUTING.md"]
 
 # Names that no source declares, and why they stand in a document.
 ELSEWHERE = {
@@ -172,18 +174,18 @@ def hold_edits(where, line):
             faults.append("%s: crate %s has no edit %s" % (where, crate, word))
 
 
-for document in DOCUMENTS:
-    with open("docs/%s.md" % document, encoding="utf-8") as f:
+for document in BY_NAME + BY_PATH:
+    with open(document, encoding="utf-8") as f:
         for number, line in enumerate(f, 1):
-            where = "docs/%s.md:%d" % (document, number)
+            where = "%s:%d" % (document, number)
             hold_paths(where, line)
             hold_inside(where, line)
-            if document == "PROOF-NOTES":
+            if document in BY_PATH:
                 continue
             hold_names(where, line)
-            if document != "PAPER":  # which names files of crate model without saying so
+            if document != "docs/PAPER.md":  # which names files of crate model without saying so
                 hold_files(where, line)
-            if document == "PROMISES":
+            if document == "docs/PROMISES.md":
                 hold_edits(where, line)
 for crate, edit in sorted(EDITS - named):
     faults.append("docs/PROMISES.md doesn't name the edit %s %s" % (crate, edit))
@@ -192,4 +194,4 @@ for fault in faults:
     print("names: " + fault)
 if faults:
     sys.exit(1)
-print("names: every name and path of %s is in the sources, and each of %d edits stands beside its promise" % (", ".join(DOCUMENTS), len(EDITS)))
+print("names: what %d documents name is in the sources, and each of %d edits stands beside its promise" % (len(BY_NAME + BY_PATH), len(EDITS)))
