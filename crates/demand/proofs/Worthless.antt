@@ -58,7 +58,7 @@ ownCount l = other (walkOf l) ((walkOf l) .answers) (inFront (bytes 2 1) ((walkO
 pub stays : Walk
 stays l = other (walkOf l) ((walkOf l) .answers) (l .cursor)
 
--- "one that says 65,535 to all", which was the word for nowhere; "one that says 97 to all": `answered`
+-- "one that says 65,535 to all", which was the word for nowhere, and one that says today's; "one that says 97 to all": `answered`
 pub says : ℕ → Walk
 says v l = other (walkOf l) (alike (length (l .letters)) v (l .answers)) ((walkOf l) .cursor)
 
@@ -125,6 +125,7 @@ pub record Worthless : Type 0 where
   pub first-repeated : Demand3 repeats → ⊥
   pub own-count : Demand3 ownCount → ⊥
   pub place-kept : Demand3 stays → ⊥
+  pub always-65535 : Demand3 (says 65535) → ⊥
   pub always-nowhere : Demand3 (says nowhere) → ⊥
   pub always-97 : Demand3 (says 97) → ⊥
   pub always-refused : Demand3 refuses → ⊥
@@ -143,6 +144,7 @@ worthless =
       first-repeated = λ d. let e : _≡_ {A = ℕ} 99 97 = ap (λ (l : List ℕ). getD l 1 0) (said repeats d .answered) in omega arith;
       own-count = λ d. let e : _≡_ {A = ℕ} 1 7 = said ownCount d .used in omega arith;
       place-kept = λ d. let e : _≡_ {A = ℕ} 0 7 = said stays d .used in omega arith;
+      always-65535 = λ d. let e : _≡_ {A = ℕ} 65535 99 = ap (λ (l : List ℕ). getD l 0 0) (said (says 65535) d .answered) in omega arith;
       always-nowhere = λ d. let e : _≡_ {A = ℕ} nowhere 99 = ap (λ (l : List ℕ). getD l 0 0) (said (says nowhere) d .answered) in omega arith;
       always-97 = λ d. let e : _≡_ {A = ℕ} 97 99 = ap (λ (l : List ℕ). getD l 0 0) (said (says 97) d .answered) in omega arith;
       always-refused = λ d. absurd (true≢false (ap (firstBool) (said refuses d .refused)));
