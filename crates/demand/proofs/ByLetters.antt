@@ -1,60 +1,36 @@
 -- Refusal 10 by letters. Where cell 0 is in order the cells are looked for in the forest: what is found is above the forest or a
 -- node, and letters lead to every node; what no node has no letters lead to. That cells 1 to k lie in 16 × (n + 1) words turns
 -- down no place that letters lead to, since each of them has at most 3 × n cells. Assumes nothing.
-use Prim.Native.Nat.{ℕ, zero, suc, _+_, _*_, _≤_}
+use Prim.Native.Nat.{ℕ, suc, _+_, _*_, _≤_}
 use native.Mathlib.Omega.{arith}
 use mathlib.Core.Path.{_≡_, refl, sym, ap, _∙_, subst}
 use mathlib.Core.Logic.{_↔_, inl, inr, ⊎-elim}
-use mathlib.Core.Bool.{Bool, true, false, cond, not, true≢false, _&&_, and-eq-true-iff}
+use mathlib.Core.Bool.{Bool, true, false, cond, not, true≢false, _&&_}
 use mathlib.Core.List.{List, [], _∷_}
 use mathlib.Core.Option.{Option, none, some, Option·none-ne-some}
 use lib.ListN.{length}
-use lib.Dec.{leb, eqb}
-use borrow.Author.Tests.{le-leb, leb-true, eqb-true}
+use lib.Dec.{leb}
+use borrow.Author.Tests.{le-leb, leb-true}
 use Rattle.refusal.specs.declared.Refusal.{Refusal}
 use Rattle.plan.specs.declared.Checked.{Checked}
 use Rattle.plan.specs.Check.{checked, rulesOf}
 use Rattle.forest.specs.declared.Walked.{Walked}
 use Rattle.forest.specs.Forest.{Forest, forest}
-use Rattle.forest.specs.Place.{Cell, Cells, Placed, placedForest}
+use Rattle.forest.specs.Place.{Cells, Placed, placedForest}
 use Rattle.forest.specs.Letter.{Letter}
 use Rattle.forest.specs.Reference.{Path, labelAt, pathAfter}
-use Rattle.forest.specs.Walk.{cellWords, cursorWords, enoughLent, firstOther, cellAt, cellsIn, usedCells, headed, pathOf, Begun, stored, placeJudged, lettersJudged, begunFrom, begun, walked, placeAt, cellsOf}
+use Rattle.forest.specs.Walk.{cellWords, cursorWords, enoughLent, firstOther, cellsIn, usedCells, headed, pathOf, Begun, stored, placeJudged, lettersJudged, begunFrom, begun, walked, placeAt, cellsOf}
 use Rattle.forest.proofs.Cases.{by-bool, by-option}
 use Rattle.forest.proofs.Reach.{letters, letters-after}
 use Rattle.forest.proofs.Search.{path-cells, path-of-place}
 use Rattle.forest.specs.Position.{Named}
 use Rattle.demand.specs.Calls.{Call, lent, walkOf}
 use Rattle.demand.specs.Demand.{turnedDown, isNone}
-use Rattle.demand.specs.Misplaced.{Zeros, Unreached, Misplaced}
+use Rattle.demand.specs.Misplaced.{Unreached, Misplaced}
+use Rattle.demand.proofs.Passed.{zeros-headed, headed-zeros, length-cellsIn}
 use Rattle.demand.proofs.Walkable.{Walkable}
 use Rattle.demand.proofs.OneCall.{place-short, same-paths, named-after}
 use Rattle.demand.proofs.Plans.{walkable}
-
--- ---- cell 0
-
--- cell 0 is in order exactly if its later words are zeros and cells 1 to k lie in the words that n rules need
-zeros-headed : (n : ℕ) (cursor : List ℕ) → Zeros cursor → cellWords * (usedCells cursor + 1) ≤ cursorWords n → headed n cursor ≡ true
-unfolding headed Zeros usedCells
-zeros-headed n cursor z fits =
-    ap (λ (c : Cell). eqb (c .1) 0 && (eqb (c .2) 0 && (eqb (c .3) 0 && leb (cellWords * (c .0 + 1)) (cursorWords n)))) z
-    ∙ le-leb (cellWords * (usedCells cursor + 1)) (cursorWords n) fits
-
-in-order : (c : Cell) (n : ℕ) → (eqb (c .1) 0 && (eqb (c .2) 0 && (eqb (c .3) 0 && leb (cellWords * (c .0 + 1)) (cursorWords n)))) ≡ true → c ≡ (c .0, 0, 0, 0)
-in-order c n h =
-    let p = and-eq-true-iff (eqb (c .1) 0) _ .0 h in
-    let q = and-eq-true-iff (eqb (c .2) 0) _ .0 (p .1) in
-    let r = and-eq-true-iff (eqb (c .3) 0) _ .0 (q .1) in
-    λ i. (c .0, eqb-true (c .1) 0 (p .0) i, eqb-true (c .2) 0 (q .0) i, eqb-true (c .3) 0 (r .0) i)
-
-headed-zeros : (n : ℕ) (cursor : List ℕ) → headed n cursor ≡ true → Zeros cursor
-unfolding headed Zeros usedCells
-headed-zeros n cursor h = in-order (cellAt cursor 0) n h
-
-length-cellsIn : (s : List ℕ) (k : ℕ) → length (cellsIn s k) ≡ k
-unfolding cellsIn
-length-cellsIn s zero = refl
-length-cellsIn s (suc k) = ap suc (length-cellsIn s k)
 
 -- ---- the cells
 
@@ -137,7 +113,7 @@ module _ (s : List ℕ) (n start : ℕ) (cursor : List ℕ) (accepted : checked 
 
   misplaced-refused : Misplaced (rulesOf s) start cursor → placeJudged (rulesOf s) n start cursor ≡ Begun.refused Refusal.Place
   unfolding placeJudged stored Misplaced
-  misplaced-refused m = by-bool (headed n cursor) (λ h. by-option found (λ x. rw (h, x)) (λ p x. absurd (⊎-elim (λ z. z (headed-zeros n cursor h)) (found-reached W _ p x) m))) (λ h. rw h)
+  misplaced-refused m = by-bool (headed n cursor) (λ h. by-option found (λ x. rw (h, x)) (λ p x. absurd (⊎-elim (λ z. z (headed-zeros n cursor h .0)) (found-reached W _ p x) m))) (λ h. rw h)
 
   -- an accepted plan's place is refused with 10 exactly when document 01 says so
   pub refused-by-letters : (placeJudged (rulesOf s) n start cursor ≡ Begun.refused Refusal.Place) ↔ Misplaced (rulesOf s) start cursor

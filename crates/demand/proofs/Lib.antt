@@ -1,3 +1,5 @@
+pub mod Passed
+pub mod BareCall
 pub mod Words
 pub mod Walkable
 pub mod OneCall

@@ -4,13 +4,12 @@
 use Prim.Native.Nat.{ℕ, _+_, _*_, _≤_}
 use native.Mathlib.Omega.{arith}
 use mathlib.Core.Path.{_≡_, refl, sym, ap, _∙_, subst}
-use mathlib.Core.Bool.{Bool, true, false, cond, _&&_, and-eq-true-iff}
+use mathlib.Core.Bool.{Bool, true, false, cond, _&&_}
 use mathlib.Core.List.{List, map}
 use mathlib.Core.Option.{Option, none, some}
 use lib.ListN.{length}
 use lib.Dec.{leb, eqb}
-use borrow.Author.Tests.{le-leb, leb-true}
-use Rattle.words.specs.Number.{wordCount}
+use borrow.Author.Tests.{le-leb}
 use Rattle.rule.specs.declared.Rule.{Rule}
 use Rattle.refusal.specs.declared.Refusal.{Refusal}
 use Rattle.plan.specs.declared.Checked.{Checked}
@@ -28,9 +27,9 @@ use Rattle.forest.proofs.Steps.{after-named}
 use Rattle.forest.specs.Position.{Named}
 use Rattle.forest.proofs.Stored.{AllFitting, stored-length, stored-head, stored-cells, stored-clear}
 use Rattle.demand.specs.Calls.{Lent, Left, Call, lent, walkOf}
-use Rattle.forest.specs.Outcome.{enoughWork}
 use Rattle.demand.specs.Demand.{turnedDown, isNone, isRefused, answerWords, ClearPast}
 use Rattle.words.specs.Front.{inFront}
+use Rattle.demand.proofs.Passed.{lent-enough}
 use Rattle.demand.proofs.Words.{words-in-front, length-answers, length-letters, length-words, answers-fit}
 use Rattle.demand.proofs.Walkable.{Walkable, Stands}
 
@@ -123,13 +122,6 @@ module _ (s : List ℕ) (n start : ℕ) (first : List ℕ) (accepted : checked s
   unfolding walkOf lent isRefused
   call-turned cursor p c r d b = Came.turned d (ap (λ (x : Begun). isRefused (walked x)) b) (refused-keeps (rulesOf s) _ cursor b)
 
-  -- what 8 lets pass is long enough
-  lent-enough : (c : Call) → enoughLent (c .work) first (c .letters) (c .answers) n ≡ true → wordLength * cursorWords n ≤ length first
-  unfolding enoughLent
-  lent-enough c e =
-      let h = leb-true (cursorWords n) (wordCount first) (and-eq-true-iff (leb (cursorWords n) (wordCount first)) _ .0 (and-eq-true-iff (enoughWork n (c .work)) _ .0 e .1) .0) in
-      omega arith
-
   -- a call that is accepted
   call-went : (cursor : List ℕ) (p : Path) (c : Call) → Stands (placedForest (rulesOf s) start) first cursor p → enoughLent (c .work) first (c .letters) (c .answers) n ≡ true → firstOther (c .letters) 0 ≡ none
       → begun s (c .work) cursor (c .letters) (c .answers) ≡ Begun.at n start p
@@ -139,7 +131,7 @@ module _ (s : List ℕ) (n start : ℕ) (first : List ℕ) (accepted : checked s
       Came.went
       (rw (e, f))
       (ap (λ (x : Begun). isRefused (walked x)) b)
-      (subst (λ (x : List ℕ). Stands G first x q) (sym new) (stored-stands W first cursor q N (S .same-length) (lent-enough c e)))
+      (subst (λ (x : List ℕ). Stands G first x q) (sym new) (stored-stands W first cursor q N (S .same-length) (lent-enough n (c .work) first (c .letters) (c .answers) e)))
       (subst (λ (x : List ℕ). ClearPast n (length (placeAt G q)) x) (sym new) (stored-clear n (placeAt G q) cursor (place-room W q N)))
       (ap (λ (x : List ℕ). answerWords (length (c .letters)) x 0) (ap (λ (x : Begun). answersAfter (rulesOf s) x (c .letters) (c .answers)) b) ∙ words)
     where
