@@ -1,4 +1,4 @@
--- Seal's answer as a function of what it looks at, what an accepting answer tells, and the answer for each outcome of the
+-- What an accepting answer of seal tells, the answer as a function of what seal looks at, and the answer for each outcome of the
 -- tests in their order. All over the format, and for a record length that is none of the two there is one answer. Assumes nothing.
 use Prim.Native.Nat.{ℕ, _+_, _*_, _/_, _%_, _≤_, _<_}
 use mathlib.Core.Bool.{Bool, true, false, cond, _&&_, _||_, and-eq-true-iff}
@@ -13,7 +13,7 @@ use Rattle.record.specs.declared.Format.{Format}
 use Rattle.refusal.specs.declared.Refusal.{Refusal}
 use Rattle.judge.specs.declared.Judged.{Judged}
 use Rattle.plan.specs.declared.Written.{Written}
-use Rattle.record.specs.Format.{highLength, recordLength, recordWords}
+use Rattle.record.specs.Format.{wordLength, highLength, recordLength, recordWords}
 use Rattle.record.specs.Records.{recordsFrom, recordsBytes}
 use Rattle.judge.specs.Judge.{judged}
 use Rattle.plan.specs.Check.{trailerLength, trailerBytes, mostRules, inLimits, planBytes}
@@ -51,6 +51,11 @@ unfolding highLength recordWords
 words-whole Format.Narrow n k e = (omega arith, omega arith)
 words-whole Format.Wide n k e = (omega arith, omega arith)
 
+words-counted : (f : Format) (k : ℕ) → k % recordWords f ≡ 0 → recordLength f * (k / recordWords f) ≡ wordLength * k
+unfolding highLength recordWords
+words-counted Format.Narrow k e = omega arith
+words-counted Format.Wide k e = omega arith
+
 length-passed : (b : Bool) (x : Written) (e : Refusal) (m : ℕ) → cond b x (Written.Refused e) ≡ Written.Length m → (b ≡ true) × (x ≡ Written.Length m)
 length-passed true x e m h = (refl, h)
 length-passed false x e m h = let z : _≡_ {A = ℕ} 0 1 = cc in absurd (omega arith)
@@ -64,6 +69,23 @@ length-roomed need out Judged.Fine m h =
 length-roomed need out (Judged.Refused e) m h = let z : _≡_ {A = ℕ} 0 1 = cc in absurd (omega arith)
 
 module _ (f : Format) where
+  pub record Sealed (most : ℕ) (words : List ℕ) (start : ℕ) (out : List ℕ) (m : ℕ) : Type 0 where
+    -- "2: the words aren't four to a rule": else none of those counted is left over, and each has its two bytes in a record
+    pub none-left : recordLength f * givenCount f words ≡ wordLength * wordCount words
+    pub limits : inLimits most (givenCount f words) ≡ true
+    pub fine : judged f (given f words) start ≡ Judged.Fine
+    pub room : recordLength f * givenCount f words + trailerLength ≤ length out
+    pub size : m ≡ recordLength f * givenCount f words + trailerLength
+
+  pub sealed-facts : (most : ℕ) (words : List ℕ) (start : ℕ) (out : List ℕ) (m : ℕ) → sealedUpTo most f words start out ≡ Written.Length m → Sealed most words start out m
+  unfolding sealedUpTo givenCount
+  sealed-facts most words start out m h =
+      let n = givenCount f words in
+      let p = length-passed _ _ Refusal.Count m h in
+      let q = and-eq-true-iff _ (inLimits most n) .0 (p .0) in
+      let r = length-roomed (recordLength f * n + trailerLength) out (judged f (given f words) start) m (p .1) in
+      record { none-left = words-counted f (wordCount words) (eqb-true _ _ (q .0)); limits = q .1; fine = r .0; room = r .1; size = r .2 }
+
   unfoldable pub sealAnswer : ℕ → Bool → ℕ → Judged → List ℕ → Written
   sealAnswer most whole n j out = cond (whole && inLimits most n) (roomed (recordLength f * n + trailerLength) out j) (Written.Refused Refusal.Count)
 
@@ -71,22 +93,6 @@ module _ (f : Format) where
       → sealedUpTo most f words start out ≡ sealAnswer most (eqb (wordCount words % recordWords f) 0) (givenCount f words) (judged f (given f words) start) out
   unfolding sealedUpTo sealAnswer
   sealed-answer most words start out = refl
-
-  pub record Sealed (most : ℕ) (words : List ℕ) (start : ℕ) (out : List ℕ) (m : ℕ) : Type 0 where
-    pub whole : wordCount words % recordWords f ≡ 0
-    pub limits : inLimits most (givenCount f words) ≡ true
-    pub fine : judged f (given f words) start ≡ Judged.Fine
-    pub room : recordLength f * givenCount f words + trailerLength ≤ length out
-    pub size : m ≡ recordLength f * givenCount f words + trailerLength
-
-  pub sealed-facts : (most : ℕ) (words : List ℕ) (start : ℕ) (out : List ℕ) (m : ℕ) → sealedUpTo most f words start out ≡ Written.Length m → Sealed most words start out m
-  unfolding sealedUpTo
-  sealed-facts most words start out m h =
-      let n = givenCount f words in
-      let p = length-passed (eqb (wordCount words % recordWords f) 0 && inLimits most n) _ Refusal.Count m h in
-      let q = and-eq-true-iff (eqb (wordCount words % recordWords f) 0) (inLimits most n) .0 (p .0) in
-      let r = length-roomed (recordLength f * n + trailerLength) out (judged f (given f words) start) m (p .1) in
-      record { whole = eqb-true _ _ (q .0); limits = q .1; fine = r .0; room = r .1; size = r .2 }
 
   -- ---- the answer by the tests in their order; n is the number of rules given
   module _ (most : ℕ) (words : List ℕ) (start : ℕ) (out : List ℕ) (n : ℕ) (e : n ≡ givenCount f words) where

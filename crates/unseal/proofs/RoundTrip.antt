@@ -7,13 +7,13 @@ use mathlib.Core.Path.{_≡_, refl, sym, ap, ap₂, _∙_}
 use native.Mathlib.Omega.{arith}
 use lib.Dec.{leb, eqb}
 use lib.ListN.{length, take, drop, length-append, take-append-drop}
-use lib.Seq.{take-append-seam, length-take-le, take-at}
+use lib.Seq.{take-append-seam, length-take-le, take-at, take-all}
 use borrow.Author.Tests.{le-leb, eq-eqb, leb-true}
 use Rattle.words.specs.Number.{number, bytes, base, wordCount}
 use Rattle.record.specs.declared.Format.{Format}
 use Rattle.plan.specs.declared.Checked.{Checked}
 use Rattle.plan.specs.declared.Written.{Written}
-use Rattle.record.specs.Format.{recordLength, recordWords}
+use Rattle.record.specs.Format.{wordLength, recordLength, recordWords}
 use Rattle.record.specs.Records.{recordsFrom, recordsBytes}
 use Rattle.plan.specs.Check.{trailerLength, atStart, atDistance, atMark, magic, trailerBytes, mostRules, trailerAt, countOf, startOf, distanceOf, markedAs, formatOf, firstAt, recordsOf, accepted, inLimits, checkedUpTo, checked, planBytes}
 use Rattle.seal.specs.Seal.{formatFor, isLength, givenCount, given, roomed, sealedUpTo, sealed, outputAs, sealedOutput}
@@ -168,6 +168,10 @@ module _ (words : List ℕ) (l start : ℕ) (out : List ℕ) (m : ℕ) (bs : Byt
   sealed-records : recordsOf (take m (sealedOutput words l start out)) ≡ given format words
   sealed-records = rw output-is (plan-records format mostRules words start out m bs sealed-plan (omega arith))
 
+  -- the records are all the words that were counted, two bytes for each: of what seal was given it drops nothing but an odd last byte
+  pub seal-drops-none : l * count ≡ wordLength * wordCount words
+  seal-drops-none = rw seal-length at (sealed-plan .none-left)
+
   -- unseal gives the same record length too
   module _ (other : List ℕ) (room : recordWords format * count ≤ wordCount other) where
     pub seal-then-unseal-answer : unsealed (take m (sealedOutput words l start out)) other ≡ Unsealed.Words l count start
@@ -186,6 +190,13 @@ module _ (words : List ℕ) (l start : ℕ) (out : List ℕ) (m : ℕ) (bs : Byt
     seal-then-unseal-words =
         let long : l * count ≤ length words = rw seal-length at (fits format words) in
         rw seal-then-unseal (take-at (take (l * count) words) _ (l * count) (length-take-le (l * count) words long))
+
+    -- where no odd byte was given, these are the words as they were given
+    pub seal-then-unseal-all : length words ≡ wordLength * wordCount words
+        → unsealedOutput (take m (sealedOutput words l start out)) other ≡ inFront words other
+    seal-then-unseal-all even =
+        let all : take (l * count) words ≡ words = take-all (l * count) words (omega (arith, even, seal-drops-none)) in
+        seal-then-unseal ∙ ap (λ (ws : List ℕ). inFront ws other) all
 
 -- ---- unsealing an accepted plan with no prefix, and sealing the words with the record length that unseal gave, gives back the plan's bytes
 module _ (s out : List ℕ) (l n start : ℕ) (bs : Bytes s) (h : unsealed s out ≡ Unsealed.Words l n start) (alone : length s ≡ l * n + trailerLength) where
