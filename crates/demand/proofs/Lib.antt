@@ -11,4 +11,5 @@ pub mod Prefixed
 pub mod FromAbove
 pub mod ByLetters
 pub mod Demand3
+pub mod Replies
 pub mod OldLimit
