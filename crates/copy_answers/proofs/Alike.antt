@@ -17,6 +17,7 @@ use Rattle.forest.specs.Walk.{firstOther, lettersOf, answerWord}
 use Rattle.demand.specs.Calls.{Call, walkOf}
 use Rattle.demand.specs.Demand.{isNone, turnedDown, fingerAnswers, Demand3}
 use Rattle.demand.proofs.Demand3.{demand3}
+use Rattle.demand.proofs.Replies.{reply, replies}
 use Rattle.label_rows.specs.declared.LabelRow.{LabelRow}
 use Rattle.copy_variants.specs.Visible.{visible, seenBy}
 use Rattle.copy_plan.specs.Bytes.{copyBytes}
@@ -32,9 +33,14 @@ module _ (n m : ℕ) (cursor other : List ℕ) where
   same-down : (c d : Call) → c .letters ≡ d .letters → Enough n cursor c → Enough m other d → turnedDown n cursor c ≡ turnedDown m other d
   same-down c d e p q = by-letters n cursor c p ∙ ap (λ (l : List ℕ). not (isNone (firstOther l 0))) e ∙ sym (by-letters m other d q)
 
-  asked-down : {cs ds : List Call} → Asked n m cursor other cs ds → map (turnedDown n cursor) cs ≡ map (turnedDown m other) ds
-  asked-down Asked.none = refl
-  asked-down (Asked.more {c} {d} e p q r) = ap₂ _∷_ (same-down c d e p q) (asked-down r)
+  -- and so is what it answers
+  same-reply : (c d : Call) → c .letters ≡ d .letters → Enough n cursor c → Enough m other d → reply n cursor c ≡ reply m other d
+  unfolding reply Enough
+  same-reply c d e p q = rw (p, q, e)
+
+  asked-replies : {cs ds : List Call} → Asked n m cursor other cs ds → map (reply n cursor) cs ≡ map (reply m other) ds
+  asked-replies Asked.none = refl
+  asked-replies (Asked.more {c} {d} e p q r) = ap₂ _∷_ (same-reply c d e p q) (asked-replies r)
 
   -- the finger's answers to such calls
   asked-finger : (g : Forest ℕ) {cs ds : List Call} → Asked n m cursor other cs ds → (p : Path)
@@ -54,7 +60,7 @@ module _ (s t : List ℕ) (n m start top : ℕ) (e : checked s ≡ Checked.Accep
       ap (λ (g : Forest ℕ). fingerAnswers g (turnedDown n cursor) cs []) same
       ∙ asked-finger n m cursor other (forest (rulesOf t) top) q [] in
       λ i. record {
-        refused = (M .refused ∙ asked-down n m cursor other q ∙ sym (N .refused)) i;
+        replies = (replies s n start cursor cs e a ∙ asked-replies n m cursor other q ∙ sym (replies t m top other ds f b)) i;
         answers = (M .answered ∙ ap (map answerWord) fingers ∙ sym (N .answered)) i;
       }
 

@@ -4,10 +4,12 @@ use Prim.Native.Nat.{ℕ}
 use mathlib.Core.Bool.{Bool}
 use mathlib.Core.List.{List, [], _∷_}
 use mathlib.Core.Logic.{_≢_}
-use mathlib.Core.Path.{_≡_, refl, ap}
+use mathlib.Core.Path.{_≡_, refl, sym, ap, _∙_}
 use native.Mathlib.Omega.{arith}
 use lib.ListN.{length, replicate}
 use Rattle.words.specs.Number.{number, bytes}
+use Rattle.words.specs.Front.{inFront}
+use Rattle.refusal.specs.declared.Refusal.{Refusal}
 use Rattle.record.specs.Format.{highLength, mostLabel}
 use Rattle.rule.specs.declared.Rule.{Rule}
 use Rattle.rule.specs.Rule.{encode, rule}
@@ -17,11 +19,15 @@ use Rattle.judge.specs.Judge.{cycleJudged}
 use Rattle.plan.specs.declared.Checked.{Checked}
 use Rattle.plan.specs.Check.{checked, rulesOf}
 use Rattle.forest.specs.Forest.{forest, weigh, one}
+use Rattle.forest.specs.declared.Walked.{Walked}
+use Rattle.forest.specs.Place.{placedForest}
+use Rattle.forest.specs.Letter.{letterOf}
+use Rattle.forest.specs.Reference.{answers, pathAfter}
 use Rattle.forest.specs.Outcome.{workWords, enoughWork}
-use Rattle.forest.specs.Walk.{cursorWords, enoughLent, cellAt}
+use Rattle.forest.specs.Walk.{nowhere, cursorWords, enoughLent, andLetters, lettersOf, otherAt, firstOther, cellAt, cellsIn, usedCells, headed, pathOf, stored, placeJudged, lettersJudged, begunFrom, cellsOf, placeAt, cellBytes, cellsBytes, padded, storedCursor, answerWord, answersBytes}
 use Rattle.demand.specs.Calls.{Call, walkOf}
 use Rattle.demand.specs.Demand.{Above}
-use Rattle.copy_answers.specs.Asked.{Enough, Asked, told, TellAlike}
+use Rattle.copy_answers.specs.Asked.{Enough, Asked, Told, told, TellAlike}
 use Rattle.copy_answers.proofs.Alike.{tell-alike}
 use Rattle.label_rows.specs.declared.LabelRow.{LabelRow}
 use Rattle.label_rows.specs.declared.Coverage.{Coverage}
@@ -96,9 +102,12 @@ same-forest = refl
 pub sample-alike : TellAlike walkOf fewBytes 4 manyBytes 5
 sample-alike = tell-alike fewBytes manyBytes 4 5 3 4 few-accepted many-accepted same-forest
 
--- lent enough, letters a and n, the first cursor above the forest: such calls can be asked
-abbrev call : Call
-call = record { work = replicate 400 0; letters = 97 ∷ 110 ∷ []; answers = replicate 8 0 }
+-- lent enough, the letters a and n, then a and a byte that is no letter, the first cursor above the forest: such calls can be asked
+abbrev asks : List ℕ → Call
+asks letters = record { work = replicate 400 0; letters = letters; answers = replicate 8 0 }
+
+abbrev calls : List Call
+calls = asks (97 ∷ 110 ∷ []) ∷ asks (97 ∷ 98 ∷ []) ∷ []
 
 abbrev above : List ℕ
 above = replicate 200 0
@@ -107,9 +116,17 @@ sample-above : Above above
 unfolding Above cellAt number
 sample-above = refl
 
-sample-asked : Asked 4 5 above above (call ∷ []) (call ∷ [])
+sample-asked : Asked 4 5 above above calls calls
 unfolding Enough enoughLent enoughWork workWords cursorWords
-sample-asked = Asked.more refl refl refl Asked.none
+sample-asked = Asked.more refl refl refl (Asked.more refl refl refl Asked.none)
 
-pub sample-told : told walkOf fewBytes above (call ∷ []) ≡ told walkOf manyBytes above (call ∷ [])
-sample-told = sample-alike above above (call ∷ []) (call ∷ []) sample-above sample-above sample-asked
+-- entry 97 is the only root; the second call is refused with 9 at 1, and has no answers
+abbrev pub client : Told
+client = record { replies = Walked.Accepted ∷ Walked.Refused (Refusal.Letter 1) ∷ []; answers = 97 ∷ nowhere ∷ [] }
+
+few-told : told walkOf fewBytes above calls ≡ client
+unfolding told walkOf copyBytes checked highLength mostLabel cycleFrom reaches within anyNamed inFront forest placedForest letterOf answers pathAfter enoughWork cursorWords enoughLent andLetters lettersOf otherAt firstOther cellAt cellsIn usedCells headed pathOf stored placeJudged lettersJudged begunFrom cellsOf placeAt cellBytes cellsBytes padded storedCursor answerWord answersBytes
+few-told = refl
+
+pub sample-told : (told walkOf fewBytes above calls ≡ client) × (told walkOf manyBytes above calls ≡ client)
+sample-told = (few-told, sym (sample-alike above above calls calls sample-above sample-above sample-asked) ∙ few-told)

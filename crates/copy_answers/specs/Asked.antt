@@ -1,12 +1,13 @@
 -- Document 02, Note 6: "Two plans whose visible forests agree must give the client equal answers to every string of letters from above the
 -- forest, although their bytes and refusals for size may differ."
 use Prim.Native.Nat.{ℕ}
-use mathlib.Core.Bool.{Bool, true}
+use mathlib.Core.Bool.{true}
 use mathlib.Core.List.{List, [], _∷_, map}
 use mathlib.Core.Path.{_≡_}
+use Rattle.forest.specs.declared.Walked.{Walked}
 use Rattle.forest.specs.Walk.{enoughLent}
 use Rattle.demand.specs.Calls.{Walk, Call, Left, lefts}
-use Rattle.demand.specs.Demand.{Above, isRefused, walkAnswers}
+use Rattle.demand.specs.Demand.{Above, walkAnswers}
 
 -- 8 doesn't turn the call down: enough is lent for n rules
 unfoldable pub Enough : ℕ → List ℕ → Call → Type 0
@@ -19,16 +20,16 @@ pub data Asked (n m : ℕ) (cursor other : List ℕ) : List Call → List Call �
   more : {c d : Call} {cs ds : List Call} → c .letters ≡ d .letters → Enough n cursor c → Enough m other d → Asked n m cursor other cs ds
       → Asked n m cursor other (c ∷ cs) (d ∷ ds)
 
--- what the client gets from a list of calls: which are refused, and the answers to the letters of the others
+-- what the client gets from a list of calls: what each answers, refused or not, and the words to the letters of those accepted
 pub record Told : Type 0 where
-  pub refused : List Bool
+  pub replies : List Walked
   pub answers : List ℕ
 
 unfoldable pub told : Walk → List ℕ → List ℕ → List Call → Told
-unfolding lefts walkAnswers isRefused
+unfolding lefts walkAnswers
 told w plan cursor calls =
     record {
-      refused = map (λ (l : Left). isRefused (l .answer)) (lefts w plan cursor calls);
+      replies = map (λ (l : Left). l .answer) (lefts w plan cursor calls);
       answers = walkAnswers calls (lefts w plan cursor calls);
     }
 
