@@ -12,13 +12,13 @@ use Rattle.reach.proofs.Places.{AtFirst, first-none, first-more}
 use Rattle.work_rows.specs.Rows.{rowLength, putField, ruleIn}
 use Rattle.work_rows.specs.Order.{orderEnd, orderIn}
 use Rattle.work_rows.proofs.Rows.{length-putField, field-other}
-use Rattle.count_capped.specs.Count.{capped, countLength}
-use Rattle.count_passes.specs.Tally.{Ready, Besides, Column}
+use Rattle.count_capped.specs.Count.{capped, cappedSum, countLength}
+use Rattle.count_passes.specs.Tally.{Ready, Readable, Besides, Column}
 use Rattle.count_passes.proofs.Column.{besides-none, besides-both, besides-wider, besides-put, besides-rule, other-row, count-put}
-use Rattle.count_passes.proofs.Ordered.{atPlace, place-below, named-below, before-named, at-all, order-besides, ready-besides}
-use Rattle.compare_tokens.specs.Nodes.{beforeOf, afterOf, cappedSum}
+use Rattle.count_passes.proofs.Ordered.{atPlace, place-below, place-readable, before-named, at-all, order-besides, ready-besides}
+use Rattle.compare_tokens.specs.Nodes.{beforeOf, afterOf}
 use Rattle.compare_tokens.proofs.Nodes.{before-capped, after-capped, before-same, after-same}
-use Rattle.compare_nodes.specs.Columns.{atBefore, atAfter, beforeAt, afterAt, beforeFrom, afterFrom, Nodable, NodesPut, NodesRecur, Noded}
+use Rattle.compare_nodes.specs.Columns.{atBefore, atAfter, beforeAt, afterAt, beforeFrom, afterFrom, NodesPut, NodesRecur, Noded}
 
 -- row k has both counts
 abbrev Counted : List ℕ → (ℕ → ℕ) → (ℕ → ℕ) → ℕ → Type 0
@@ -95,15 +95,8 @@ module _ {n i : ℕ} {s t : List ℕ} (g : Ready s n) (p : Passing n i s t) wher
   pub passing-room : orderEnd n ≤ length t
   passing-room = let l : length t ≡ length s = p .besides .beyond .same-length in omega (arith, g .room)
 
-  pub passing-nodable : {r j : ℕ} → r ≡ atPlace t n j → j < n → Nodable t r
-  passing-nodable {r} {j} e below =
-      let now : Ready t n = ready-besides (p .besides) (omega arith) g in
-      let inside : r < n = rw e (place-below now j below) in
-      let room : orderEnd n ≤ length t = passing-room in
-      record {
-        room = omega arith;
-        rows = record { named = λ k m. let l : k < n = named-below now r k inside m in omega arith };
-      }
+  pub passing-readable : {r j : ℕ} → r ≡ atPlace t n j → j < n → Readable t r
+  passing-readable {j = j} e below = rw e (place-readable (ready-besides (p .besides) (omega arith) g) j below)
 
   -- the row at the next place
   pub passing-more : {r : ℕ} {u : List ℕ} → i < n → r ≡ atPlace t n i → NodesPut r t u → Passing n (i + 1) s u

@@ -5,13 +5,12 @@ use mathlib.Core.Path.{_≡_}
 use mathlib.Core.List.{List}
 use lib.ListN.{length}
 use Rattle.rule.specs.declared.Rule.{Rule}
-use Rattle.rule.specs.Names.{Names}
 use Rattle.work_rows.specs.Rows.{rowLength, field, putField, ruleIn}
-use Rattle.count_capped.specs.Count.{capped, countLength}
+use Rattle.count_capped.specs.Count.{capped, cappedSum, countLength}
 use Rattle.count_passes.specs.Tally.{Besides, Column}
 use Rattle.spread_step.specs.Task.{parts, closeTask, noTask, taskBy}
 use Rattle.spread_stack.specs.Run.{meant}
-use Rattle.compare_tokens.specs.Nodes.{beforeIn, afterIn, byPart, beforeOf, afterOf, cappedSum}
+use Rattle.compare_tokens.specs.Nodes.{beforeIn, afterIn, byPart, beforeOf, afterOf}
 
 -- where a row keeps its two counts
 abbrev pub atBefore : ℕ
@@ -32,15 +31,6 @@ beforeFrom t x = beforeOf cappedSum (beforeAt t) (afterAt t) x
 
 abbrev pub afterFrom : List ℕ → Rule → ℕ
 afterFrom t x = afterOf cappedSum (beforeAt t) (afterAt t) x
-
--- the rows of the rules that x names lie in t
-pub record NamedRows (t : List ℕ) (x : Rule) : Type 0 where
-  pub named : (k : ℕ) → Names x k → rowLength * (k + 1) ≤ length t
-
--- row r and those that its rule names lie in t
-pub record Nodable (t : List ℕ) (r : ℕ) : Type 0 where
-  pub room : rowLength * (r + 1) ≤ length t
-  pub rows : NamedRows t (ruleIn t r)
 
 -- row r is given its counts
 pub record NodesPut (r : ℕ) (s t : List ℕ) : Type 0 where

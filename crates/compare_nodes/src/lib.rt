@@ -3,11 +3,10 @@ ghost use mathlib.Core.Path.{_≡_};
 ghost use Prim.Native.Nat.{_+_, _*_, _≤_};
 ghost use lib.ListN.{length};
 ghost use Rattle.work_rows.specs.Rows.{rowLength};
-ghost use Rattle.count_capped.specs.Count.{numberOf};
-ghost use Rattle.count_passes.specs.Tally.{Ready};
-ghost use Rattle.compare_tokens.specs.Nodes.{cappedSum};
+ghost use Rattle.count_capped.specs.Count.{cappedSum, numberOf};
+ghost use Rattle.count_passes.specs.Tally.{Ready, NamedRows, Readable};
 ghost use Rattle.compare_nodes.specs.Columns.{beforeAt, afterAt, beforeFrom, afterFrom, taskNodesIn};
-ghost use Rattle.compare_nodes.specs.Columns.{NamedRows, Nodable, NodesPut, Noded, Countable};
+ghost use Rattle.compare_nodes.specs.Columns.{NodesPut, Noded, Countable};
 use count_capped::Count;
 use rule::Rule;
 use spread_step::Step;
@@ -68,7 +67,7 @@ fn after_of(work: &[u8], rule: Rule) -> Count
 
 // Both counts of row r's rule, written to the row.
 fn nodes_row(work: &mut [u8], r: u16)
-    requires { ⌜ Nodable (now work) r ⌝ }
+    requires { ⌜ Readable (now work) r ⌝ }
     ensures { λ x. ⌜ NodesPut r (now (work .entry)) (now (work .exit)) ⌝ }
 {
     let rule = work_rows::rule_at(work, r);

@@ -2,7 +2,7 @@
 -- numbers, capped there. Assumes nothing.
 use Prim.Native.Nat.{ℕ, suc, _+_, _/_, _%_}
 use native.Mathlib.Omega.{arith}
-use mathlib.Core.Path.{_≡_, refl, sym, _∙_, ap, ap₂}
+use mathlib.Core.Path.{_≡_, refl, _∙_, ap, ap₂}
 use mathlib.Core.Bool.{true, false}
 use mathlib.Core.List.{List, [], _∷_, _++_}
 use lib.Dec.{eqb}
@@ -13,13 +13,13 @@ use Rattle.forest.specs.Expression.{Expression, rhs}
 use Rattle.forest.specs.Spelling.{inTokens}
 use Rattle.forest.specs.Good.{Sort, Good}
 use Rattle.forest.proofs.Cases.{by-bool}
-use Rattle.count_capped.specs.Count.{capped}
-use Rattle.count_capped.proofs.Capped.{capped-plus}
+use Rattle.count_capped.specs.Count.{capped, cappedSum}
+use Rattle.count_capped.proofs.Capped.{capped-sum, capped-more}
 use Rattle.count_passes.specs.Says.{whole, before, after, spoken}
 use Rattle.spread_step.specs.Task.{closeTask, noTask, parts, taskBy, taskSpoken}
 use Rattle.spread_stack.proofs.Turns.{is-close, is-part}
 use Rattle.compare_tokens.specs.Tokens.{closing, openings}
-use Rattle.compare_tokens.specs.Nodes.{partNodes, beforeIn, afterIn, byPart, taskNodes, beforeOf, afterOf, cappedSum}
+use Rattle.compare_tokens.specs.Nodes.{partNodes, beforeIn, afterIn, byPart, taskNodes, beforeOf, afterOf}
 use Rattle.compare_tokens.proofs.Skips.{openings-append}
 
 -- a node opened, and one closed
@@ -112,12 +112,6 @@ after-rhs r (Rule.Part a b c) E = by-part-nodes (E c) whole
 after-rhs r (Rule.Join b c) E = refl
 
 -- capping goes through sums
-pub capped-sum : (m n : ℕ) → capped (m + n) ≡ cappedSum (capped m) (capped n)
-capped-sum m n = sym (capped-plus m n)
-
-capped-one : (n : ℕ) → capped (1 + n) ≡ cappedSum 1 (capped n)
-capped-one n = omega arith
-
 capped-three : (k m n : ℕ) → capped (k + (m + n)) ≡ cappedSum (capped k) (cappedSum (capped m) (capped n))
 capped-three k m n = capped-sum k (m + n) ∙ ap (cappedSum (capped k)) (capped-sum m n)
 
@@ -127,16 +121,16 @@ module _ (b a : ℕ → ℕ) where
   unfolding beforeOf
   before-capped Rule.Empty = refl
   before-capped (Rule.Pair l r) = capped-sum (a l) (a r)
-  before-capped (Rule.Node x c) = capped-one (a c)
+  before-capped (Rule.Node x c) = capped-more 1 (a c)
   before-capped (Rule.Fill l r) = capped-three (b l) (a r) (a l)
-  before-capped (Rule.Part x l r) = capped-one (a l)
+  before-capped (Rule.Part x l r) = capped-more 1 (a l)
   before-capped (Rule.Join l r) = capped-sum (b l) (b r)
 
   pub after-capped : (x : Rule) → capped (afterOf _+_ b a x) ≡ afterOf cappedSum (λ k. capped (b k)) (λ k. capped (a k)) x
   unfolding afterOf
   after-capped Rule.Empty = refl
   after-capped (Rule.Pair l r) = capped-sum (a l) (a r)
-  after-capped (Rule.Node x c) = capped-one (a c)
+  after-capped (Rule.Node x c) = capped-more 1 (a c)
   after-capped (Rule.Fill l r) = capped-three (b l) (a r) (a l)
   after-capped (Rule.Part x l r) = refl
   after-capped (Rule.Join l r) = capped-sum (a r) (a l)

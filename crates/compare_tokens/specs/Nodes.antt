@@ -4,7 +4,6 @@ use mathlib.Core.Bool.{cond}
 use lib.Dec.{eqb}
 use Rattle.rule.specs.declared.Rule.{Rule}
 use Rattle.forest.specs.Expression.{Expression}
-use Rattle.count_capped.specs.Count.{capped}
 use Rattle.count_passes.specs.Says.{whole, before, after}
 use Rattle.spread_step.specs.Task.{taskBy}
 
@@ -48,7 +47,3 @@ afterOf plus b a (Rule.Node x c) = plus 1 (a c)
 afterOf plus b a (Rule.Fill l r) = plus (b l) (plus (a r) (a l))
 afterOf plus b a (Rule.Part x l r) = a r
 afterOf plus b a (Rule.Join l r) = plus (a r) (a l)
-
--- a sum that stops at 2^64
-abbrev pub cappedSum : ℕ → ℕ → ℕ
-cappedSum m n = capped (m + n)

@@ -7,6 +7,10 @@ use Rattle.count_capped.specs.declared.Count.{Count}
 abbrev pub capped : ℕ → ℕ
 capped n = min n countLimit
 
+-- a sum that stops there
+abbrev pub cappedSum : ℕ → ℕ → ℕ
+cappedSum m n = capped (m + n)
+
 -- the number that a count stands for
 abbrev pub numberOf : Count → ℕ
 numberOf c = c .low + countLimit * c .over

@@ -1,4 +1,5 @@
 pub mod Meaning
 pub mod Column
+pub mod Named
 pub mod Ordered
 pub mod Work

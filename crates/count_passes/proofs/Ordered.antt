@@ -14,7 +14,7 @@ use Rattle.work_rows.specs.Rows.{ownEnd, ruleIn, firstRules}
 use Rattle.work_rows.specs.Order.{orderIn}
 use Rattle.work_rows.proofs.Kept.{first-length, first-rule, first-same}
 use Rattle.work_rows.proofs.Order.{order-kept}
-use Rattle.count_passes.specs.Tally.{Ready, Besides}
+use Rattle.count_passes.specs.Tally.{Ready, Readable, Besides}
 use Rattle.count_passes.proofs.Column.{besides-rule}
 
 -- the rule at a place
@@ -33,6 +33,16 @@ module _ {t : List ℕ} {n : ℕ} (a : Ready t n) where
       let long : length (firstRules t n) ≡ n = first-length t n in
       let l : k < length (firstRules t n) = ltb→lt k (length (firstRules t n)) (every-named (λ x. ltb x (length (firstRules t n))) (rw (first-rule t n r below) m) (a .ranged r (omega arith))) in
       omega arith
+
+  -- so its row can be read, with theirs
+  pub place-readable : (i : ℕ) → i < n → Readable t (atPlace t n i)
+  place-readable i below =
+      let r : ℕ = atPlace t n i in
+      let inside : r < n = place-below i below in
+      record {
+        room = omega (arith, a .room);
+        rows = record { named = λ k m. let l : k < n = named-below r k inside m in omega (arith, a .room) };
+      }
 
   -- what holds at the first i places holds of the rules that the next one names, and at all places of all rules
   pub before-named : (P : ℕ → Type 0) (i : ℕ) → i < n → AtFirst (orderIn t n) i P → (k : ℕ) → Names (ruleIn t (atPlace t n i)) k → P k

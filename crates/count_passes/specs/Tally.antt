@@ -1,8 +1,10 @@
 -- What a pass over the rows needs, and what it leaves: a column of counts, and everything else as it was.
-use Prim.Native.Nat.{ℕ, _+_, _≤_, _<_}
+use Prim.Native.Nat.{ℕ, _+_, _*_, _≤_, _<_}
 use mathlib.Core.Path.{_≡_}
 use mathlib.Core.List.{List}
 use lib.ListN.{length}
+use Rattle.rule.specs.declared.Rule.{Rule}
+use Rattle.rule.specs.Names.{Names}
 use Rattle.reach.specs.Order.{Ranged, Orders}
 use Rattle.forest.specs.Expression.{Expression, rhs}
 use Rattle.work_rows.specs.Rows.{rowLength, field, ruleIn, firstRules, Beyond}
@@ -14,6 +16,15 @@ pub record Ready (t : List ℕ) (n : ℕ) : Type 0 where
   pub room : orderEnd n ≤ length t
   pub ranged : Ranged (firstRules t n)
   pub order : Orders (firstRules t n) (orderIn t n)
+
+-- the rows of the rules that x names lie in t
+pub record NamedRows (t : List ℕ) (x : Rule) : Type 0 where
+  pub named : (k : ℕ) → Names x k → rowLength * (k + 1) ≤ length t
+
+-- row r and those that its rule names lie in t
+pub record Readable (t : List ℕ) (r : ℕ) : Type 0 where
+  pub room : rowLength * (r + 1) ≤ length t
+  pub rows : NamedRows t (ruleIn t r)
 
 -- rows below i have f at offset o, capped
 abbrev pub Column : List ℕ → ℕ → ℕ → (ℕ → ℕ) → Type 0

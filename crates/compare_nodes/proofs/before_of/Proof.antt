@@ -2,7 +2,7 @@
 use borrow.Author.Needs.{needs}
 use Rattle.rule.specs.Names.{pair-one, pair-two, node-one, fill-one, fill-two, part-one, join-one, join-two}
 use Rattle.compare_tokens.specs.Nodes.{beforeOf}
-use Rattle.compare_nodes.proofs.Rules.{named-row, named-count}
+use Rattle.count_passes.proofs.Named.{named-row, named-count}
 use native.Mathlib.Omega.{arith}
 use Rattle.compare_nodes.proofs.before_of.Statement.{statement}
 use Rattle.compare_nodes.proofs.before_of.Tie as tie

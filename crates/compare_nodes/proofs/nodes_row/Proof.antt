@@ -1,7 +1,7 @@
 -- Both counts are read off the rows that the rule names, then written. Assumes nothing.
 use borrow.Author.Needs.{needs}
 use mathlib.Core.Path.{sym}
-use Rattle.compare_nodes.proofs.Rules.{at-rule}
+use Rattle.count_passes.proofs.Named.{at-rule}
 use Rattle.compare_nodes.proofs.Counting.{nodes-put}
 use Rattle.compare_nodes.proofs.nodes_row.Statement.{statement}
 use Rattle.compare_nodes.proofs.nodes_row.Tie as tie

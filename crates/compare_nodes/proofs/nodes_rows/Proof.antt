@@ -1,6 +1,6 @@
 -- The invariant: the rows at the first i places have their counts (`Passing`). Assumes nothing.
 use Prim.Native.Nat.{_-_}
-use Rattle.compare_nodes.proofs.Counting.{Passing, passing-start, passing-room, passing-nodable, passing-more, passing-end}
+use Rattle.compare_nodes.proofs.Counting.{Passing, passing-start, passing-room, passing-readable, passing-more, passing-end}
 use native.Mathlib.Omega.{arith}
 use Rattle.compare_nodes.proofs.nodes_rows.Statement.{statement}
 use Rattle.compare_nodes.proofs.nodes_rows.Tie as tie
@@ -18,7 +18,7 @@ order-at-requires : tie.Need-order-at-requires Inv-loop μ-loop
 order-at-requires c κs = (passing-room (c .before .before .before .before .pre) (c .before .before .loop .inv), omega arith)
 
 nodes-row-requires : tie.Need-nodes-row-requires Inv-loop μ-loop
-nodes-row-requires c κs = passing-nodable (c .before .before .before .before .before .before .pre) (c .before .before .before .before .loop .inv) (c .before .order-at .ensures) (omega arith)
+nodes-row-requires c κs = passing-readable (c .before .before .before .before .before .before .pre) (c .before .before .before .before .loop .inv) (c .before .order-at .ensures) (omega arith)
 
 add-i : tie.Need-add-i Inv-loop μ-loop
 add-i c = omega arith

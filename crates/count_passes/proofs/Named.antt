@@ -8,7 +8,7 @@ use Rattle.rule.specs.declared.Rule.{Rule}
 use Rattle.rule.specs.Names.{Names}
 use Rattle.work_rows.specs.Rows.{rowLength}
 use Rattle.count_capped.specs.Count.{countLength}
-use Rattle.compare_nodes.specs.Columns.{NamedRows}
+use Rattle.count_passes.specs.Tally.{NamedRows}
 
 pub at-rule : {t : List ℕ} {x y : Rule} → x ≡ y → NamedRows t x → NamedRows t y
 at-rule q h = rw q at h
