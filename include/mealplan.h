@@ -213,7 +213,7 @@ uint32_t plan_compare(const uint8_t *plan, size_t plan_len,
 struct plan_row {
     uint32_t lowest, highest;
     uint16_t class_;
-    uint16_t reserved;
+    uint16_t grams;
 };
 
 /* Limits of a row. */

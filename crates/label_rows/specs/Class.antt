@@ -16,7 +16,7 @@ covers r x = leb (r .lowest) x && leb x (r .highest)
 
 -- what stands for a row where there is none
 abbrev pub noRow : LabelRow
-noRow = record { lowest = 0; highest = 0; class = 0; reserved = 0 }
+noRow = record { lowest = 0; highest = 0; class = 0; grams = 0 }
 
 -- the row of a label: the first that covers it
 unfoldable pub rowOf : List LabelRow → ℕ → LabelRow

@@ -8,13 +8,13 @@ ghost use Rattle.rule.specs.Rule.{largestLabel};
 ghost use Rattle.label_rows.specs.Coverage.{invalid, extended, ended, coverage};
 ghost use Rattle.label_rows.specs.Class.{rowOf, labelJudged, classed};
 
-// A row of the list: the labels from the lowest to the highest have the class. The last field is never looked at.
+// A row of the list: the labels from the lowest to the highest have the class. No answer depends on the last field, the grams per entry.
 #[repr(C)]
 pub struct LabelRow {
     pub lowest: u32,
     pub highest: u32,
     pub class: u16,
-    pub reserved: u16,
+    pub grams: u16,
 }
 
 // What the check of a list comes to: its rows cover every label once, or why not.

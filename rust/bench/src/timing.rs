@@ -185,7 +185,7 @@ pub fn class(count: usize) -> Times {
     let highest = |i: u32| if i as usize + 1 == count { LAST_LABEL } else { width * (i + 1) - 1 };
     let row = |i: u32| Row { lowest: width * i, highest: highest(i), class: (i % 4) as u16 };
     let rows: Vec<Row> = (0..count as u32).map(row).collect();
-    let lent = |row: &Row| LabelRow { lowest: row.lowest, highest: row.highest, class: row.class, reserved: 0 };
+    let lent = |row: &Row| LabelRow { lowest: row.lowest, highest: row.highest, class: row.class, grams: 0 };
     let lent: Vec<LabelRow> = rows.iter().map(lent).collect();
     let expected = Some(rows[count - 1].class);
     let times = 100_000 / count + 1;

@@ -11,14 +11,14 @@ pub struct LabelRow {
     pub highest: Label,
     /// Their class, 0 to 3.
     pub class: u16,
-    /// Isn't looked at.
-    pub reserved: u16,
+    /// Grams per entry. They aren't looked at.
+    pub grams: u16,
 }
 
 impl LabelRow {
     /// The row that gives these labels a class.
     pub const fn new(lowest: Label, highest: Label, class: u16) -> LabelRow {
-        LabelRow { lowest, highest, class, reserved: 0 }
+        LabelRow { lowest, highest, class, grams: 0 }
     }
 }
 

@@ -142,7 +142,7 @@ impl Call {
 /// A row as it is lent; its last field isn't looked at, so it holds anything.
 fn lent(i: usize, row: &Row) -> LabelRow {
     let Row { lowest, highest, class } = *row;
-    LabelRow { lowest, highest, class, reserved: (i as u16).wrapping_mul(40_503) ^ 0x5A5A }
+    LabelRow { lowest, highest, class, grams: (i as u16).wrapping_mul(40_503) ^ 0x5A5A }
 }
 
 /// The slices of a call as they are lent.

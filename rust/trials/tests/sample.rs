@@ -217,7 +217,7 @@ fn two_places_of_the_sample_plan() {
 
 /// A list in which the labels of the sample plan, or of the wide one, are of these classes: that of a, of b and of c.
 fn list([a, b, c]: [u32; 3], classes: [u16; 3]) -> Vec<LabelRow> {
-    let row = |lowest, highest, class| LabelRow { lowest, highest, class, reserved: 7 };
+    let row = |lowest, highest, class| LabelRow { lowest, highest, class, grams: 7 };
     vec![row(0, a, classes[0]), row(a + 1, b, classes[1]), row(b + 1, c, classes[2]), row(c + 1, LAST_LABEL, 3)]
 }
 

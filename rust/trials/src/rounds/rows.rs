@@ -171,7 +171,7 @@ fn ask(trial: &mut Trial, rows: &[Row], label: u32, refused: Option<(&str, Refus
     // The last field is never looked at.
     let lent = |row: &Row| {
         let Row { lowest, highest, class } = *row;
-        LabelRow { lowest, highest, class, reserved: trial.random.word() }
+        LabelRow { lowest, highest, class, grams: trial.random.word() }
     };
     let lent: Vec<LabelRow> = rows.iter().map(lent).collect();
     let before = lent.clone();

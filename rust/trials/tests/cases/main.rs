@@ -234,7 +234,7 @@ fn long(text: &str) -> Result<u32, String> {
 fn row([lowest, highest, class]: &[usize; 3]) -> Result<LabelRow, String> {
     let told = |number: &usize| u32::try_from(*number).map_err(|_| format!("{number} is no label"));
     let class = u16::try_from(*class).map_err(|_| format!("{class} is no word"))?;
-    Ok(LabelRow { lowest: told(lowest)?, highest: told(highest)?, class, reserved: 65_535 })
+    Ok(LabelRow { lowest: told(lowest)?, highest: told(highest)?, class, grams: 65_535 })
 }
 
 /// Numbers as 16-bit words.
