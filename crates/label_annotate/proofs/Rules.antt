@@ -25,7 +25,7 @@ module _ (R : List Rule) (rows : List LabelRow) (n : ℕ) (s : List ℕ) (held :
   unfolding Holds
   sound-annotatable rank sound long whole room =
       record {
-        sound = whole;
+        sound = λ some. whole;
         room = room;
         labels = λ r below. subst (λ (x : Rule). T (labelled x)) (sym (held r below)) (sound .labels r (omega arith));
       }

@@ -1,4 +1,4 @@
--- Document 02, Note 5: the class that a list of rows gives a label.
+-- Document 02, Notes 5 and 8: the class and the grams that a list of rows gives a label.
 use Prim.Native.Nat.{ℕ}
 use mathlib.Core.Bool.{Bool, cond, _&&_}
 use mathlib.Core.List.{List, [], _∷_}
@@ -22,6 +22,11 @@ noRow = record { lowest = 0; highest = 0; class = 0; grams = 0 }
 unfoldable pub rowOf : List LabelRow → ℕ → LabelRow
 rowOf [] x = noRow
 rowOf (r ∷ rs) x = cond (covers r x) r (rowOf rs x)
+
+-- "grams per entry": those of a label
+unfoldable pub gramsOf : List LabelRow → ℕ → ℕ
+unfolding rowOf
+gramsOf rows x = rowOf rows x .grams
 
 -- "a label above 16,777,215 is then refused with 4 at position 0"
 unfoldable pub labelJudged : Coverage → ℕ → Coverage
