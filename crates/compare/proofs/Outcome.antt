@@ -137,4 +137,4 @@ module _ (s work first second : List ℕ) (budget : ℕ) where
         → Within 0 (workLength * n) work t → u ≡ cleared (wordLength * workWords n) t
         → (x ≡ compare s work first second budget) × (u ≡ comparedWork s work first second)
     unfolding compare comparedFrom comparedWork
-    finished {t = t} e a w p = (rw (q, e) a, p ∙ work-cleared (enoughCompared work first second) s work n start q e t w)
+    finished {t = t} e a w p = (rw (q, e) a, p ∙ work-cleared (enoughCompared work first second) (checked s) work n start q e t w)

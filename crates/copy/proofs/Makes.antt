@@ -13,7 +13,7 @@ use Rattle.rule.specs.Sound.{Sound, Closed}
 use Rattle.reach.specs.Order.{rank}
 use Rattle.plan.specs.declared.Checked.{Checked}
 use Rattle.plan.specs.declared.Written.{Written}
-use Rattle.plan.specs.Check.{rulesOf, mostRules}
+use Rattle.plan.specs.Check.{checked, rulesOf, mostRules}
 use Rattle.plan.proofs.Sound.{Plan, checked-plan}
 use Rattle.forest.specs.Outcome.{workWords, cleared}
 use Rattle.label_rows.specs.declared.LabelRow.{LabelRow}
@@ -21,7 +21,7 @@ use Rattle.work_rows.specs.Rows.{workLength, ruleIn, firstRules, Within}
 use Rattle.work_rows.proofs.Rows.{within-both, within-wider}
 use Rattle.work_rows.proofs.Work.{enough-room, work-least, cleared-same, beyond-work}
 use Rattle.work_load.specs.Prepared.{Arrangeable, Arranged, Prepared}
-use Rattle.work_load.proofs.Prepares.{loaded}
+use Rattle.work_load.proofs.Prepares.{loaded, itself}
 use Rattle.count_passes.proofs.Column.{besides-rule}
 use Rattle.count_passes.proofs.Ordered.{ready-besides, rules-besides}
 use Rattle.count_passes.proofs.Work.{Held, held}
@@ -50,7 +50,7 @@ module _ {s : List ℕ} {rows : List LabelRow} {n start : ℕ} {work out : List 
   -- the rules are in the rows
   module _ {t : List ℕ} (a : Arranged (rulesOf s) n work t) where
     rows-held : Held s n start t
-    rows-held = held (loaded s work n start (K .accepted) (K .enough) a) refl
+    rows-held = held (loaded s work (checked s) n start (K .accepted) (itself s) (K .enough) a) refl
 
     pub annotatable : Annotatable rows n t
     annotatable =

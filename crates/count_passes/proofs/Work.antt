@@ -30,7 +30,7 @@ pub record Held (s : List ℕ) (n start : ℕ) (t : List ℕ) : Type 0 where
   pub room : workLength * n ≤ length t
   pub words : wordLength * workWords n ≤ length t
 
-pub held : {s u t : List ℕ} {x : Checked} {n start : ℕ} → Prepared s u t x → x ≡ Checked.Accepted n start → Held s n start t
+pub held : {s u t : List ℕ} {j x : Checked} {n start : ℕ} → Prepared s u t j x → x ≡ Checked.Accepted n start → Held s n start t
 unfolding Holds
 held {s} {u} {t} {n = n} {start = start} b e =
     let loads : Loads s u t n start = b .loaded n start e in

@@ -5,7 +5,7 @@ use mathlib.Core.List.{List}
 use Rattle.refusal.specs.declared.Refusal.{Refusal}
 use Rattle.plan.specs.declared.Checked.{Checked}
 use Rattle.record.specs.Record.{wordLength}
-use Rattle.plan.specs.Check.{rulesOf}
+use Rattle.plan.specs.Check.{checked, rulesOf}
 use Rattle.forest.specs.declared.Measured.{Measured}
 use Rattle.forest.specs.Expression.{expression}
 use Rattle.forest.specs.Forest.{forest}
@@ -25,9 +25,9 @@ Outcome s work m t = (m ≡ measured s work) × (t ≡ measuredWork s work)
 pub countable : {s t : List ℕ} {n start : ℕ} → Held s n start t → Countable t n start
 countable h = record { passable = record { ready = h .ready; room = h .room }; below = h .below }
 
-module _ {s work t : List ℕ} {x : Checked} (b : Prepared s work t x) where
+module _ {s work t : List ℕ} {x : Checked} (b : Prepared s work t (checked s) x) where
   pub refused : {r : Refusal} → x ≡ Checked.Refused r → Outcome s work (Measured.Refused r) t
-  unfolding measured measuredFrom
+  unfolding measured measuredFrom measuredWork
   refused {r} e = (ap (measuredFrom (rulesOf s)) (sym e ∙ b .answer), b .refused r e)
 
   pub finished : {n start : ℕ} {m : Measured} {u v : List ℕ} → x ≡ Checked.Accepted n start → Answered n start m t u → v ≡ cleared (wordLength * workWords n) u
@@ -37,5 +37,5 @@ module _ {s work t : List ℕ} {x : Checked} (b : Prepared s work t x) where
       let h : Held s n start t = held b e in
       let l : Loads s work t n start = b .loaded n start e in (
         a .answer (expression (rulesOf s)) (h .unfolds) (h .closed) ∙ ap (measuredFrom (rulesOf s)) (sym e ∙ b .answer),
-        p ∙ work-cleared (λ k. enoughWork k work) s work n start (l .accepted) (l .enough) u (within-both (l .arranged .within) (a .within)),
+        p ∙ work-cleared (λ k. enoughWork k work) (checked s) work n start (l .accepted) (l .enough) u (within-both (l .arranged .within) (a .within)),
       )

@@ -39,9 +39,9 @@ answerable {n = n} h =
       room = h .room;
     }
 
-module _ {s work t : List ℕ} {x : Checked} (b : Prepared s work t x) (out : List ℕ) where
+module _ {s work t : List ℕ} {x : Checked} (b : Prepared s work t (checked s) x) (out : List ℕ) where
   pub refused : {r : Refusal} → x ≡ Checked.Refused r → Outcome s work out (Written.Refused r) t out
-  unfolding spread spreadFrom spreadOutput outputAfter
+  unfolding spread spreadFrom spreadOutput outputAfter measuredWork
   refused {r} e =
       let answer : Written.Refused r ≡ spread s work out = ap (spreadFrom (formatOf s) (rulesOf s) out) (sym e ∙ b .answer) in
       (answer, b .refused r e, ap (λ (y : Written). outputAfter y (textOf s (checked s)) out) answer)
@@ -67,7 +67,7 @@ module _ {s work t : List ℕ} {x : Checked} (b : Prepared s work t x) (out : Li
         let l : Loads s work t n start = b .loaded n start e in
         let answer : y ≡ spread s work out = a .answer ∙ ap (λ (R : List Rule). textRoomed (formatOf s) (forest R start) out) (h .rules) ∙ sym spread-is in (
           answer,
-          p ∙ work-cleared (λ k. enoughWork k work) s work n start (l .accepted) (l .enough) u (within-both (l .arranged .within) (a .within)),
+          p ∙ work-cleared (λ k. enoughWork k work) (checked s) work n start (l .accepted) (l .enough) u (within-both (l .arranged .within) (a .within)),
           a .writes
               ∙ ap (λ (z : Written). outputAfter z (text (formatOf s) (forest (firstRules t n) start)) out) answer
               ∙ ap (λ (R : List Rule). outputAfter (spread s work out) (text (formatOf s) (forest R start)) out) (h .rules)

@@ -49,7 +49,7 @@ module _ (s work cursor letters given : List ℕ) where
 
     left-work : enoughLent work cursor letters given n ≡ true → {t : List ℕ} → Within 0 (workLength * n) work t → cleared (wordLength * workWords n) t ≡ walkedWork s work cursor letters given
     unfolding walkedWork
-    left-work e {t} w = work-cleared (enoughLent work cursor letters given) s work n start q e t w
+    left-work e {t} w = work-cleared (enoughLent work cursor letters given) (checked s) work n start q e t w
 
     -- past 8
     pub finished : {x : Walked} {t u cursor′ given′ : List ℕ} → enoughLent work cursor letters given n ≡ true

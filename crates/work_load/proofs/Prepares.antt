@@ -1,5 +1,5 @@
--- An accepted plan's rules in the rows and an order of them behind these, by number or by a search; and what load_plan answers and leaves, by
--- the ways through its code: refused by check, refused for the work, or loaded.
+-- An accepted plan's rules in the rows and an order of them behind these, by number or by a search; and what loading answers and leaves, by
+-- the ways through its code: refused before, refused for the work, or loaded.
 -- Assumes nothing.
 use Prim.Native.Nat.{ℕ, _+_, _-_, _*_, _≤_}
 use native.Mathlib.Omega.{arith}
@@ -16,7 +16,7 @@ use Rattle.rule.specs.Rule.{rulesIn}
 use Rattle.plan.specs.declared.Checked.{Checked}
 use Rattle.plan.specs.Check.{checked, rulesOf, formatOf, mostRules, trailerLength}
 use Rattle.plan.proofs.Sound.{Plan, checked-plan, plan-long, plan-first, plan-decodes}
-use Rattle.forest.specs.Outcome.{enoughWork, workJudged, measuredWork}
+use Rattle.forest.specs.Outcome.{enoughWork, workJudged, workAfter}
 use Rattle.reach.specs.Order.{numbersFrom, lowerBelow}
 use Rattle.reach.proofs.Orders.{lower-orders, lower-test}
 use Rattle.reach_order.specs.Room.{rulesAt, Ready}
@@ -26,7 +26,7 @@ use Rattle.work_rows.specs.Rows.{workLength, rowLength, Holds, Within, Formed, 
 use Rattle.work_rows.specs.Order.{orderAt, orderEnd, orderIn}
 use Rattle.work_rows.proofs.Rows.{within-both, within-wider, within-rule}
 use Rattle.work_rows.proofs.Work.{work-refused, work-lent, rules-first, beyond-work}
-use Rattle.work_load.specs.Prepared.{Arrangeable, Ordered, Arranged, Loads, Prepared}
+use Rattle.work_load.specs.Prepared.{Arrangeable, Ordered, Arranged, Loads, Judged, Prepared}
 
 -- ---- the order by a search, in the work behind the rows
 module _ {s : List ℕ} {n : ℕ} {work : List ℕ} (A : Arrangeable s n work) where
@@ -88,30 +88,34 @@ module _ {s : List ℕ} {n : ℕ} {work : List ℕ} (A : Arrangeable s n work) w
         }
 
 -- what holds of an answer, by its case
-unfoldable ByAnswer : List ℕ → List ℕ → List ℕ → Checked → Type 0
-ByAnswer s work t (Checked.Accepted n start) = Loads s work t n start
-ByAnswer s work t (Checked.Refused r) = t ≡ measuredWork s work
+unfoldable ByAnswer : List ℕ → List ℕ → List ℕ → Checked → Checked → Type 0
+ByAnswer s work t j (Checked.Accepted n start) = (j ≡ Checked.Accepted n start) × Loads s work t n start
+ByAnswer s work t j (Checked.Refused r) = t ≡ workAfter (λ m. enoughWork m work) j work
 
-module _ (s work t : List ℕ) where
-  prepared : (x : Checked) → x ≡ workJudged work (checked s) → ByAnswer s work t x → Prepared s work t x
+module _ (s work t : List ℕ) (j : Checked) where
+  prepared : (x : Checked) → x ≡ workJudged work j → ByAnswer s work t j x → Prepared s work t j x
   unfolding ByAnswer
   prepared x e l =
       record {
         answer = e;
-        loaded = λ n start q. subst (λ (y : Checked). ByAnswer s work t y) q l;
-        refused = λ r q. subst (λ (y : Checked). ByAnswer s work t y) q l;
+        judged = λ n start q. subst (λ (y : Checked). ByAnswer s work t j y) q l .0;
+        loaded = λ n start q. subst (λ (y : Checked). ByAnswer s work t j y) q l .1;
+        refused = λ r q. subst (λ (y : Checked). ByAnswer s work t j y) q l;
       }
 
-module _ (s work : List ℕ) where
-  pub refused : (r : Refusal) → checked s ≡ Checked.Refused r → Prepared s work work (Checked.Refused r)
-  unfolding workJudged ByAnswer measuredWork
-  refused r q = prepared s work work (Checked.Refused r) (rw q) (work-refused (λ m. enoughWork m work) s work r q)
+module _ (s work : List ℕ) (j : Checked) where
+  pub refused : (r : Refusal) → j ≡ Checked.Refused r → Prepared s work work j (Checked.Refused r)
+  unfolding workJudged ByAnswer
+  refused r q = prepared s work work j (Checked.Refused r) (rw q) (work-refused (λ m. enoughWork m work) j work r q)
 
-  module _ (n start : ℕ) (q : checked s ≡ Checked.Accepted n start) where
-    pub lent : enoughWork n work ≡ false → Prepared s work work (Checked.Refused Refusal.Lent)
-    unfolding workJudged ByAnswer measuredWork
-    lent e = prepared s work work (Checked.Refused Refusal.Lent) (rw (q, e)) (work-lent (λ m. enoughWork m work) s work n start q e)
-
-    pub loaded : {t : List ℕ} → enoughWork n work ≡ true → Arranged (rulesOf s) n work t → Prepared s work t (Checked.Accepted n start)
+  module _ (n start : ℕ) (q : j ≡ Checked.Accepted n start) where
+    pub lent : enoughWork n work ≡ false → Prepared s work work j (Checked.Refused Refusal.Lent)
     unfolding workJudged ByAnswer
-    loaded {t} e l = prepared s work t (Checked.Accepted n start) (rw (q, e)) (record { accepted = q; enough = e; arranged = l })
+    lent e = prepared s work work j (Checked.Refused Refusal.Lent) (rw (q, e)) (work-lent (λ m. enoughWork m work) j work n start q e)
+
+    pub loaded : {t : List ℕ} → Judged s j → enoughWork n work ≡ true → Arranged (rulesOf s) n work t → Prepared s work t j (Checked.Accepted n start)
+    unfolding workJudged ByAnswer
+    loaded {t} a e l = prepared s work t j (Checked.Accepted n start) (rw (q, e)) (q, record { accepted = a .accepts n start q; enough = e; arranged = l })
+
+pub itself : (s : List ℕ) → Judged s (checked s)
+itself s = record { accepts = λ n start e. e }

@@ -1,5 +1,5 @@
 -- What every operation that is lent work begins with: the rules of an accepted plan with enough work are in the rows, and an order of them
--- behind; and what load_plan's answer x says of it. Refused, the work is as measure and spread leave it.
+-- behind; and what the answer x of loading says of it, behind what was judged. Refused, the work is as measure and spread leave it.
 use Prim.Native.Nat.{ℕ, _*_, _≤_}
 use mathlib.Core.Path.{_≡_}
 use mathlib.Core.Bool.{true}
@@ -9,7 +9,7 @@ use Rattle.refusal.specs.declared.Refusal.{Refusal}
 use Rattle.rule.specs.declared.Rule.{Rule}
 use Rattle.plan.specs.declared.Checked.{Checked}
 use Rattle.plan.specs.Check.{checked, rulesOf}
-use Rattle.forest.specs.Outcome.{enoughWork, workJudged, measuredWork}
+use Rattle.forest.specs.Outcome.{enoughWork, workJudged, workAfter}
 use Rattle.reach.specs.Order.{Orders}
 use Rattle.work_rows.specs.Rows.{workLength, rowLength, Holds, Within}
 use Rattle.work_rows.specs.Order.{orderEnd, orderIn}
@@ -37,7 +37,12 @@ pub record Loads (s work t : List ℕ) (n start : ℕ) : Type 0 where
   pub enough : enoughWork n work ≡ true
   pub arranged : Arranged (rulesOf s) n work t
 
-pub record Prepared (s work t : List ℕ) (x : Checked) : Type 0 where
-  pub answer : x ≡ workJudged work (checked s)
+-- where a plan s was judged as j, check accepts it too
+pub record Judged (s : List ℕ) (j : Checked) : Type 0 where
+  pub accepts : (n start : ℕ) → j ≡ Checked.Accepted n start → checked s ≡ Checked.Accepted n start
+
+pub record Prepared (s work t : List ℕ) (j x : Checked) : Type 0 where
+  pub answer : x ≡ workJudged work j
+  pub judged : (n start : ℕ) → x ≡ Checked.Accepted n start → j ≡ Checked.Accepted n start
   pub loaded : (n start : ℕ) → x ≡ Checked.Accepted n start → Loads s work t n start
-  pub refused : (r : Refusal) → x ≡ Checked.Refused r → t ≡ measuredWork s work
+  pub refused : (r : Refusal) → x ≡ Checked.Refused r → t ≡ workAfter (λ n. enoughWork n work) j work

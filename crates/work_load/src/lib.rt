@@ -5,9 +5,9 @@ use plan::Trailer;
 use refusal::Refusal;
 use work_rows::Row;
 ghost use mathlib.Core.Path.{_≡_};
-ghost use Rattle.plan.specs.Check.{rulesOf};
+ghost use Rattle.plan.specs.Check.{checked, rulesOf};
 ghost use Rattle.reach.specs.Order.{lowerBelow};
-ghost use Rattle.work_load.specs.Prepared.{Arrangeable, Ordered, Arranged, Prepared};
+ghost use Rattle.work_load.specs.Prepared.{Arrangeable, Ordered, Arranged, Judged, Prepared};
 
 // An order of an accepted plan's rules, found by a search: it ends behind the rows and a word a rule.
 fn search_order(plan: &[u8], work: &mut [u8], n: u16)
@@ -41,11 +41,12 @@ pub fn arrange(plan: &[u8], work: &mut [u8], n: u16)
     order_rules(plan, work, n, lower);
 }
 
-// n and start of a plan whose rules are then in the rows of work, with their order behind them, or why it is turned down.
-pub fn load_plan(plan: &[u8], work: &mut [u8]) -> Checked
-    ensures { λ x. ⌜ Prepared (now (plan .entry)) (now (work .entry)) (now (work .exit)) x ⌝ }
+// n and start of a plan that was judged, whose rules are then in the rows of work, with their order behind them, or why it is turned down.
+pub fn load_judged(plan: &[u8], judged: Checked, work: &mut [u8]) -> Checked
+    requires { ⌜ Judged (now plan) judged ⌝ }
+    ensures { λ x. ⌜ Prepared (now (plan .entry)) (now (work .entry)) (now (work .exit)) judged x ⌝ }
 {
-    match plan::check(plan) {
+    match judged {
         Checked::Accepted { n, start } => {
             if !work_rows::enough_work(work, n) {
                 return Checked::Refused(Refusal::Lent);
@@ -55,4 +56,14 @@ pub fn load_plan(plan: &[u8], work: &mut [u8]) -> Checked
         }
         Checked::Refused(refusal) => Checked::Refused(refusal),
     }
+}
+
+// The same behind the plan's own check.
+pub fn load_plan(plan: &[u8], work: &mut [u8]) -> Checked
+    ensures { λ x.
+        let plan = now (plan .entry) in
+        ⌜ Prepared plan (now (work .entry)) (now (work .exit)) (checked plan) x ⌝ }
+{
+    let judged = plan::check(plan);
+    load_judged(plan, judged, work)
 }

@@ -36,18 +36,18 @@ pub cleared-same : {m : ℕ} {s t : List ℕ} → Within 0 m s t → cleared m t
 unfolding cleared
 cleared-same {m} w = ap (λ (l : List ℕ). replicate m 0 ++ l) (w .same-after)
 
--- the work at exit; enough is the operation's test of 8
-module _ (enough : ℕ → Bool) (s work : List ℕ) where
-  pub work-refused : (r : Refusal) → checked s ≡ Checked.Refused r → work ≡ workAfter enough (checked s) work
+-- the work at exit, behind what was judged; enough is the operation's test of 8
+module _ (enough : ℕ → Bool) (j : Checked) (work : List ℕ) where
+  pub work-refused : (r : Refusal) → j ≡ Checked.Refused r → work ≡ workAfter enough j work
   unfolding workAfter
   work-refused r q = rw q
 
-  module _ (n start : ℕ) (q : checked s ≡ Checked.Accepted n start) where
-    pub work-lent : enough n ≡ false → work ≡ workAfter enough (checked s) work
+  module _ (n start : ℕ) (q : j ≡ Checked.Accepted n start) where
+    pub work-lent : enough n ≡ false → work ≡ workAfter enough j work
     unfolding workAfter
     work-lent e = rw (q, e)
 
-    pub work-cleared : enough n ≡ true → (t : List ℕ) → Within 0 (workLength * n) work t → cleared (wordLength * workWords n) t ≡ workAfter enough (checked s) work
+    pub work-cleared : enough n ≡ true → (t : List ℕ) → Within 0 (workLength * n) work t → cleared (wordLength * workWords n) t ≡ workAfter enough j work
     unfolding workAfter
     work-cleared e t w = rw (q, e) (cleared-same (within-wider 0 (wordLength * workWords n) (omega arith) (work-least n) w))
 
