@@ -13,9 +13,9 @@ use Rattle.plan.specs.declared.Written.{Written}
 use Rattle.plan.specs.Check.{checked}
 use Rattle.forest.specs.Outcome.{enoughWork}
 use Rattle.label_rows.specs.declared.LabelRow.{LabelRow}
-use Rattle.label_rows.specs.declared.Coverage.{Coverage}
 use Rattle.label_rows.specs.Coverage.{coverage, largestClass}
 use Rattle.list_judge.specs.Listed.{listJudged}
+use Rattle.list_judge.proofs.Passed.{list-passed}
 use Rattle.copy_variants.specs.Variants.{mostCopied}
 use Rattle.copy_plan.specs.Bytes.{copyRoom}
 use Rattle.copy.specs.Copy.{classJudged, countJudged, lentJudged, copyJudged, Copies, CopyOutcome}
@@ -32,12 +32,6 @@ module _ (n start : ℕ) where
   unfolding classJudged
   class-passed class (Checked.Accepted m k) e = passed (leb class largestClass) m k n start (Refusal.Row 0) e .1
   class-passed class (Checked.Refused why) e = e
-
-  list-passed : (l : Coverage) (c : Checked) → listJudged l c ≡ Checked.Accepted n start → (l ≡ Coverage.Whole) × (c ≡ Checked.Accepted n start)
-  unfolding listJudged
-  list-passed Coverage.Whole c e = (refl, e)
-  list-passed (Coverage.Refused why) (Checked.Accepted m k) e = let z : _≡_ {A = ℕ} 0 1 = cc in absurd (omega arith)
-  list-passed (Coverage.Refused why) (Checked.Refused first) e = let z : _≡_ {A = ℕ} 0 1 = cc in absurd (omega arith)
 
   count-passed : (c : Checked) → countJudged c ≡ Checked.Accepted n start → (leb n mostCopied ≡ true) × (c ≡ Checked.Accepted n start)
   unfolding countJudged
@@ -57,13 +51,19 @@ module _ (n start : ℕ) where
   lent-passed work out (Checked.Refused why) e = let z : _≡_ {A = ℕ} 0 1 = cc in absurd (omega arith)
 
 module _ (s : List ℕ) (rows : List LabelRow) (class : ℕ) (work out : List ℕ) where
+  -- what is judged one after the other
+  pub judged-all : {x y z : Checked} → x ≡ classJudged class (checked s) → y ≡ listJudged (coverage rows) x → z ≡ lentJudged work out (countJudged y)
+      → z ≡ copyJudged s rows class work out
+  unfolding copyJudged
+  judged-all e f g = g ∙ rw (f, e)
+
   -- where nothing is turned down
   pub judged-makeable : (n start : ℕ) → copyJudged s rows class work out ≡ Checked.Accepted n start → Makeable s rows n start work out
   unfolding copyJudged
   judged-makeable n start e =
       let (lent, a) = lent-passed n start work out (countJudged (listJudged (coverage rows) (classJudged class (checked s)))) e in
       let (few, b) = count-passed n start (listJudged (coverage rows) (classJudged class (checked s))) a in
-      let (whole, c) = list-passed n start (coverage rows) (classJudged class (checked s)) b in
+      let (whole, c) = list-passed (coverage rows) (classJudged class (checked s)) b in
       let (enough, space) = and-eq-true-iff (enoughWork n work) (leb (copyRoom n) (length out)) .0 lent in
       record {
         accepted = class-passed n start class (checked s) c;
@@ -82,9 +82,3 @@ module _ (s : List ℕ) (rows : List LabelRow) (class : ℕ) (work out : List �
       → CopyOutcome (copyJudged s rows class work out) s rows class work work out out (Written.Refused why)
   unfolding CopyOutcome
   outcome-refused e = rw e (record { answer = refl; work-stays = refl; out-stays = refl })
-
-  -- what is judged one after the other
-  pub judged-all : {x y z : Checked} → x ≡ classJudged class (checked s) → y ≡ listJudged (coverage rows) x → z ≡ lentJudged work out (countJudged y)
-      → z ≡ copyJudged s rows class work out
-  unfolding copyJudged
-  judged-all e f g = g ∙ rw (f, e)
