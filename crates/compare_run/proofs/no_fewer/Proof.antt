@@ -8,7 +8,7 @@ use lib.Dec.{leb}
 use borrow.Author.Needs.{needs}
 use borrow.Author.Tests.{le-leb, lt-leb}
 use Rattle.count_capped.specs.declared.Count.{Count}
-use Rattle.count_capped.specs.Count.{limit, capped, numberOf}
+use Rattle.count_capped.specs.Count.{countLimit, capped, numberOf}
 use Rattle.compare_run.proofs.no_fewer.Statement.{statement}
 use Rattle.compare_run.proofs.no_fewer.Tie as tie
 
@@ -17,10 +17,10 @@ module _ (x y : Count) (n m : ℕ) (e : numberOf x ≡ n) (f : numberOf y ≡ m)
   first-over : (x .over ≡ 0 → ⊥) → true ≡ leb (capped m) (capped n)
   first-over h = sym (le-leb (capped m) (capped n) (omega arith))
 
-  second-over : x .over ≡ 0 → x .low < limit → (y .over ≡ 0 → ⊥) → false ≡ leb (capped m) (capped n)
+  second-over : x .over ≡ 0 → x .low < countLimit → (y .over ≡ 0 → ⊥) → false ≡ leb (capped m) (capped n)
   second-over h l g = sym (lt-leb (capped m) (capped n) (omega arith))
 
-  neither-over : x .over ≡ 0 → x .low < limit → y .over ≡ 0 → y .low < limit → leb (y .low) (x .low) ≡ leb (capped m) (capped n)
+  neither-over : x .over ≡ 0 → x .low < countLimit → y .over ≡ 0 → y .low < countLimit → leb (y .low) (x .low) ≡ leb (capped m) (capped n)
   neither-over h l g k =
       let p : y .low ≡ capped m = omega arith in
       let q : x .low ≡ capped n = omega arith in
