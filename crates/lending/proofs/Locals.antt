@@ -94,6 +94,17 @@ empty : (x : Ty × ℕ) (E : List (Ty × ℕ)) → Locals (x ∷ E) [] ≡ Local
 unfolding Locals
 empty x E = refl
 
+-- the locals hold at most what they held: what is forgotten is room
+abbrev LessCell : Held → Held → Type 0
+LessCell none c = Unit {0}
+LessCell (some v) none = ⊥
+LessCell (some v) (some u) = u ≡ v
+
+abbrev pub Less : List Held → List Held → Type 0
+Less [] cs = Unit {0}
+Less (d ∷ ds) [] = LessCell d none × Less ds []
+Less (d ∷ ds) (c ∷ cs) = LessCell d c × Less ds cs
+
 -- what was set is held
 pub held-set : (E : List (Ty × ℕ)) (cs : List Held) (k : ℕ) (c : Held) → within E k → heldAt E (set k c cs) k ≡ c
 held-set [] cs k c ok = absurd ok
@@ -173,6 +184,25 @@ module _ {M : Type 1} (𝓤 : URA M) (H : Heap 𝓤) (A : Atoms 𝓤) (W : Given
   slot (x ∷ E) (c ∷ cs) zero v ok = slot-here x E c cs v
   slot (x ∷ E) (c ∷ cs) (suc k) v ok = slot-beyond x E c cs (set k (some v) cs) k v (slot E cs k v ok)
 
+  less-cell : (τ : Ty) (b : ℕ) (d c : Held) → LessCell d c → ent 𝓤 (sem 𝓤 H A (cell τ b c)) (sem 𝓤 H A (cell τ b d))
+  less-cell τ b none c l = cell-room τ b c
+  less-cell τ b (some v) none l = absurd l
+  less-cell τ b (some v) (some u) l = subst (λ (w : Val). ent 𝓤 (H .at fullShare τ b 0 u) (H .at fullShare τ b 0 w)) l (id⊢ 𝓤 (H .at fullShare τ b 0 u))
+
+  less-head : (x : Ty × ℕ) (E : Env 𝓤 H) (d c : Held) (ds cs : List Held) → LessCell d c → ent 𝓤 (sem 𝓤 H A (Locals E cs)) (sem 𝓤 H A (Locals E ds)) → ent 𝓤 (sem 𝓤 H A (Locals (x ∷ E) (c ∷ cs))) (sem 𝓤 H A (Locals (x ∷ E) (d ∷ ds)))
+  unfolding Locals
+  less-head x E d c ds cs l f =
+      qed W (‵ (fsep (cell (x .0) (x .1) c) (fsep (fdies (x .0) (x .1)) (Locals E cs))) ∷ []) ∵ fsplit ! $ use1 W (‵ (cell (x .0) (x .1) d)) (less-cell (x .0) (x .1) d c l) $ move ! (1 ∷ []) $ fsplit ! $
+      move ! (1 ∷ []) $ use1 W (‵ (Locals E ds)) f $ move ! (1 ∷ 0 ∷ []) $ fjoin ! $ move ! (1 ∷ 0 ∷ []) $ fjoin ! $ done !
+
+  less : (E : Env 𝓤 H) (ds cs : List Held) → Less ds cs → ent 𝓤 (sem 𝓤 H A (Locals E cs)) (sem 𝓤 H A (Locals E ds))
+  unfolding Locals
+  less [] ds cs l = id⊢ 𝓤 (emp 𝓤)
+  less (x ∷ E) [] [] l = id⊢ 𝓤 (sem 𝓤 H A (Locals (x ∷ E) []))
+  less (x ∷ E) [] (c ∷ cs) l = less-head x E none c [] cs tt (less E [] cs tt)
+  less (x ∷ E) (d ∷ ds) [] l = less-head x E d none ds [] (l .0) (less E ds [] (l .1))
+  less (x ∷ E) (d ∷ ds) (c ∷ cs) l = less-head x E d c ds cs (l .0) (less E ds cs (l .1))
+
   no-locals : ent 𝓤 (emp 𝓤) (sem 𝓤 H A (Locals [] []))
   unfolding Locals
   no-locals = id⊢ 𝓤 (emp 𝓤)
@@ -190,6 +220,10 @@ module _ {M : Type 1} {𝓤 : URA M} {H : Heap 𝓤} {A : Atoms 𝓤} {K : Type 
       qed W (‵ (Locals E cs) ∷ Γ) ∵ check ! wt $ use1 W (‵ (froom τ b 0) ⊛ raw (wand 𝓤 (H .at fullShare τ b 0 v) (sem 𝓤 H A L))) (slot 𝓤 H A W E cs k v ok) $ split ! $ frame ! $
       assume ! (‵ (fat fullShare τ b 0 v)) $ use2 W (‵ L) (apply∗ 𝓤 (H .at fullShare τ b 0 v) (sem 𝓤 H A L)) $ by ! h;
   }
+
+  -- what some locals hold is forgotten
+  pub forgets : (E : Env 𝓤 H) (cs ds : List Held) {G : Goal 𝓤 H} → K → Less ds cs → Step K W (‵ (Locals E ds) ∷ Γ) G (‵ (Locals E cs) ∷ Γ) G
+  forgets E cs ds t l = use1 W (‵ (Locals E ds)) (less 𝓤 H A W E ds cs l)
 
   -- all locals are freed
   free-head : (x : Ty × ℕ) (E : Env 𝓤 H) (c : Held) (cs : List Held) {g : Goal 𝓤 H} → K → Seq K W (‵ (Locals E cs) ∷ Γ) (frees E g) → Seq K W (‵ (Locals (x ∷ E) (c ∷ cs)) ∷ Γ) (frees (x ∷ E) g)

@@ -19,7 +19,7 @@ use contract.Monad.{Fun}
 use contract.Running.{givenOf, tables, tablesOf}
 use types.Kit as Kit
 use types.Kit.{Given, Item, Sq, runs, anyQ, atRet, ‵, _$_, !, move}
-use types.Run.{from, stop, fld, load, lit, of-opd, and-then, no-more, first, switches-on, exec}
+use types.Run.{from, stop, fld, load, of-opd, first, switches-on, exec}
 use types.Part.{agg, look-in}
 use types.Match.{vrt, look-tag, in-variant}
 use sound.WpLaws.{fmOf}
@@ -33,9 +33,9 @@ use denote.Triple.Entry.{Args}
 use denote.Triple.Spec.{Meets, tripleOf}
 use denote.Triple.Table.{entered, cited}
 use Rattle.lending.proofs.Locals.{Held, heldAt, set, held-set, Locals, Places, envOf, local-part}
-use Rattle.lending.proofs.Calls.{Data, Known, number, enum-data, datum, shared, operand-is, reads, calls, calls-end, holds}
+use Rattle.lending.proofs.Calls.{Data, Known, number, enum-data, datum, shared, local-operand, operand-is, reads, calls, calls-end, holds}
 use Rattle.lending.proofs.Slices.{MutParam, Mut, handed, lasted, gives-up}
-use Rattle.lending.proofs.Assigns.{sets, sets-end, field-of, reborrows}
+use Rattle.lending.proofs.Assigns.{sets, sets-end, reborrows}
 use Rattle.lending.proofs.Frame.{Params, datum-param, shared-param, handed-param, AreArgs, Reached, Walk, ends, meets}
 use Rattle.refusal.specs.declared.Refusal.{Refusal}
 use Rattle.refusal.proofs.Refusal as refusal
@@ -134,7 +134,7 @@ module _ {M : Type 1} (𝓤 : URA M) (H : Heap 𝓤) (A : Atoms 𝓤) (W : Given
         → CopyOutcome all-judged (now plan) (now rows) c (work .ref .now) zs (out .ref .now) xs x
         → Sq W (‵ (Locals E cs) ∷ Read (‵ (finally u8 (work .ref .name) zs) ∷ ‵ (finally u8 (out .ref .name) xs) ∷ [])) (runs (𝓣 .C) (𝓣 .Λ) E mir.t-7 (atRet E Post))
     answers cs x is held zs xs same-work same-out outcome =
-        sets cs ! (of-opd ! (operand-is ! 0 E cs refl _ _ held)) tt (answer .lawful .typed x _ is .0) $
+        sets cs ! (of-opd ! (local-operand ! 0 E cs refl held)) tt (answer .lawful .typed x _ is .0) $
         ends W copies.ended params (copies.clauses 𝓤 H A mem run) κs qs tt a tt (set 0 (some (answer .val x)) cs) answer x (tt, (tt, (tt, (zs, (xs, tt))))) ! is are (tt, (tt, (tt, (same-work, (same-out, tt)))))
         (held-set E cs 0 (some (answer .val x)) tt) (holds 𝓤 outcome)
 
@@ -190,7 +190,7 @@ module _ {M : Type 1} (𝓤 : URA M) (H : Heap 𝓤) (A : Atoms 𝓤) (W : Given
         calls W (fmOf 𝓤 H (W .laws) 𝓣) list.ended (list.clauses 𝓤 H A mem run) known-list (κs .1 .0, tt) (qs .1 .0, tt) (datum judgement x is-x, (shared W (named 0) (κs .1 .0) R rows, tt)) _ _ ! tt tt (id⊢ 𝓤 _) refl
         judgement tt refl (λ y ws. y ≡ listJudged (coverage (now rows)) x) (λ y ws. id⊢ 𝓤 _) (λ y ws f is-y.
         -- [locals; κ₁; rows; κ₀; plan; κ₂; κ₃; work; output]
-        sets _ ! (of-opd ! (field-of ! _ refl refl refl)) tt (tt, record { fits = work .room .0 }) $ sets _ ! (of-opd ! (field-of ! _ refl refl refl)) tt (tt, record { fits = out .room .0 }) $
+        sets _ ! (of-opd ! (operand-is ! 0 E _ refl _ _ refl)) tt (tt, record { fits = work .room .0 }) $ sets _ ! (of-opd ! (operand-is ! 0 E _ refl _ _ refl)) tt (tt, record { fits = out .room .0 }) $
         calls W (fmOf 𝓤 H (W .laws) 𝓣) lent.ended (lent.clauses 𝓤 H A mem run) known-lent tt tt
         (datum judgement y is-y, (datum (number 𝓤 H A W w64) (length (work .ref .now)) (refl, work .room .0), (datum (number 𝓤 H A W w64) (length (out .ref .now)) (refl, out .room .0), tt))) _ _ ! tt tt (id⊢ 𝓤 _) refl
         judgement tt refl (λ z ws. (u v : List ℕ) → length u ≡ length (work .ref .now) → length v ≡ length (out .ref .now) → z ≡ lentJudged u v (countJudged y)) (λ z ws. id⊢ 𝓤 _) (λ z ws g is-z.
