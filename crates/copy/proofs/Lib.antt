@@ -1,4 +1,3 @@
 pub mod Judged
 pub mod Makes
-pub mod Handed
 pub mod Prefixed

@@ -6,4 +6,3 @@ pub mod Once
 pub mod Search
 pub mod Labels
 pub mod Reading
-pub mod Answers

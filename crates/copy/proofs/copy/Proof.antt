@@ -1,6 +1,6 @@
 -- `copy` meets its contract: a walk of its MIR, by hand. Copies of the references of plan and list go to what judges them; where nothing is
 -- turned down `make` gets work and output for good, and where something is they are given up as they were. Assumes nothing.
-use mathlib.Core.Path.{_≡_, refl, sym, ap, _∙_}
+use mathlib.Core.Path.{_≡_, refl, sym}
 use Prim.Native.Nat.{ℕ}
 use mathlib.Core.Option.{none, some}
 use mathlib.Core.List.{[], _∷_, List}
@@ -24,10 +24,9 @@ use types.Part.{agg, look-in}
 use types.Match.{vrt, look-tag, in-variant}
 use sound.WpLaws.{fmOf}
 use denote.Laws.{Is}
-use denote.Builtin.{u8, u16, u64}
+use denote.Builtin.{u8, u16}
 use denote.Ref.{RefT, now}
 use denote.Slice.{ShrSlice, finally, sliceVal, slice-vals}
-use denote.Steps.{only}
 use denote.Enum.Laws as EL
 use denote.Triple.Entry.{Args}
 use denote.Triple.Spec.{Meets, tripleOf}
@@ -37,7 +36,6 @@ use Rattle.lending.proofs.Calls.{Data, Known, number, enum-data, datum, shared,
 use Rattle.lending.proofs.Slices.{MutParam, Mut, handed, lasted, gives-up}
 use Rattle.lending.proofs.Assigns.{sets, sets-end, reborrows}
 use Rattle.lending.proofs.Frame.{Params, datum-param, shared-param, handed-param, AreArgs, Reached, Walk, ends, meets}
-use Rattle.refusal.specs.declared.Refusal.{Refusal}
 use Rattle.refusal.proofs.Refusal as refusal
 use Rattle.refusal.proofs.Refusal.Laws as refusal′
 use Rattle.plan.specs.declared.Checked.{Checked}
@@ -55,7 +53,6 @@ use Rattle.list_judge.proofs.judge_list as list
 use Rattle.list_judge.proofs.judge_list.Symbol as list-def
 use Rattle.list_judge.proofs.judge_list.Met as list-thm
 use Rattle.copy.specs.Copy.{classJudged, countJudged, lentJudged, copyJudged, Copies, CopyOutcome}
-use Rattle.copy.specs.Made.{Makeable}
 use Rattle.copy.proofs.Judged.{judged-makeable, judged-all, outcome-made, outcome-refused}
 use Rattle.copy.proofs.judge_class as class
 use Rattle.copy.proofs.judge_class.Symbol as class-def

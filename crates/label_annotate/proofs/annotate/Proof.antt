@@ -25,7 +25,7 @@ use contract.Running.{givenOf, tables, tablesOf}
 use types.Kit.{Given, Item, Sq, runs, anyQ, atRet, ‵, _$_, !, move}
 use types.Run.{lit, unit-lit, of-opd, bin, first, skips, jumps, blocks, branches, exec, Below, again, loops}
 use sound.WpLaws.{fmOf}
-use denote.Builtin.{u8, u16, u32}
+use denote.Builtin.{u8, u16}
 use denote.Ref.{RefT, now}
 use denote.Slice.{ShrSlice, sliceVal, slice-vals}
 use denote.Struct.Laws as LL

@@ -36,10 +36,8 @@ use Rattle.lending.proofs.Locals.{Held, heldAt, set, held-set, Locals, Places, 
 use Rattle.lending.proofs.Calls.{Data, Known, number, enum-data, struct-data, datum, shared, local-operand, reads, calls, holds}
 use Rattle.lending.proofs.Assigns.{sets, sets-end}
 use Rattle.lending.proofs.Frame.{Params, datum-param, shared-param, AreArgs, Reached, Walk, ends, meets}
-use Rattle.refusal.specs.declared.Refusal.{Refusal}
 use Rattle.refusal.proofs.Refusal as refusal
 use Rattle.refusal.proofs.Refusal.Laws as refusal′
-use Rattle.rule.specs.Rule.{largestLabel}
 use Rattle.label_rows.specs.declared.LabelRow.{LabelRow}
 use Rattle.label_rows.specs.declared.Coverage.{Coverage}
 use Rattle.label_rows.specs.declared.Classed.{Classed}

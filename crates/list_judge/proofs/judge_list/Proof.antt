@@ -24,14 +24,12 @@ use sound.WpLaws.{fmOf}
 use denote.Laws.{Is}
 use denote.Ref.{RefT, now}
 use denote.Slice.{ShrSlice, sliceVal, slice-vals}
-use denote.Triple.Entry.{Args}
 use denote.Triple.Spec.{Meets, tripleOf}
 use denote.Triple.Table.{entered, cited}
 use Rattle.lending.proofs.Locals.{Held, heldAt, set, held-set, Locals, Places, envOf, local-part}
 use Rattle.lending.proofs.Calls.{Data, Known, enum-data, datum, shared, local-operand, calls, calls-end, holds}
 use Rattle.lending.proofs.Assigns.{sets, sets-end}
 use Rattle.lending.proofs.Frame.{Params, datum-param, shared-param, AreArgs, Reached, Walk, ends, meets}
-use Rattle.refusal.specs.declared.Refusal.{Refusal}
 use Rattle.plan.specs.declared.Checked.{Checked}
 use Rattle.plan.proofs.Checked as checked-type
 use Rattle.plan.proofs.Checked.Laws as checked′
