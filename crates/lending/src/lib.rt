@@ -1,1 +1,1 @@
-// A slice that is lent on for a call, in proofs that walk a function's code: laws alone.
+// What proofs that walk a function's code share: its locals, parameters and calls, and slices that are lent on. Laws alone.
