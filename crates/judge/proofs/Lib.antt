@@ -4,3 +4,4 @@ pub mod Fit
 pub mod Cycles
 pub mod Searching
 pub mod Before
+pub mod Narrow
