@@ -153,8 +153,13 @@ module _ {M : Type 1} (𝓤 : URA M) (H : Heap 𝓤) (A : Atoms 𝓤) (W : Given
         move ! (1 ∷ 2 ∷ 3 ∷ []) $ comes-back W work ν′ δ′ (z .list) (us .0) ! tt (same-length z) (λ same. move ! (2 ∷ 3 ∷ 1 ∷ 4 ∷ 0 ∷ []) $
         sets-end _ ! (bin ! (local-operand ! 0 E _ refl refl) (lit ! tt) (record { fits = next-fits })) tt (tt, record { fits = next-fits }) $
         forgets E _ (held (z .at + 1)) ! (tt, (refl, (refl, (refl, (refl, (refl, tt)))))) $
-        again ! Nearer At z (record { at = z .at + 1; list = us .0; inside = omega arith; so-far = annotated-more (now rows) c n (z .at) ss (z .list) able below (z .so-far) (us .0)
-        (subst (λ (g : LabelRow). g .grams < 2 ^ 16) (f ∙ ap (rowOf (now rows)) e) (LL.owed T.the-type T′.the-laws y _ is-y .1 .1 .1 .0 .1)) (written ∙ ap (λ (g : LabelRow). marked (z .list) (z .at) (g .class) (g .grams) c) (f ∙ ap (rowOf (now rows)) e)) }) (omega arith)))))))
+        again ! Nearer At z (record {
+          at = z .at + 1;
+          list = us .0;
+          inside = omega arith;
+          so-far = annotated-more (now rows) c n (z .at) ss (z .list) able below (z .so-far) (us .0)
+              (subst (λ (g : LabelRow). g .grams < 2 ^ 16) (f ∙ ap (rowOf (now rows)) e) (LL.owed T.the-type T′.the-laws y _ is-y .1 .1 .1 .0 .1)) (written ∙ ap (λ (g : LabelRow). marked (z .list) (z .at) (g .class) (g .grams) c) (f ∙ ap (rowOf (now rows)) e));
+        }) (omega arith)))))))
 
     turns : (z : State) → Sq W (At z) (runs (𝓣 .C) (𝓣 .Λ) E mir.turn-1 (anyQ (Turned z)))
     unfolding afterTurn
