@@ -2,7 +2,7 @@
 ghost use mathlib.Core.Path.{_≡_};
 ghost use Prim.Native.Nat.{ℕ};
 ghost use mathlib.Core.List.{List};
-ghost use mathlib.Core.Option.{none, some};
+ghost use mathlib.Core.Option.{some};
 ghost use mathlib.Core.Bool.{not, _&&_};
 ghost use lib.Dec.{eqb};
 ghost use Rattle.forest.specs.Place as place;
@@ -10,17 +10,18 @@ ghost use Rattle.forest.specs.Sides as sides;
 ghost use Rattle.forest.specs.Letter.{Letter};
 ghost use Rattle.forest.specs.Position.{orElse};
 ghost use Rattle.forest.specs.Walk.{cellsIn};
-ghost use Rattle.model.specs.Model.{Node, tail, enter, inward, under, child, sibling, nodeAt, parent, root};
-ghost use Rattle.model.specs.Neighbour.{up, across, rowEnd, isNil, numberOf};
+ghost use Rattle.model.specs.Model.{tail, enter, inward, child, sibling, nodeAt, parent, root};
+ghost use Rattle.model.specs.Neighbour.{isNil, numberOf, armOf};
 ghost use Rattle.side.specs.Side.{sideOf};
 ghost use Rattle.facts.specs.Facts.{factsIn, In};
 ghost use Rattle.facts.specs.Closes.{Closes};
 ghost use Rattle.place_cells.specs.Cells.{Lies};
 ghost use Rattle.row_links.specs.Links.{Linkable, Linked};
-ghost use Rattle.move_parts.specs.Moves.{Held, Turning};
+ghost use Rattle.move_parts.specs.Moves.{Held};
 ghost use Rattle.move_parts.specs.declared.Change.{Change};
 ghost use Rattle.move_parts.specs.declared.Outcome.{Outcome};
-ghost use Rattle.move_parts.specs.Change.{turnedAt, Decided};
+ghost use Rattle.move_parts.specs.Change.{Decided};
+ghost use Rattle.moves.specs.Arms.{armOver, ArmUp};
 use move_parts::Above;
 use move_parts::Change;
 use move_parts::Outcome;
@@ -28,6 +29,19 @@ use move_parts::Reach;
 use place_cells::Cell;
 use rule::Rule;
 use side::Side;
+
+// An L or R: over its representative, if it has a tree.
+enum Arm {
+    Over(u16),
+    Empty,
+}
+
+// Where ↑(v) = u, the L or R of u: it has a tree, with what leads there, or it is empty. Off where ↑(v) = ⊥.
+enum UpArm {
+    HasTree(Change),
+    IsEmpty,
+    Off,
+}
 
 // The first or last child of a part: in its row on that side, else in its hole.
 fn part_child(work: &[u8], cursor: &[u8], k: usize, side: Side, arm: u16) -> Outcome
@@ -61,8 +75,7 @@ pub fn child(work: &[u8], cursor: &[u8], k: usize, p: u16, side: Side) -> Outcom
 }
 
 // The sibling on a side of the node that k cells lead to: document 003's function →, on the left its mirror ←, by its five cases in
-// their sequence, here and in the four functions below. A node is w((d, h), v) there: the spine v, its place h in the row with
-// number d, and what lies below the row.
+// their sequence. A node is w((d, h), v) there: the spine v, its place h in the row with number d, and what lies below the row.
 pub fn sibling(work: &[u8], cursor: &[u8], k: usize, p: u16, side: Side) -> Outcome
     requires { ⌜ Held (now work) (now cursor) k ⌝ }
     ensures { λ r.
@@ -70,92 +83,78 @@ pub fn sibling(work: &[u8], cursor: &[u8], k: usize, p: u16, side: Side) -> Outc
         let work = now (work .entry) in
         ⌜ Decided work cursor k (Letter.sibling (sideOf side)) r (sibling (factsIn work) (sideOf side) (p, (cellsIn cursor k))) ⌝ }
 {
-    match move_parts::outward(work, cursor, k) {
-        Reach::Turn { keep, above } => beside_turn(work, keep, above, side),
-        Reach::Kept { keep, rule } => beside_kept(work, keep, rule, side),
-        Reach::Off => beside_row(work, cursor, place_cells::under(cursor, k), side),
-    }
-}
-
-// Cases 1 and 2, where ↑(v) = u by a turn: beside the hole of the part u that the run on top of some cells turns to.
-fn beside_turn(work: &[u8], keep: usize, above: u16, side: Side) -> Outcome
-    requires { ⌜ Closes (now work) × In (now work) above ⌝ }
-    ensures { λ r.
-        let work = now (work .entry) in
-        ⌜ ((s : List ℕ) (x : Node) → Turning work s keep place.Side.left above
-        → up (factsIn work) x ≡ some (turnedAt (factsIn work) place.Side.left above (cellsIn s keep))
-        → Decided work s keep (Letter.sibling (sideOf side)) r (sibling (factsIn work) (sideOf side) x)) ⌝ }
-{
-    let to = facts::toward_at(work, Side::Left, above);
-    let rule = facts::last_at(work, Side::Right, to);
-    let Rule::Part { left, right, .. } = facts::rule_at(work, rule) else {
-        return Outcome::Nowhere;
-    };
-    let arm = side.pick(left, right);
-    if facts::is_empty_at(work, arm) {
+    match up_arm(work, cursor, k, side) {
+        // 1. ↑(v) = u, z(u) = a⟨LxR⟩ and ◁r(R) ≠ ⊥: w((d, h), u) ◁r(R)
+        UpArm::HasTree(change) => return Outcome::Node(change),
         // 2. ↑(v) = u, z(u) = a⟨LxR⟩ and ◁r(R) = ⊥: ⊥
-        return Outcome::Nowhere;
+        UpArm::IsEmpty => return Outcome::Nowhere,
+        UpArm::Off => {}
     }
-    // 1. ↑(v) = u, z(u) = a⟨LxR⟩ and ◁r(R) ≠ ⊥: w((d, h), u) ◁r(R)
-    let number = Cell::part_row(side);
-    let over = facts::representative_at(work, arm);
-    Outcome::Node(Change::Beside {
-        keep,
-        above,
-        number,
-        over,
-    })
-}
-
-// Cases 1 and 2, where ↑(v) = u lies under the spine's opening: beside the hole of the part u with a rule that some cells lead to.
-fn beside_kept(work: &[u8], keep: usize, rule: u16, side: Side) -> Outcome
-    requires { ⌜ Closes (now work) × In (now work) rule ⌝ }
-    ensures { λ r.
-        let work = now (work .entry) in
-        ⌜ ((s : List ℕ) (x : Node) → up (factsIn work) x ≡ some (rule, cellsIn s keep)
-        → Decided work s keep (Letter.sibling (sideOf side)) r (sibling (factsIn work) (sideOf side) x)) ⌝ }
-{
-    let Rule::Part { left, right, .. } = facts::rule_at(work, rule) else {
-        return Outcome::Nowhere;
-    };
-    // 1. ↑(v) = u, z(u) = a⟨LxR⟩ and ◁r(R) ≠ ⊥: w((d, h), u) ◁r(R)
-    // 2. ↑(v) = u, z(u) = a⟨LxR⟩ and ◁r(R) = ⊥: ⊥
-    move_parts::row(work, keep, Cell::part_row(side), side.pick(left, right))
-}
-
-// Cases 3 to 5, where ↑(v) = ⊥ and the node's tree lies on t cells: beside that tree in the row.
-fn beside_row(work: &[u8], cursor: &[u8], t: usize, side: Side) -> Outcome
-    requires { ⌜ Held (now work) (now cursor) t ⌝ }
-    ensures { λ r.
-        let cursor = now (cursor .entry) in
-        let work = now (work .entry) in
-        ⌜ ((x : Node) → up (factsIn work) x ≡ none → under (x .1) ≡ cellsIn cursor t
-        → Decided work cursor t (Letter.sibling (sideOf side)) r (sibling (factsIn work) (sideOf side) x)) ⌝ }
-{
-    let j = place_cells::pop_run(cursor, t, side);
+    let j = place_cells::pop_run(cursor, place_cells::under(cursor, k), side);
     if let Above::Rule(above) = move_parts::above_top(work, cursor, j, side) {
         // 3. ↑(v) = ⊥, →(h) = h′ ≠ ⊥ and z(h′) = D: w((d, h′), Δ(D))
         return Outcome::Node(Change::Tree { keep: j, above });
     }
-    past_row(work, cursor, j, side)
-}
-
-// Cases 4 and 5, where ↑(v) = ⊥ and →(h) = ⊥, j cells being the row's opening and what lies below: past the row's end.
-fn past_row(work: &[u8], cursor: &[u8], j: usize, side: Side) -> Outcome
-    requires { ⌜ Held (now work) (now cursor) j ⌝ }
-    ensures { λ r.
-        let cursor = now (cursor .entry) in
-        let work = now (work .entry) in
-        ⌜ ((x : Node) → up (factsIn work) x ≡ none → across (factsIn work) (sideOf side) x ≡ none
-        → rowEnd (sideOf side) x ≡ cellsIn cursor j
-        → Decided work cursor j (Letter.sibling (sideOf side)) r (sibling (factsIn work) (sideOf side) x)) ⌝ }
-{
     if ends_at_hole(cursor, j, side) {
         // 4. ↑(v) = ⊥, →(h) = ⊥, w = w′((d′, h′), v′) and d = ℓ: w′((d′, h′), ↓(v′))
         return move_parts::inward(work, cursor, place_cells::tail(j));
     }
     // 5. ↑(v) = ⊥, →(h) = ⊥, w = ε or d ≠ ℓ: ⊥
     Outcome::Nowhere
+}
+
+// Of the node that k cells lead to, what stands up the spine, on a side: u is the part that a run turns to, or that lies under the
+// spine's opening.
+fn up_arm(work: &[u8], cursor: &[u8], k: usize, side: Side) -> UpArm
+    requires { ⌜ Held (now work) (now cursor) k ⌝ }
+    ensures { λ r.
+        let cursor = now (cursor .entry) in
+        let work = now (work .entry) in
+        ⌜ ((p : ℕ) → ArmUp work cursor k (sideOf side) (p, (cellsIn cursor k)) r) ⌝ }
+{
+    match move_parts::outward(work, cursor, k) {
+        Reach::Turn { keep, above } => {
+            let to = facts::toward_at(work, Side::Left, above);
+            let rule = facts::last_at(work, Side::Right, to);
+            match arm_of(work, rule, side) {
+                Arm::Over(over) => {
+                    let number = Cell::part_row(side);
+                    UpArm::HasTree(Change::Beside {
+                        keep,
+                        above,
+                        number,
+                        over,
+                    })
+                }
+                Arm::Empty => UpArm::IsEmpty,
+            }
+        }
+        Reach::Kept { keep, rule } => match arm_of(work, rule, side) {
+            Arm::Over(over) => {
+                let number = Cell::part_row(side);
+                UpArm::HasTree(Change::Row { keep, number, over })
+            }
+            Arm::Empty => UpArm::IsEmpty,
+        },
+        Reach::Off => UpArm::Off,
+    }
+}
+
+// The L or R, on a side, of a part with a rule; empty, where the rule is no part's.
+fn arm_of(work: &[u8], rule: u16, side: Side) -> Arm
+    requires { ⌜ Closes (now work) × In (now work) rule ⌝ }
+    ensures { λ r.
+        let F = factsIn (now (work .entry)) in
+        ⌜ r ≡ armOver F (armOf (sideOf side) (F .rule rule)) ⌝ }
+{
+    let Rule::Part { left, right, .. } = facts::rule_at(work, rule) else {
+        return Arm::Empty;
+    };
+    let arm = side.pick(left, right);
+    if facts::is_empty_at(work, arm) {
+        return Arm::Empty;
+    }
+    Arm::Over(facts::representative_at(work, arm))
 }
 
 // Does the row whose opening, with what lies below, is j cells end at a part's hole on a side: w ≠ ε and d = ℓ?
