@@ -74,7 +74,7 @@ extern "C" {
    of both formats goes by MEALPLAN_WIDE, what is to serve for plans of up to n rules by
    n: no length falls where n grows. */
 #define MEALPLAN_WORK_BYTES(n) \
-    ((size_t)((n) > MEALPLAN_FEW_RULES ? 80 : 64) * (n)) /* work of measure, spread, walk, compare, copy */
+    ((size_t)((n) > MEALPLAN_FEW_RULES ? 80 : 64) * (n)) /* work, of each function that takes it */
 #define MEALPLAN_CURSOR_BYTES(n) ((size_t)32 * (n) + 32) /* a cursor */
 #define MEALPLAN_ANSWERS_BYTES(m) ((size_t)4 * (m))      /* answers to m letters */
 #define MEALPLAN_COPY_BYTES(n) ((size_t)40 * (n) + 10)   /* out of plan_copy */
@@ -122,7 +122,8 @@ enum mealplan_refusal {
     MEALPLAN_PLACE = 10,     /* no letters lead from a place above this forest to these
                                 used cells, or cell 0 has a nonzero later word; where
                                 places are compared, one above the forest */
-    MEALPLAN_ROOM = 11,      /* output too short; over 2^64 - 1 nodes */
+    MEALPLAN_ROOM = 11,      /* output too short; over 2^64 - 1 nodes; of plan_grams, over
+                                2^64 - 1 grams */
     MEALPLAN_CYCLE = 12,     /* some rule reaches itself through the rules it names */
     MEALPLAN_ROW = 13,       /* a row's lowest label is above its highest, its highest above
                                 16,777,215, or its class above 3; of plan_copy, the
@@ -208,8 +209,9 @@ uint32_t plan_compare(const uint8_t *plan, size_t plan_len,
                       uint32_t budget, uint32_t *verdict, uint32_t *count,
                       uint64_t *position);
 
-/* A row of a list of who may read which label: the labels from lowest to highest have
-   the class. The last field isn't looked at. */
+/* A row of a list of who may read which label, and of what an entry weighs: the labels
+   from lowest to highest have the class, and so many grams per entry, 0 to 65,535. The
+   grams are looked at by plan_grams alone. */
 struct plan_row {
     uint32_t lowest, highest;
     uint16_t class_;
@@ -244,9 +246,21 @@ uint32_t plan_copy(const uint8_t *plan, size_t plan_len,
                    uint8_t *out, size_t out_len,
                    uint64_t *written, uint64_t *position);
 
+/* Weigh a plan's forest by a list of rows as in plan_class: 1 to 6, 12, 7; then 13 to 15
+   for the list; 8 for work as in plan_measure; and 11 if the sum is above 2^64 - 1.
+   Accepted: *grams is the sum over all nodes of the grams of the row that covers the
+   node's label, whatever its class; an empty forest weighs 0. The sum is all that 11
+   looks at: a forest of more than 2^64 - 1 nodes is weighed if its grams fit. By one row
+   of 1 gram for all labels the sum is the number of nodes. Unless 1 to 8 or 12 to 15
+   refuses, the needed bytes of work end as zeros; those past them never change. */
+uint32_t plan_grams(const uint8_t *plan, size_t plan_len,
+                    const struct plan_row *rows, size_t rows_len,
+                    uint8_t *work, size_t work_len,
+                    uint64_t *grams, uint64_t *position);
+
 /* What the library takes of a device, in bytes, at most; tests/stack.sh measures it.
 
-   Code with its constants, of all nine functions, and of plan_check and plan_walk
+   Code with its constants, of all ten functions, and of plan_check and plan_walk
    alone where the linker drops what isn't used (--gc-sections). There are no data and
    no bss, and the one function that the library calls is memset. */
 #define MEALPLAN_CODE_BYTES 26624
@@ -269,6 +283,7 @@ uint32_t plan_copy(const uint8_t *plan, size_t plan_len,
 #define MEALPLAN_STACK_WALK 5120
 #define MEALPLAN_STACK_COMPARE 5120
 #define MEALPLAN_STACK_COPY 5120
+#define MEALPLAN_STACK_GRAMS 5120
 
 /* For each of these, whatever the plan or the words: */
 #define MEALPLAN_STACK_MANY 73728

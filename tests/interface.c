@@ -15,7 +15,7 @@ static uint8_t plan[MEALPLAN_PLAN_BYTES(MOST + 1, WIDE)], words[MEALPLAN_WORDS_B
 static uint8_t out[MEALPLAN_PLAN_BYTES(MOST, WIDE) + MEALPLAN_COPY_BYTES(COPIED)], work[MEALPLAN_WORK_BYTES(MOST) + 1];
 static uint8_t cursor[MEALPLAN_CURSOR_BYTES(MOST) + 1], second[MEALPLAN_CURSOR_BYTES(MOST) + 1], answers[MEALPLAN_ANSWERS_BYTES(8)];
 static uint16_t record_length, n, start;
-static uint64_t trees, entries, levels, written, position;
+static uint64_t trees, entries, levels, written, grams, position;
 static uint32_t verdict, count;
 static unsigned calls, seen;
 
@@ -62,6 +62,11 @@ static uint32_t copy(const uint8_t *bytes, size_t length, const struct plan_row 
     return plan_copy(bytes, length, rows, count, class_, work, MEALPLAN_WORK_BYTES(n), out, MEALPLAN_COPY_BYTES(n), &written, &position);
 }
 
+/* The grams by a list, likewise. */
+static uint32_t weigh(const uint8_t *bytes, size_t length, const struct plan_row *rows, size_t count) {
+    return plan_grams(bytes, length, rows, count, work, MEALPLAN_WORK_BYTES(n), &grams, &position);
+}
+
 static uint32_t seal(size_t length, uint16_t record, size_t room) {
     return plan_seal(words, length, record, start, out, room, &written, &position);
 }
@@ -81,7 +86,9 @@ static void lengths(const uint8_t *bytes, size_t length) {
     NEEDS(MEALPLAN_WORK_BYTES(n), MEALPLAN_LENT, plan_measure(bytes, length, work, LENGTH, &trees, &entries, &levels, &position));
     NEEDS(MEALPLAN_WORK_BYTES(n), MEALPLAN_LENT,
           plan_spread(bytes, length, work, LENGTH, out, sizeof out, &written, &position));
-    want("MEALPLAN_TEXT_BYTES", written, MEALPLAN_TEXT_BYTES(entries, record));
+    static const struct plan_row all = {0, MEALPLAN_LAST_LABEL, 0, 1}; /* a gram for each node */
+    NEEDS(MEALPLAN_WORK_BYTES(n), MEALPLAN_LENT, plan_grams(bytes, length, &all, 1, work, LENGTH, &grams, &position));
+    want("MEALPLAN_TEXT_BYTES", written, MEALPLAN_TEXT_BYTES(grams, record));
     const uint8_t *az = (const uint8_t *)"az";
     size_t w = MEALPLAN_WORK_BYTES(n), c = MEALPLAN_CURSOR_BYTES(n), a = MEALPLAN_ANSWERS_BYTES(2);
     NEEDS(w, MEALPLAN_LENT, plan_walk(bytes, length, work, LENGTH, cursor, c, az, 2, answers, a, &position));
@@ -91,7 +98,6 @@ static void lengths(const uint8_t *bytes, size_t length) {
         gives("compare above the forest", plan_compare(bytes, length, work, w - (less == 1), cursor, c - (less == 2), second,
               c - (less == 3), 9, &verdict, &count, &position), less ? MEALPLAN_LENT : MEALPLAN_PLACE, 0);
     memset(cursor, 0, sizeof cursor);
-    static const struct plan_row all = {0, MEALPLAN_LAST_LABEL, 0, 0};
     if (n > COPIED) {
         gives("a copy of too many rules", plan_copy(bytes, length, &all, 1, 0, work, 0, out, 0, &written, &position), MEALPLAN_TOO_MANY, 0);
         return;
@@ -232,6 +238,7 @@ static void orders(void) {
     gives("and walked", walk(plan, sizeof sample, "x"), MEALPLAN_CYCLE, 7);
     gives("and compared", compare(plan, sizeof sample, 0), MEALPLAN_CYCLE, 7);
     gives("and copied", copy(plan, sizeof sample, &no_row, 0, 4), MEALPLAN_CYCLE, 7);
+    gives("and weighed", weigh(plan, sizeof sample, &no_row, 0), MEALPLAN_CYCLE, 7);
 }
 
 /* The two formats: record lengths, marks, and what a wide plan's words may be. */
@@ -495,6 +502,95 @@ static void copied(void) {
                &written, &position), MEALPLAN_LENT, 0);
 }
 
+/* Grams that are refused before 11: work is untouched, and the number is left alone. */
+static void not_weighed(const char *what, uint32_t result, uint32_t refusal, uint64_t at) {
+    gives(what, result, refusal, at);
+    want("the grams are left alone", grams, 77);
+    for (size_t i = 0; i < sizeof work; i++) want("work", work[i], 3);
+}
+
+/* A leaf doubled so often, and a node above them all, as a narrow plan of so many rules and three; gives its length. */
+static size_t doubled(size_t doublings) {
+    size_t count = doublings + 3, length = empty_rules(count, NARROW);
+    for (size_t r = 1; r < count; r++) {
+        uint8_t *rule = plan + NARROW * r;
+        int leaf = r == 1, top = r == count - 1;
+        rule[0] = leaf || top ? 2 : 1;
+        rule[2] = (uint8_t)(leaf ? 97 : top ? 98 : r - 1);
+        rule[4] = (uint8_t)(leaf ? 0 : r - 1);
+    }
+    plan[NARROW * count + 2] = (uint8_t)(count - 1);
+    gives("check of a doubled leaf", check(plan, length), MEALPLAN_ACCEPTED, 0);
+    want("its rules", n, count);
+    return length;
+}
+
+/* The grams of the sample plans and of their copies, sums on both sides of 2^64 - 1, and each refusal in its turn. */
+static void weighed(void) {
+    enum { LAST = MEALPLAN_LAST_LABEL, CLASS = MEALPLAN_LAST_CLASS };
+    struct plan_row rows[] = {{0, 97, 0, 120}, {98, 98, 2, 30}, {99, LAST, 1, 250}};
+    static const uint64_t seen[] = {120, 980, 1130, 1130};
+    check(sample, sizeof sample);
+    memset(work, 3, sizeof work);
+    gives("grams", weigh(sample, sizeof sample, rows, 3), MEALPLAN_ACCEPTED, 0);
+    want("4 * 120 + 5 * 30 + 2 * 250", grams, 1130);
+    for (size_t i = 0; i < sizeof work; i++) want("work", work[i], i < MEALPLAN_WORK_BYTES(8) ? 0 : 3);
+    gives("grams of the wide sample", weigh(wide, sizeof wide, rows, 3), MEALPLAN_ACCEPTED, 0);
+    want("11 * 250", grams, 2750);
+    for (uint16_t class_ = 0; class_ <= CLASS; class_++) {
+        check(sample, sizeof sample);
+        gives("copy", copy(sample, sizeof sample, rows, 3, class_), MEALPLAN_ACCEPTED, 0);
+        size_t length = written;
+        memcpy(plan, out, length);
+        check(plan, length);
+        gives("grams of a copy", weigh(plan, length, rows, 3), MEALPLAN_ACCEPTED, 0);
+        want("of what is seen", grams, seen[class_]);
+    }
+    size_t length = empty_rules(1, WIDE);
+    check(plan, length);
+    grams = 77;
+    gives("grams of an empty forest", weigh(plan, length, rows, 3), MEALPLAN_ACCEPTED, 0);
+    want("nothing", grams, 0);
+
+    /* 2^63 leaves of 1 gram and one node of 65,535; with 2 grams each they are too many, and 2^70 leaves weigh nothing by a row of 0 grams. */
+    rows[0].grams = 1, rows[1].grams = 65535;
+    length = doubled(63);
+    gives("2^63 + 65,535 grams", weigh(plan, length, rows, 3), MEALPLAN_ACCEPTED, 0);
+    want("their sum", grams, (1ull << 63) + 65535);
+    rows[0].grams = 2, grams = 77;
+    memset(work, 3, sizeof work);
+    gives("2^64 + 65,535 grams", weigh(plan, length, rows, 3), MEALPLAN_ROOM, 0);
+    want("the grams are left alone", grams, 77);
+    for (size_t i = 0; i < sizeof work; i++) want("work", work[i], i < MEALPLAN_WORK_BYTES(66) ? 0 : 3);
+    memset(work, 3, sizeof work);
+    not_weighed("2^64 + 65,535 grams, and too little work", plan_grams(plan, length, rows, 3, work, MEALPLAN_WORK_BYTES(66) - 1, &grams,
+                &position), MEALPLAN_LENT, 0);
+    not_weighed("2^64 + 65,535 grams, and a row missing", weigh(plan, length, rows, 2), MEALPLAN_GAP, 2);
+    rows[0].grams = 0;
+    length = doubled(70);
+    gives("2^70 leaves of no grams", weigh(plan, length, rows, 3), MEALPLAN_ACCEPTED, 0);
+    want("and a node", grams, 65535);
+    rows[0].grams = 1, grams = 77;
+    gives("2^70 leaves of a gram", weigh(plan, length, rows, 3), MEALPLAN_ROOM, 0);
+    want("the grams are left alone", grams, 77);
+
+    /* The plan before the list, and that before work. */
+    check(sample, sizeof sample);
+    memset(work, 3, sizeof work);
+    size_t less = MEALPLAN_WORK_BYTES(8) - 1;
+    not_weighed("a plan cut short, no rows and no work", plan_grams(sample, sizeof sample - 1, rows, 0, work, 0, &grams, &position),
+                MEALPLAN_MAGIC, 0);
+    not_weighed("no rows", weigh(sample, sizeof sample, rows, 0), MEALPLAN_GAP, 0);
+    not_weighed("a row missing, and no work", plan_grams(sample, sizeof sample, rows, 2, work, 0, &grams, &position), MEALPLAN_GAP, 2);
+    rows[2].lowest = 98;
+    not_weighed("an overlap, and too little work", plan_grams(sample, sizeof sample, rows, 3, work, less, &grams, &position),
+                MEALPLAN_OVERLAP, 2);
+    rows[2].lowest = 99, rows[2].class_ = CLASS + 1;
+    not_weighed("a row's class, and too little work", plan_grams(sample, sizeof sample, rows, 3, work, less, &grams, &position), MEALPLAN_ROW, 2);
+    rows[2].class_ = CLASS;
+    not_weighed("too little work", plan_grams(sample, sizeof sample, rows, 3, work, less, &grams, &position), MEALPLAN_LENT, 0);
+}
+
 /* Reads a plan of so many bytes from a file; says whether it is there. */
 static int read_plan(const char *name, uint8_t *bytes, size_t length) {
     FILE *file = fopen(name, "rb");
@@ -518,6 +614,7 @@ int main(int argc, char **argv) {
     compared();
     classes();
     copied();
+    weighed();
     want("0 and every refusal came, as bits", seen, (1u << (MEALPLAN_TOO_MANY + 1)) - 1);
     printf("interface: %u calls as the header and documents 01 and 02 say\n", calls);
     return 0;

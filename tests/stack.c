@@ -9,7 +9,7 @@
 #include <string.h>
 #include <ucontext.h>
 
-enum { MOST = MEALPLAN_MOST_RULES, LETTERS = 4096, TEXT = 1 << 20, BUDGET = 1 << 16, ROWS = 1 << 16, FUNCTIONS = 8 };
+enum { MOST = MEALPLAN_MOST_RULES, LETTERS = 4096, TEXT = 1 << 20, BUDGET = 1 << 16, ROWS = 1 << 16, FUNCTIONS = 9 };
 
 static uint8_t words[MEALPLAN_WORDS_BYTES(MOST, MEALPLAN_WIDE)], plan[MEALPLAN_PLAN_BYTES(MOST, MEALPLAN_WIDE)];
 static uint8_t work[MEALPLAN_WORK_BYTES(MOST)], cursor[MEALPLAN_CURSOR_BYTES(MOST)], root[MEALPLAN_CURSOR_BYTES(MOST)];
@@ -17,7 +17,7 @@ static uint8_t letters[LETTERS], answers[MEALPLAN_ANSWERS_BYTES(LETTERS)], out[T
 static uint16_t record, n, start;
 static uint16_t rules, format, first; /* of the plan that is tried: its rules, the record length, and the start that is lent to seal */
 static size_t words_len, plan_len;
-static uint64_t trees, entries, levels, written, position;
+static uint64_t trees, entries, levels, written, grams, position;
 static uint32_t verdict, pairs, result;
 
 /* The library's memset is this one, which takes no stack but its return address: so the figures are the library's own. */
@@ -51,11 +51,12 @@ static void compare(void) {
     CALL(plan_compare, plan, plan_len, work, sizeof work, cursor, sizeof cursor, root, sizeof root, BUDGET, &verdict, &pairs, &position);
 }
 
-/* For a client who sees a part of the labels. */
+/* For a client who sees a part of the labels, all of which weigh something. */
+static const struct plan_row classes[] = {{0, 97, 0, 120}, {98, 200, 1, 30}, {201, MEALPLAN_LAST_LABEL, 2, 65535}};
 static void copy(void) {
-    static const struct plan_row classes[] = {{0, 97, 0, 0}, {98, 200, 1, 0}, {201, MEALPLAN_LAST_LABEL, 2, 0}};
     CALL(plan_copy, plan, plan_len, classes, 3, 1, work, sizeof work, out, sizeof out, &written, &position);
 }
+static void weigh(void) { CALL(plan_grams, plan, plan_len, classes, 3, work, sizeof work, &grams, &position); }
 
 /* A list of rows of 256 labels each, of which so many are lent, and the label asked for. */
 static struct plan_row rows[ROWS];
@@ -93,7 +94,8 @@ static struct function {
     {"plan_seal", seal, MEALPLAN_STACK_SEAL, 0},          {"plan_check", check, MEALPLAN_STACK_CHECK, 0},
     {"plan_unseal", unseal, MEALPLAN_STACK_UNSEAL, 0},    {"plan_measure", measure, MEALPLAN_STACK_MEASURE, 0},
     {"plan_spread", spread, MEALPLAN_STACK_SPREAD, 0},    {"plan_walk", walk, MEALPLAN_STACK_WALK, 0},
-    {"plan_compare", compare, MEALPLAN_STACK_COMPARE, 0}, {"plan_copy", copy, MEALPLAN_STACK_COPY, 0},
+    {"plan_compare", compare, MEALPLAN_STACK_COMPARE, 0}, {"plan_grams", weigh, MEALPLAN_STACK_GRAMS, 0},
+    {"plan_copy", copy, MEALPLAN_STACK_COPY, 0},
 };
 
 /* Any number below a bound: xorshift, the same at every run. */
@@ -232,7 +234,7 @@ static int tried(struct function *from, const struct shape *s, const struct orde
     for (struct function *f = from; f < functions + FUNCTIONS; f++) {
         size_t bytes = used(f->call);
         if (f->most < bytes) f->most = bytes;
-        int large = (f->call == measure || f->call == spread) && result == MEALPLAN_ROOM;
+        int large = (f->call == measure || f->call == spread || f->call == weigh) && result == MEALPLAN_ROOM;
         int many = f->call == copy && rules > MEALPLAN_MOST_COPIED && result == MEALPLAN_TOO_MANY;
         int fine = o->cycle ? result == MEALPLAN_CYCLE && position == lowest : !result || large || many;
         if (fine) continue;

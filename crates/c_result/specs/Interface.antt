@@ -12,6 +12,7 @@ use Rattle.forest.specs.declared.Compared.{Compared}
 use Rattle.forest.specs.declared.Measured.{Measured}
 use Rattle.forest.specs.declared.Walked.{Walked}
 use Rattle.label_rows.specs.declared.Classed.{Classed}
+use Rattle.label_rows.specs.declared.Weighed.{Weighed}
 
 -- an answer gives numbers, in the order of the pointers that they go behind, or is refused
 pub data Given : Type 0 where
@@ -63,3 +64,8 @@ comparedGives (Compared.Refused r) = Given.refused r
 unfoldable pub classedGives : Classed → Given
 classedGives (Classed.Class c) = Given.numbers (c ∷ [])
 classedGives (Classed.Refused r) = Given.refused r
+
+-- Note 8: "the grams of a whole plan"
+unfoldable pub weighedGives : Weighed → Given
+weighedGives (Weighed.Grams g) = Given.numbers (g ∷ [])
+weighedGives (Weighed.Refused r) = Given.refused r

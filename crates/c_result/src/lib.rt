@@ -3,13 +3,14 @@ use forest::Compared;
 use forest::Measured;
 use forest::Walked;
 use label_rows::Classed;
+use label_rows::Weighed;
 use plan::Checked;
 use plan::Written;
 use unseal::Unsealed;
 ghost use mathlib.Core.Path.{_≡_};
 ghost use Rattle.c_result.specs.Interface.{resultNumber, resultPosition, behind};
 ghost use Rattle.c_result.specs.Interface.{checkedGives, writtenGives, unsealedGives, measuredGives};
-ghost use Rattle.c_result.specs.Interface.{walkedGives, comparedGives, classedGives};
+ghost use Rattle.c_result.specs.Interface.{walkedGives, comparedGives, classedGives, weighedGives};
 
 // What a checked answer leaves behind the pointers, and the result.
 pub fn give_checked(answer: Checked, n: &mut u16, start: &mut u16, position: &mut u64) -> u32
@@ -230,6 +231,27 @@ pub fn give_classed(answer: Classed, class: &mut u16, position: &mut u64) -> u32
             0
         }
         Classed::Refused(why) => {
+            *position = why.position();
+            why.number()
+        }
+    }
+}
+
+// What the answer for a plan's grams leaves behind the pointers, and the result.
+pub fn give_weighed(answer: Weighed, grams: &mut u64, position: &mut u64) -> u32
+    ensures { λ r.
+        let given = weighedGives answer in
+        ⌜ (r ≡ resultNumber given)
+        × (now (grams .exit) ≡ behind 0 given (now (grams .entry)))
+        × (now (position .exit) ≡ resultPosition given) ⌝ }
+{
+    match answer {
+        Weighed::Grams(sum) => {
+            *grams = sum;
+            *position = 0;
+            0
+        }
+        Weighed::Refused(why) => {
             *position = why.position();
             why.number()
         }

@@ -1,3 +1,4 @@
 pub mod Judged
 pub mod Makes
 pub mod Prefixed
+pub mod Bytes

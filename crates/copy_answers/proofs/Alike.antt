@@ -4,9 +4,7 @@ use Prim.Native.Nat.{ℕ}
 use mathlib.Core.Bool.{not}
 use mathlib.Core.List.{List, [], _∷_, map}
 use mathlib.Core.Path.{_≡_, refl, sym, ap, ap₂, _∙_}
-use lib.ListN.{length, take, drop}
-use lib.Seq.{take-at}
-use Rattle.words.specs.Front.{inFront}
+use lib.ListN.{length, take}
 use Rattle.rule.specs.declared.Rule.{Rule}
 use Rattle.plan.specs.declared.Checked.{Checked}
 use Rattle.plan.specs.declared.Written.{Written}
@@ -22,6 +20,7 @@ use Rattle.label_rows.specs.declared.LabelRow.{LabelRow}
 use Rattle.copy_variants.specs.Visible.{visible, seenBy}
 use Rattle.copy_plan.specs.Bytes.{copyBytes}
 use Rattle.copy.specs.Copy.{Copies}
+use Rattle.copy.proofs.Bytes.{copy-bytes}
 use Rattle.copy_answers.specs.Asked.{Enough, Asked, told, TellAlike}
 
 -- a call that isn't refused for size is turned down by its letters alone
@@ -64,11 +63,6 @@ module _ (s t : List ℕ) (n m start top : ℕ) (e : checked s ≡ Checked.Accep
         answers = (M .answered ∙ ap (map answerWord) fingers ∙ sym (N .answered)) i;
       }
 
--- the bytes that copy wrote, of the length that it gave
-written-bytes : {bs out′ : List ℕ} (out : List ℕ) {l : ℕ} {x : Written} → x ≡ Written.Length (length bs) → x ≡ Written.Length l → out′ ≡ inFront bs out → take l out′ ≡ bs
-unfolding inFront
-written-bytes {bs} {out′} out {l} e f w = let same : length bs ≡ l = cc in rw w (take-at bs (drop (length bs) out) l same)
-
 -- "Two plans whose visible forests agree must give the client equal answers to every string of letters from above the forest": plans s and
 -- t, lists and classes of any kind, and what copy wrote for the one and for the other
 module _ {s t : List ℕ} {rows others : List LabelRow} {c d n m a b : ℕ} {work work′ out out′ lent lent′ place place′ : List ℕ} {x y : Written}
@@ -77,6 +71,6 @@ module _ {s t : List ℕ} {rows others : List LabelRow} {c d n m a b : ℕ} {wor
       → visible (seenBy rows c) (forest (rulesOf s) a) ≡ visible (seenBy others d) (forest (rulesOf t) b)
       → TellAlike walkOf (take l out′) (length (X .rules)) (take k place′) (length (Y .rules))
   equal-answers e f same =
-      rw (written-bytes out (X .answer) e (X .writes), written-bytes place (Y .answer) f (Y .writes))
+      rw (copy-bytes X e, copy-bytes Y f)
       (tell-alike (copyBytes (X .rules) (X .top)) (copyBytes (Y .rules) (Y .top)) (length (X .rules)) (length (Y .rules)) (X .top) (Y .top) (X .accepts) (Y .accepts)
       (ap (λ (R : List Rule). forest R (X .top)) (X .reads) ∙ X .copied .gives ∙ same ∙ sym (ap (λ (R : List Rule). forest R (Y .top)) (Y .reads) ∙ Y .copied .gives)))

@@ -41,8 +41,8 @@ use Rattle.copy_passes.specs.Passes.{markNamed, marksDown, marks, number as rul
 -- a sound list: labels below 200 are of class 0, all others of class 2; and the labels that a client of class 1 sees
 unfoldable pub list : List LabelRow
 list =
-    record { lowest = 0; highest = 199; class = 0; grams = 0 }
-    ∷ record { lowest = 200; highest = 16777215; class = 2; grams = 0 }
+    record { lowest = 0; highest = 199; class = 0; grams = 30 }
+    ∷ record { lowest = 200; highest = 16777215; class = 2; grams = 500 }
     ∷ []
 
 list-sound : coverage list ≡ Coverage.Whole

@@ -23,7 +23,7 @@ unfoldable pub rowOf : List LabelRow → ℕ → LabelRow
 rowOf [] x = noRow
 rowOf (r ∷ rs) x = cond (covers r x) r (rowOf rs x)
 
--- "grams per entry": those of a label
+-- Note 8: "Each row of Note 5 gains grams per entry": those of an entry with a label
 unfoldable pub gramsOf : List LabelRow → ℕ → ℕ
 unfolding rowOf
 gramsOf rows x = rowOf rows x .grams

@@ -8,7 +8,7 @@ ghost use Rattle.rule.specs.Rule.{largestLabel};
 ghost use Rattle.label_rows.specs.Coverage.{invalid, extended, ended, coverage};
 ghost use Rattle.label_rows.specs.Class.{rowOf, labelJudged, classed};
 
-// A row of the list: the labels from the lowest to the highest have the class. No answer depends on the last field, the grams per entry.
+// A row of the list: the labels from the lowest to the highest have the class, and an entry with one of them weighs so many grams.
 #[repr(C)]
 pub struct LabelRow {
     pub lowest: u32,
@@ -26,6 +26,12 @@ pub enum Coverage {
 // The class of a label, or why there is none.
 pub enum Classed {
     Class(u16),
+    Refused(Refusal),
+}
+
+// The grams of a plan, or why it isn't weighed (document 02, Note 8).
+pub enum Weighed {
+    Grams(u64),
     Refused(Refusal),
 }
 

@@ -9,9 +9,10 @@ ghost use Rattle.forest.specs.Outcome.{measured, measuredWork, spread, spreadOu
 ghost use Rattle.forest.specs.Compare.{compare, comparedWork};
 ghost use Rattle.demand.specs.Calls.{walkOf, lends};
 ghost use Rattle.label_rows.specs.Class.{classed};
+ghost use Rattle.grams.specs.Grams.{weighed, weighedWork};
 ghost use Rattle.c_result.specs.Interface.{resultNumber, resultPosition, behind};
 ghost use Rattle.c_result.specs.Interface.{checkedGives, writtenGives, unsealedGives, measuredGives};
-ghost use Rattle.c_result.specs.Interface.{walkedGives, comparedGives, classedGives};
+ghost use Rattle.c_result.specs.Interface.{walkedGives, comparedGives, classedGives, weighedGives};
 ghost use Rattle.mealplan.specs.Given.{CopyGiven};
 
 // Check.
@@ -267,4 +268,31 @@ pub extern "C" fn plan_copy(
 {
     let copied = copy::copy(plan, rows, class, work, out);
     c_result::give_written(copied, written, position)
+}
+
+// The grams of a plan.
+#[no_mangle]
+pub extern "C" fn plan_grams(
+    plan: &[u8],
+    rows: &[LabelRow],
+    work: &mut [u8],
+    grams: &mut u64,
+    position: &mut u64,
+) -> u32
+    ensures { λ r.
+        let work′ = now (work .exit) in
+        let grams′ = now (grams .exit) in
+        let position′ = now (position .exit) in
+        let plan = now (plan .entry) in
+        let rows = now (rows .entry) in
+        let work = now (work .entry) in
+        let grams = now (grams .entry) in
+        let given = weighedGives (weighed plan rows work) in
+        ⌜ (r ≡ resultNumber given)
+        × (work′ ≡ weighedWork plan rows work)
+        × (grams′ ≡ behind 0 given grams)
+        × (position′ ≡ resultPosition given) ⌝ }
+{
+    let weighed = grams::grams(plan, rows, work);
+    c_result::give_weighed(weighed, grams, position)
 }

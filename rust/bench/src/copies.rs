@@ -1,10 +1,9 @@
 //! What a client's copy costs, beside a measure of the same plan.
-use crate::report::Report;
+use crate::report::{Report, shown};
 use crate::timing::Desk;
 use crate::{Family, tours};
 use reference::copy::Client;
 use reference::rows::{LAST_LABEL, Row};
-use std::io;
 use trials::call::Operation;
 use trials::draft::Draft;
 use trials::families::{self, Growth};
@@ -16,7 +15,7 @@ const IN_ANY_ORDER: usize = 1024;
 /// Rows of the list, of as many labels each up to the last, which has the rest.
 const ROWS: u32 = 64;
 /// As many measures a copy may take at most.
-const MOST_MEASURES: f64 = 5.0;
+pub const MOST_MEASURES: f64 = 5.0;
 
 /// But for the doubled rows, most of which stand for more entries than measure counts, all rules are reached.
 const FAMILIES: [(&str, Family); 6] = [
@@ -53,14 +52,6 @@ pub fn all(report: &mut Report) -> f64 {
     most
 }
 
-/// An error where a copy took too many measures.
-pub fn few_measures(most: f64) -> io::Result<()> {
-    if most <= MOST_MEASURES {
-        return Ok(());
-    }
-    Err(io::Error::other(format!("a copy took {most:.2} measures of the same plan, more than {MOST_MEASURES}")))
-}
-
 /// The rows of a plan, for a client of either class; gives the most measures that a copy took.
 fn rows(report: &mut Report, name: &str, draft: &Draft) -> f64 {
     let n = draft.n();
@@ -69,7 +60,7 @@ fn rows(report: &mut Report, name: &str, draft: &Draft) -> f64 {
     let width = 256 / ROWS;
     let highest = |i: u32| if i + 1 == ROWS { LAST_LABEL } else { width * (i + 1) - 1 };
     let rows: Vec<Row> =
-        (0..ROWS).map(|i| Row { lowest: width * i, highest: highest(i), class: (i % 2) as u16 }).collect();
+        (0..ROWS).map(|i| Row { lowest: width * i, highest: highest(i), class: (i % 2) as u16, grams: 0 }).collect();
     let measure = Desk::new(&draft).time(Operation::Measure, 8).library / 1000.0;
     let mut most: f64 = 0.0;
     for class in [1, 0] {
@@ -81,9 +72,4 @@ fn rows(report: &mut Report, name: &str, draft: &Draft) -> f64 {
         most = most.max(copy / measure);
     }
     most
-}
-
-fn shown(figure: f64) -> String {
-    let digits = if figure < 10.0 { 2 } else { 1 };
-    format!("{figure:.digits$}")
 }

@@ -1,11 +1,13 @@
 //! Measures the proved library against the reference by rules, in one run and on the same buffers; prints the tables and writes them to
 //! docs/bench.md, with a plot in docs/bench.svg. `bench check` only prints the times of check by the order of the rules, `bench compare` those
-//! of compare, `bench rows` those of the class of a label, `bench copy` those of copy, `bench baseline` those beside the archive that `BASELINE`
-//! named when this was built. It ends in an error where a copy takes longer than five measures of the same plan.
+//! of compare, `bench rows` those of the class of a label, `bench copy` those of copy, `bench grams` those of grams, `bench baseline` those beside
+//! the archive that `BASELINE` named when this was built. It ends in an error where a copy takes longer than five measures of the same plan, or
+//! grams by few rows longer than four.
 mod archive;
 mod baseline;
 mod compares;
 mod copies;
+mod grams;
 mod plot;
 mod report;
 mod setting;
@@ -50,9 +52,14 @@ fn main() -> io::Result<()> {
             "copy" => {
                 let most = copies::all(&mut report);
                 print!("{}", report.text());
-                return copies::few_measures(most);
+                return few_measures("a copy", most, copies::MOST_MEASURES);
             }
-            _ => return Err(io::Error::other("bench [check | compare | rows | copy | baseline]")),
+            "grams" => {
+                let most = grams::all(&mut report);
+                print!("{}", report.text());
+                return few_measures("grams", most, grams::MOST_MEASURES);
+            }
+            _ => return Err(io::Error::other("bench [check | compare | rows | copy | grams | baseline]")),
         }
         print!("{}", report.text());
         return Ok(());
@@ -66,13 +73,23 @@ fn main() -> io::Result<()> {
     texts(&mut report);
     compares::all(&mut report);
     classes(&mut report);
-    let most = copies::all(&mut report);
+    let most_of_copies = copies::all(&mut report);
+    let most_of_grams = grams::all(&mut report);
     baseline::all(&mut report);
     print!("{}", report.text());
     let docs: PathBuf = [env!("CARGO_MANIFEST_DIR"), "..", "..", "docs"].iter().collect();
     fs::write(docs.join("bench.svg"), plot::by_entries(&by_entries))?;
     fs::write(docs.join("bench.md"), report.text())?;
-    copies::few_measures(most)
+    few_measures("a copy", most_of_copies, copies::MOST_MEASURES)?;
+    few_measures("grams", most_of_grams, grams::MOST_MEASURES)
+}
+
+/// An error where something took more measures of the same plan than it may.
+fn few_measures(what: &str, took: f64, most: f64) -> io::Result<()> {
+    if took <= most {
+        return Ok(());
+    }
+    Err(io::Error::other(format!("{what} took {took:.2} measures of the same plan, more than {most}")))
 }
 
 /// A letter's cost on a tour: a call with its letters less one without.

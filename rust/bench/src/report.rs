@@ -15,6 +15,12 @@ zeros, which is promised and part of its time. What was measured with what:
 
 ";
 
+/// A figure of few digits.
+pub fn shown(figure: f64) -> String {
+    let digits = if figure < 10.0 { 2 } else { 1 };
+    format!("{figure:.digits$}")
+}
+
 impl Report {
     pub fn new() -> Report {
         Report(format!("{ABOUT}{}", setting::all()))

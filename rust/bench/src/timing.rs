@@ -1,12 +1,11 @@
 //! The clock: two implementations in turn on the same buffers, the best of many rounds.
-use mealplan::LabelRow;
 use reference::Refused;
 use reference::copy::{Client, copy_bytes};
 use reference::rows::{LAST_LABEL, Row, in_order};
 use std::hint::black_box;
 use std::ops::{Div, Sub};
 use std::time::Instant;
-use trials::call::{ByRules, Call, Implementation, Operation, Outcome, Slices, Values};
+use trials::call::{self, ByRules, Call, Implementation, Operation, Outcome, Slices, Values};
 use trials::draft::Draft;
 use trials::library::Library;
 
@@ -116,6 +115,12 @@ impl Desk {
         self.run(&mut Library, Operation::Copy).expect("a copy of a valid plan")
     }
 
+    /// Weighs by a list; gives the grams.
+    pub fn weighs_by(&mut self, rows: &[Row]) -> Values {
+        self.call = self.call.clone().with_rows(rows);
+        self.run(&mut ByRules, Operation::Grams).expect("the grams of a valid plan")
+    }
+
     fn run(&mut self, implementation: &mut dyn Implementation, operation: Operation) -> Outcome {
         let call = &mut self.call;
         let lent = Slices {
@@ -179,14 +184,18 @@ impl Desk {
     }
 }
 
-/// The time of one call for the class of the last label, on a sound list of so many rows: the best of many rounds, by turns.
-pub fn class(count: usize) -> Times {
+/// A sound list of rows of as many labels each, but for the last, which has the rest.
+pub fn rows(count: usize) -> Vec<Row> {
     let width = (LAST_LABEL + 1) / count as u32;
     let highest = |i: u32| if i as usize + 1 == count { LAST_LABEL } else { width * (i + 1) - 1 };
-    let row = |i: u32| Row { lowest: width * i, highest: highest(i), class: (i % 4) as u16 };
-    let rows: Vec<Row> = (0..count as u32).map(row).collect();
-    let lent = |row: &Row| LabelRow { lowest: row.lowest, highest: row.highest, class: row.class, grams: 0 };
-    let lent: Vec<LabelRow> = rows.iter().map(lent).collect();
+    let row = |i: u32| Row { lowest: width * i, highest: highest(i), class: (i % 4) as u16, grams: i as u16 };
+    (0..count as u32).map(row).collect()
+}
+
+/// The time of one call for the class of the last label, on a sound list of so many rows: the best of many rounds, by turns.
+pub fn class(count: usize) -> Times {
+    let rows = rows(count);
+    let lent = call::lent(&rows);
     let expected = Some(rows[count - 1].class);
     let times = 100_000 / count + 1;
     let mut best = Times::WORST;

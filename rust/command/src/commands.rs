@@ -14,7 +14,7 @@ struct Command {
     run: fn(&Arguments) -> Outcome,
 }
 
-const COMMANDS: [Command; 11] = [
+const COMMANDS: [Command; 12] = [
     Command {
         name: "check",
         words: "PLAN",
@@ -93,8 +93,8 @@ const COMMANDS: [Command; 11] = [
         words: "LIST.txt [LABEL..]",
         options: Options::NONE,
         summary: "checks a list of who may read which label, and tells the class of labels",
-        help: "A line is a row: its lowest label, its highest and its class, 0 to 3. Behind # is a comment. The rows stand in label order\n\
-               and cover 0 to 16777215 once.\n",
+        help: "A line is a row: its lowest label, its highest, its class, 0 to 3, and, where an entry weighs anything, its grams, up to 65535.\n\
+               Behind # is a comment. The rows stand in label order and cover 0 to 16777215 once.\n",
         run: operations::classes,
     },
     Command {
@@ -105,6 +105,15 @@ const COMMANDS: [Command; 11] = [
         help: "  -o COPY  the file to write; standard output if not given\n\
                The list is one as 'mealplan classes' takes it.\n",
         run: operations::copy,
+    },
+    Command {
+        name: "grams",
+        words: "PLAN LIST.txt",
+        options: Options::NONE,
+        summary: "weighs a plan: the grams of all entries, by a list that tells them",
+        help: "The list is one as 'mealplan classes' takes it; a row of three numbers weighs nothing.\n\
+               A sum of more than 2^64 - 1 grams is refused with 11.\n",
+        run: operations::grams,
     },
     Command {
         name: "read",

@@ -1,4 +1,5 @@
-//! A list of who may read which label as text: a row a line, its lowest label, its highest and its class. Behind `#` a line is a comment.
+//! A list of who may read which label, and of what an entry weighs, as text: a row a line, its lowest label, its highest, its class and its grams
+//! per entry, none where they aren't told. Behind `#` a line is a comment.
 use crate::trouble::Trouble;
 use mealplan::{Classes, LabelRow};
 
@@ -22,7 +23,7 @@ impl List {
                 Trouble::Text(
                     name.to_owned(),
                     i + 1,
-                    "this is no row, as '0 97 2' is one: labels 0 to 97, class 2".into(),
+                    "this is no row, as '0 97 2 120' is one: labels 0 to 97, class 2, 120 grams".into(),
                 )
             };
             list.rows.push(row(&words).ok_or_else(wrong)?);
@@ -41,8 +42,13 @@ impl List {
 }
 
 fn row(words: &[&str]) -> Option<LabelRow> {
-    let [lowest, highest, class] = words else { return None };
-    Some(LabelRow::new(lowest.parse().ok()?, highest.parse().ok()?, class.parse().ok()?))
+    let (lowest, highest, class, grams) = match words {
+        [lowest, highest, class] => (lowest, highest, class, "0"),
+        [lowest, highest, class, grams] => (lowest, highest, class, *grams),
+        _ => return None,
+    };
+    let row = LabelRow::new(lowest.parse().ok()?, highest.parse().ok()?, class.parse().ok()?);
+    Some(row.weighing(grams.parse().ok()?))
 }
 
 #[cfg(test)]
@@ -61,8 +67,26 @@ mod tests {
     }
 
     #[test]
+    fn a_row_of_three_numbers_weighs_nothing() {
+        let list =
+            List::read("x", "0 97 0 120 # each\n98 98 2\n99 16777215 1 65535\n").unwrap_or_else(|_| panic!("rows"));
+        assert_eq!(list.rows.iter().map(|row| row.grams).collect::<Vec<u16>>(), [120, 0, 65_535]);
+        assert!(list.classes().is_ok());
+    }
+
+    #[test]
     fn what_is_no_row_is_named() {
-        for text in ["\n0 97", "\n0 97 1 2", "\na 97 1", "\n0 4294967296 1", "\n0 97 65536", "\n0 97 -1"] {
+        for text in [
+            "\n0 97",
+            "\n0 97 1 2 3",
+            "\na 97 1",
+            "\n0 4294967296 1",
+            "\n0 97 65536",
+            "\n0 97 -1",
+            "\n0 97 1 65536",
+            "\n0 97 1 -1",
+            "\n0 97 1 x",
+        ] {
             assert!(matches!(List::read("x", text), Err(Trouble::Text(_, 2, _))), "{text}");
         }
     }

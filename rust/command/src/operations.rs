@@ -166,6 +166,16 @@ pub fn copy(arguments: &Arguments) -> Outcome {
     files::write_plan(arguments.value("-o"), &copied)
 }
 
+pub fn grams(arguments: &Arguments) -> Outcome {
+    let [name, list] = arguments.words()?;
+    let bytes = files::read(name)?;
+    let list = List::read(list, &files::read_text(list)?)?;
+    let plan = checked(name, &bytes)?;
+    let classes = list.classes()?;
+    let grams = during("weighing", || plan.grams(classes)).map_err(Trouble::refused(name))?;
+    files::print(format!("grams {grams}\n").as_bytes())
+}
+
 #[cfg(test)]
 mod tests {
     use super::*;

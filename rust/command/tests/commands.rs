@@ -136,7 +136,12 @@ fn a_forest_that_nobody_unfolds() {
     assert_eq!(prints(&["walk", &plan, "alpn"]), "a 98\nl 97\np 97\nn 97\n");
     assert!(
         says(&["measure", &plan], 1)
-            .ends_with("refused 11 at 0: the output is too short, or there are over 2^64 - 1 nodes\n")
+            .ends_with("refused 11 at 0: the output is too short, or there are over 2^64 - 1 nodes or grams\n")
+    );
+    assert!(says(&["grams", &plan, &sample("grams.txt")], 1).contains("large.bin: refused 11 at 0: "));
+    assert_eq!(
+        prints(&["grams", &plan, &file("light.txt", b"0 97 0\n98 98 0 65535\n99 16777215 0 1\n")]),
+        "grams 65535\n"
     );
     assert_eq!(prints(&["rules", &plan]).lines().count(), 905);
 }
@@ -180,6 +185,28 @@ fn classes_and_copy() {
     assert!(says(&["copy", &sample("plan.bin"), &gap, "4"], 1).contains("gap.txt, line 3: refused 14 at 1: "));
     assert!(says(&["copy", &gap, &list, "4"], 1).contains("gap.txt: refused 1 at 0: "));
     assert!(says(&["copy", &sample("plan.bin"), &list, "65536"], 2).contains("the class: '65536' is no number"));
+}
+
+#[test]
+fn grams() {
+    let list = sample("grams.txt");
+    assert_eq!(prints(&["grams", &sample("plan.bin"), &list]), "grams 1130\n");
+    assert_eq!(prints(&["grams", &sample("wide.bin"), &list]), "grams 2750\n");
+    assert_eq!(prints(&["classes", &list, "97", "98", "99"]), "97 0\n98 2\n99 1\n");
+    // A list from before there were grams.
+    assert_eq!(prints(&["grams", &sample("plan.bin"), &sample("classes.txt")]), "grams 0\n");
+    for (class, grams) in [("0", 120), ("1", 980), ("2", 1_130)] {
+        let copy = file("weighed.bin", &run(&["copy", &sample("plan.bin"), &list, class]).stdout);
+        assert_eq!(prints(&["grams", &copy, &list]), format!("grams {grams}\n"));
+    }
+    let output = run_with(&["grams", "-", &list], &fs::read(sample("plan.bin")).expect("the sample"));
+    assert_eq!(String::from_utf8_lossy(&output.stdout), "grams 1130\n");
+    let gap = file("lighter.txt", b"0 97 0 120\n# no 98\n99 16777215 1 250\n");
+    assert!(says(&["grams", &sample("plan.bin"), &gap], 1).contains("lighter.txt, line 3: refused 14 at 1: "));
+    assert!(says(&["grams", &gap, &gap], 1).contains("lighter.txt: refused 1 at 0: "));
+    let heavy = file("heavy.txt", b"0 16777215 0 65536\n");
+    assert!(says(&["grams", &sample("plan.bin"), &heavy], 1).contains("heavy.txt, line 1: this is no row"));
+    assert!(says(&["grams", &sample("plan.bin")], 2).contains("usage: mealplan grams PLAN LIST.txt"));
 }
 
 #[test]
@@ -238,7 +265,7 @@ fn every_command_has_help() {
         .collect();
     assert_eq!(
         names,
-        ["check", "measure", "spread", "rules", "seal", "show", "walk", "compare", "classes", "copy", "read"]
+        ["check", "measure", "spread", "rules", "seal", "show", "walk", "compare", "classes", "copy", "grams", "read"]
     );
     for name in names {
         assert!(prints(&[name, "--help"]).starts_with(&format!("usage: mealplan {name} ")));
@@ -277,6 +304,8 @@ fn whatever_is_damaged_is_told_or_taken() {
         }
     }
     damaged(RULES.as_bytes()).for_each(|text| told_or_taken(&["seal", "-"], &text));
-    let list = fs::read(sample("classes.txt")).expect("the sample");
-    damaged(&list).for_each(|text| told_or_taken(&["classes", "-"], &text));
+    for name in ["classes.txt", "grams.txt"] {
+        let list = fs::read(sample(name)).expect("the sample");
+        damaged(&list).for_each(|text| told_or_taken(&["classes", "-"], &text));
+    }
 }

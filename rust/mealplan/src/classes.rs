@@ -1,7 +1,8 @@
-//! Who may read which label.
+//! Who may read which label, and what an entry weighs.
 use crate::{Label, Refused, class};
 
-/// A row of a list of who may read which label: the labels from the lowest to the highest have the class.
+/// A row of a list of who may read which label, and of what an entry weighs: the labels from the lowest to the highest have the class, and so many
+/// grams per entry.
 #[repr(C)]
 #[derive(Clone, Copy, PartialEq, Eq, Hash, Debug, Default)]
 pub struct LabelRow {
@@ -11,14 +12,25 @@ pub struct LabelRow {
     pub highest: Label,
     /// Their class, 0 to 3.
     pub class: u16,
-    /// Grams per entry. They aren't looked at.
+    /// Grams per entry, which [`grams`](crate::grams) alone looks at.
     pub grams: u16,
 }
 
 impl LabelRow {
-    /// The row that gives these labels a class.
+    /// The row that gives these labels a class, and by which they weigh nothing.
     pub const fn new(lowest: Label, highest: Label, class: u16) -> LabelRow {
         LabelRow { lowest, highest, class, grams: 0 }
+    }
+
+    /// The same row with so many grams per entry.
+    ///
+    /// ```
+    /// use mealplan::LabelRow;
+    /// let row = LabelRow::new(98, 98, 2).weighing(30);
+    /// assert_eq!((row.class, row.grams), (2, 30));
+    /// ```
+    pub const fn weighing(self, grams: u16) -> LabelRow {
+        LabelRow { grams, ..self }
     }
 }
 

@@ -1,8 +1,8 @@
 //! The meal plan walker for Rust, over the proved C interface (include/mealplan.h).
 //!
 //! A plan's bytes are checked once, as a [`Plan`]. A [`Walker`] stands above its forest or at a node of it and moves by methods; a [`Place`] is where
-//! it stands, to be kept and gone back to. [`Plan::measure`] counts, [`Plan::spread`] writes out, [`Plan::copy`] makes a client's copy by a list of
-//! [`Classes`]. What is turned down is [`Refused`], with its number, its position and a sentence.
+//! it stands, to be kept and gone back to. [`Plan::measure`] counts, [`Plan::spread`] writes out; by a list of [`Classes`], [`Plan::copy`] makes a
+//! client's copy and [`Plan::grams`] weighs. What is turned down is [`Refused`], with its number, its position and a sentence.
 //!
 //! ```
 //! use mealplan::{Format, Plan, Rule, seal_rules};
@@ -32,10 +32,10 @@
 //! ```
 //!
 //! Below that are the functions of the C interface, on slices that the caller lends: [`check`], [`seal`], [`unseal`], [`measure`], [`spread`],
-//! [`walk`], [`compare`], [`class`] and [`copy`]. Each answers `Ok` with the values that documents 01 and 02 give, or `Err` with the refusal. Slices
-//! of 16-bit words are bytes, two to a word, low first; an odd last byte isn't counted. Answers are 32-bit words, four bytes to each ([`labels`]
-//! reads them). How long each slice must be is told by [`work_bytes`], [`cursor_bytes`], [`answers_bytes`], [`plan_bytes`], [`words_bytes`],
-//! [`text_bytes`] and [`copy_bytes`].
+//! [`walk`], [`compare`], [`class`], [`copy`] and [`grams`]. Each answers `Ok` with the values that documents 01 and 02 give, or `Err` with the
+//! refusal. Slices of 16-bit words are bytes, two to a word, low first; an odd last byte isn't counted. Answers are 32-bit words, four bytes to each
+//! ([`labels`] reads them). How long each slice must be is told by [`work_bytes`], [`cursor_bytes`], [`answers_bytes`], [`plan_bytes`],
+//! [`words_bytes`], [`text_bytes`] and [`copy_bytes`].
 //!
 //! ```
 //! // The same letters on buffers of one's own.
@@ -76,7 +76,7 @@ mod values;
 mod walker;
 
 pub use answers::{Label, NOWHERE, labels};
-pub use c::calls::{check, class, compare, copy, measure, seal, spread, unseal, walk};
+pub use c::calls::{check, class, compare, copy, grams, measure, seal, spread, unseal, walk};
 pub use classes::{Classes, LabelRow};
 pub use format::Format;
 pub use limits::*;

@@ -25,8 +25,8 @@ pub const MOST_COPIED: usize = 4_096;
 /// Bytes of a plan behind its rules: n, start, distance and mark.
 pub const TRAILER: usize = 10;
 
-/// Bytes of work that [`measure`](crate::measure), [`spread`](crate::spread), [`walk`](crate::walk), [`compare`](crate::compare) and
-/// [`copy`](crate::copy) need for a plan of so many rules.
+/// Bytes of work that [`measure`](crate::measure), [`spread`](crate::spread), [`walk`](crate::walk), [`compare`](crate::compare),
+/// [`copy`](crate::copy) and [`grams`](crate::grams) need for a plan of so many rules.
 pub const fn work_bytes(rules: usize) -> usize {
     if rules > FEW_RULES { 80 * rules } else { 64 * rules }
 }

@@ -1,7 +1,9 @@
 //! A checked plan.
 use crate::{Checked, Format, Refused, Rule, TRAILER, check, words_bytes};
 #[cfg(feature = "alloc")]
-use crate::{Classes, Measured, Walker, copy, copy_bytes, measure, spread, text_bytes, work_bytes};
+use crate::{Classes, LAST_LABEL, LabelRow, Measured, Walker};
+#[cfg(feature = "alloc")]
+use crate::{copy, copy_bytes, grams, measure, spread, text_bytes, work_bytes};
 #[cfg(feature = "alloc")]
 use alloc::{vec, vec::Vec};
 use core::slice::ChunksExact;
@@ -104,6 +106,45 @@ impl<'a> Plan<'a> {
         measure(self.bytes, &mut self.work())
     }
 
+    /// The number of nodes, whatever their labels. Refused with 11 for more than 2^64 − 1.
+    ///
+    /// ```
+    /// # let bytes = std::fs::read(concat!(env!("CARGO_MANIFEST_DIR"), "/../../samples/plan.bin")).unwrap();
+    /// assert_eq!(mealplan::Plan::new(&bytes)?.nodes()?, 11);
+    /// # Ok::<(), mealplan::Refused>(())
+    /// ```
+    pub fn nodes(self) -> Result<u64, Refused> {
+        self.nodes_by(&mut self.work())
+    }
+
+    /// The same in work that is lent: the grams, where each node weighs one.
+    fn nodes_by(self, work: &mut [u8]) -> Result<u64, Refused> {
+        grams(self.bytes, &[LabelRow::new(0, LAST_LABEL, 0).weighing(1)], work)
+    }
+
+    /// The grams of all nodes, each by the row that covers its label. Refused with 11 for more than 2^64 − 1; a forest of more nodes than that is
+    /// weighed where its grams fit.
+    ///
+    /// ```
+    /// use mealplan::{Classes, LAST_LABEL, LabelRow, Plan};
+    /// # let bytes = std::fs::read(concat!(env!("CARGO_MANIFEST_DIR"), "/../../samples/plan.bin")).unwrap();
+    /// let rows = [
+    ///     LabelRow::new(0, 97, 0).weighing(120),
+    ///     LabelRow::new(98, 98, 2).weighing(30),
+    ///     LabelRow::new(99, LAST_LABEL, 1).weighing(250),
+    /// ];
+    /// let (plan, classes) = (Plan::new(&bytes)?, Classes::new(&rows)?);
+    /// // Four nodes have label 97, five 98 and two 99.
+    /// assert_eq!(plan.grams(classes)?, 4 * 120 + 5 * 30 + 2 * 250);
+    /// // The copy for a client of class 1 is without the five.
+    /// let copy = plan.copy(classes, 1)?;
+    /// assert_eq!(Plan::new(&copy)?.grams(classes)? + 5 * 30, plan.grams(classes)?);
+    /// # Ok::<(), mealplan::Refused>(())
+    /// ```
+    pub fn grams(self, classes: Classes) -> Result<u64, Refused> {
+        grams(self.bytes, classes.rows(), &mut self.work())
+    }
+
     /// The forest as text, of at most so many bytes. Refused with 11 where it is longer, or where there is no memory for it.
     ///
     /// ```
@@ -116,7 +157,7 @@ impl<'a> Plan<'a> {
     pub fn spread(self, most: usize) -> Result<Vec<u8>, Refused> {
         let room = crate::Refusal::Room.at(0);
         let mut work = self.work();
-        let nodes = measure(self.bytes, &mut work)?.entries;
+        let nodes = self.nodes_by(&mut work)?;
         let length = text_bytes(nodes, self.format()).filter(|length| *length <= most).ok_or(room)?;
         let mut text = Vec::new();
         text.try_reserve_exact(length).map_err(|_| room)?;

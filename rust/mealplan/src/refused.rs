@@ -45,7 +45,7 @@ pub enum Refusal {
     Letter = 9,
     /// The cells are no place of this forest; where places are compared, one above it.
     Place = 10,
-    /// Output too short; over 2^64 − 1 nodes.
+    /// Output too short; over 2^64 − 1 nodes, or grams.
     Room = 11,
     /// Some rule reaches itself.
     Cycle = 12,
@@ -138,7 +138,7 @@ impl fmt::Display for Refused {
                 f,
                 "no letters lead from above this forest to this place, or it is above the forest where a node is asked for"
             ),
-            Refusal::Room => write!(f, "the output is too short, or there are over 2^64 - 1 nodes"),
+            Refusal::Room => write!(f, "the output is too short, or there are over 2^64 - 1 nodes or grams"),
             Refusal::Cycle => write!(f, "rule {at} reaches itself through the rules it names"),
             Refusal::Row => write!(
                 f,

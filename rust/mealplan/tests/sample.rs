@@ -75,7 +75,7 @@ fn every_length_is_the_least_that_is_accepted() {
         let (mut answers, mut text) = ([0; answers_bytes(2)], vec![0; text_bytes(11, format).expect("it is small")]);
         let (mut words, mut plan) = (vec![0; words_bytes(n, format)], vec![0; plan_bytes(n, format)]);
         let mut out = vec![0; copy_bytes(n)];
-        let rows = [LabelRow::new(0, LAST_LABEL, 0)];
+        let rows = [LabelRow::new(0, LAST_LABEL, 0).weighing(65_535)];
         let less = |slice: &mut [u8]| slice.len() - 1;
         let lent = Err(Refusal::Lent.at(0));
         let room = Refusal::Room.at(0);
@@ -101,6 +101,9 @@ fn every_length_is_the_least_that_is_accepted() {
         let short = less(&mut out);
         assert_eq!(copy(&bytes, &rows, 0, &mut work, &mut out[..short]).map(|_| ()), lent);
         assert!(copy(&bytes, &rows, 0, &mut work, &mut out).is_ok());
+        let short = less(&mut work);
+        assert_eq!(grams(&bytes, &rows, &mut work[..short]).map(|_| ()), lent);
+        assert_eq!(grams(&bytes, &rows, &mut work), Ok(11 * 65_535));
     }
     assert_eq!(text_bytes(u64::MAX, Format::Wide), None);
     assert_eq!(Format::from_record_length(9), None);
@@ -190,6 +193,33 @@ fn texts_and_copies_of_the_samples() {
 }
 
 #[test]
+fn grams_of_the_samples() {
+    let [(bytes, ..), (wide, ..)] = samples();
+    let [plan, wide] = [&bytes, &wide].map(|bytes| Plan::new(bytes).expect("the sample"));
+    assert_eq!([plan, wide].map(Plan::nodes), [Ok(11), Ok(11)]);
+    let all = [LabelRow::new(0, LAST_LABEL, 3).weighing(65_535)];
+    let rows = [
+        LabelRow::new(0, 97, 0).weighing(120),
+        LabelRow::new(98, 98, 2).weighing(30),
+        LabelRow::new(99, LAST_LABEL, 1).weighing(250),
+    ];
+    let [all, by_label] = [&all[..], &rows].map(|rows| Classes::new(rows).expect("a sound list"));
+    assert_eq!([plan, wide].map(|plan| plan.grams(all)), [Ok(720_885), Ok(720_885)]);
+    assert_eq!([plan, wide].map(|plan| plan.grams(by_label)), [Ok(1_130), Ok(2_750)]);
+    for (class, seen) in [(0, 120), (1, 980), (2, 1_130), (3, 1_130)] {
+        let copy = plan.copy(by_label, class).expect("a copy");
+        assert_eq!(Plan::new(&copy).and_then(|copy| copy.grams(by_label)), Ok(seen));
+    }
+    // The list before work, the plan before the list.
+    assert_eq!(grams(&bytes, &rows[..2], &mut []), Err(Refusal::Gap.at(2)));
+    assert_eq!(grams(&bytes, &rows, &mut []), Err(Refusal::Lent.at(0)));
+    assert_eq!(grams(&bytes[1..], &rows[1..], &mut []), Err(Refusal::Distance.at(0)));
+    // A row that says nothing of grams weighs nothing.
+    let light = [LabelRow::new(0, LAST_LABEL, 0)];
+    assert_eq!(plan.grams(Classes::new(&light).expect("a sound list")), Ok(0));
+}
+
+#[test]
 fn a_forest_that_nobody_unfolds() {
     // A row doubled 900 times.
     let mut rules = vec![Rule::Empty, Rule::Node(97, 0)];
@@ -197,6 +227,9 @@ fn a_forest_that_nobody_unfolds() {
     let bytes = seal_rules(&rules, Format::Narrow, 901).expect("a plan");
     let plan = Plan::new(&bytes).expect("it was sealed");
     assert_eq!((plan.measure(), plan.spread(usize::MAX)), (Err(Refusal::Room.at(0)), Err(Refusal::Room.at(0))));
+    assert_eq!(plan.nodes(), Err(Refusal::Room.at(0)));
+    let rows = [LabelRow::new(0, 97, 0), LabelRow::new(98, LAST_LABEL, 0).weighing(1)];
+    assert_eq!(plan.grams(Classes::new(&rows).expect("a sound list")), Ok(0), "11 looks at the grams alone");
     let mut walker = plan.walker();
     assert_eq!([walker.last_root(), walker.next_sibling(), walker.previous_sibling()], [Some(97), None, Some(97)]);
 }

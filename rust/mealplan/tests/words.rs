@@ -21,6 +21,14 @@ fn rules_in_words() {
 }
 
 #[test]
+fn rows_as_c_has_them() {
+    const ROW: LabelRow = LabelRow::new(98, LAST_LABEL, 2).weighing(65_535);
+    assert_eq!(ROW, LabelRow { lowest: 98, highest: LAST_LABEL, class: 2, grams: 65_535 });
+    assert_eq!((LabelRow::new(0, 9, 1).grams, LabelRow::default().weighing(7).weighing(0)), (0, LabelRow::default()));
+    assert_eq!((size_of::<LabelRow>(), align_of::<LabelRow>()), (12, 4));
+}
+
+#[test]
 fn places_of_any_bytes() {
     for length in 0..40 {
         let bytes: Vec<u8> =

@@ -40,6 +40,15 @@ impl Client {
         seen.map(|tree| Entry { label: tree.label, below: self.visible(&tree.children) }).collect()
     }
 
+    /// The labels of the nodes that aren't seen: of each tree that the client may not see all, and likewise below each that stays.
+    pub fn taken_out(&self, trees: &[Tree]) -> Vec<u32> {
+        let of_tree = |tree: &Tree| match self.sees(tree.label) {
+            true => self.taken_out(&tree.children),
+            false => tree.listed().map(|node| node.label).collect(),
+        };
+        trees.iter().flat_map(of_tree).collect()
+    }
+
     /// The plan's rules and start where a copy is made, with so many bytes of work and of output; else the first refusal. The class is judged
     /// before the list is read, the list before the number of rules, and what is lent last of all.
     pub fn judge(&self, plan: &[u8], work: usize, out: usize) -> Result<Checked, Refused> {

@@ -1,4 +1,4 @@
-//! The seven operations on meal plans, written from documents 01 and 02 and Reh and Sieber's paper alone, so that the proved library has
+//! The eight operations on meal plans, written from documents 01 and 02 and Reh and Sieber's paper alone, so that the proved library has
 //! something to be compared with. It is written twice over the same format ([`plan`]):
 //!
 //! - [`unfolded`] unfolds the forest into memory, gives every node its place and walks with a finger, word for word as document 01
@@ -7,7 +7,7 @@
 //!
 //! Every operation takes the same lent slices as the C interface and leaves the same bytes in them. The classes of labels ([`rows`]) are written
 //! twice too: by counting, and in order. Of the client's copy ([`copy`]), whose rules are left free, there are the refusals and the forest, by
-//! unfolding and leaving out.
+//! unfolding and leaving out; and what is taken out of it, by unfolding and by rules.
 #![forbid(unsafe_code)]
 
 pub mod answers;

@@ -11,7 +11,7 @@ pub const FEW_RULES: usize = 1_024;
 pub const WORDS: usize = 5;
 /// Bytes of the trailer: n, start, distance, mark.
 pub const TRAILER: usize = 10;
-/// Words of work that measure, spread, walk, compare and copy need for each of n rules.
+/// Words of work that measure, spread, walk, compare, copy and grams need for each of n rules.
 pub const fn work_words(n: usize) -> usize {
     if n <= FEW_RULES { 32 } else { 40 }
 }
@@ -76,6 +76,14 @@ impl Rule {
             Rule::Fill(b, c) => [3, b, c, 0, 0],
             Rule::Part(label, l, r) => [4, low(label), l, r, high(label)],
             Rule::Join(b, c) => [5, b, c, 0, 0],
+        }
+    }
+
+    /// The label of a kind that has one.
+    pub fn label(self) -> Option<u32> {
+        match self {
+            Rule::Node(label, _) | Rule::Part(label, ..) => Some(label),
+            _ => None,
         }
     }
 

@@ -31,7 +31,7 @@ pub enum Why {
     Letter = 9,
     /// The stored cells aren't a place of this forest; for compare, not a node's place.
     Place = 10,
-    /// Output too short, or more than 2^64 − 1 nodes.
+    /// Output too short, or more than 2^64 − 1 nodes; for grams, more than 2^64 − 1 grams.
     Output = 11,
     /// Some rule reaches itself; tested after 4 to 6 and before 7.
     Cycle = 12,

@@ -1,12 +1,14 @@
-//! Who may read which label (document 02, Note 5), twice: by counting, word for word as the Note says it, and in order, for long lists.
+//! Who may read which label (document 02, Note 5), twice: by counting, word for word as the Note says it, and in order, for long lists; and the
+//! grams per entry (Note 8).
 use crate::{Refused, Why};
 
-/// A row of the list: the labels from the lowest to the highest have the class.
+/// A row of the list: the labels from the lowest to the highest have the class, and so many grams per entry.
 #[derive(Clone, Copy, PartialEq, Eq, Debug)]
 pub struct Row {
     pub lowest: u32,
     pub highest: u32,
     pub class: u16,
+    pub grams: u16,
 }
 
 /// The largest label and the largest class.
@@ -82,7 +84,17 @@ pub fn check(rows: &[Row]) -> Result<(), Refused> {
     Ok(())
 }
 
+/// The row of a sound list that covers a label.
+fn covering(rows: &[Row], label: u32) -> &Row {
+    &rows[rows.partition_point(|row| row.highest < label)]
+}
+
 /// The class of a label by a sound list.
 pub fn class(rows: &[Row], label: u32) -> u16 {
-    rows[rows.partition_point(|row| row.highest < label)].class
+    covering(rows, label).class
+}
+
+/// The grams of an entry with a label by a sound list.
+pub fn grams(rows: &[Row], label: u32) -> u16 {
+    covering(rows, label).grams
 }

@@ -1,5 +1,6 @@
 //! The client's copy (document 02, Note 6): the visible forest of the sample plan and of plans at random, held to their texts with the hidden
-//! parts struck out; prints of forests beside the forests themselves; refusals in their order.
+//! parts struck out, and their grams and those of what is taken out (Note 8); prints of forests beside the forests themselves; refusals in their
+//! order.
 use reference::copy::{self, Client, MOST_COPIED, copy_bytes};
 use reference::plan::{self, Rule, Sort, WORDS, work_bytes};
 use reference::rows::{LAST_LABEL, Row};
@@ -15,10 +16,11 @@ fn plan_of(format: Format, rules: &[Rule], start: u16) -> Vec<u8> {
     plan
 }
 
-/// A client for whom the labels below 256 are of these classes.
+/// A client for whom the labels below 256 are of these classes, and weigh as many grams as the label's square.
 fn client(class: u16, of: impl Fn(u32) -> u16) -> Client {
-    let mut rows: Vec<Row> = (0..256).map(|label| Row { lowest: label, highest: label, class: of(label) }).collect();
-    rows.push(Row { lowest: 256, highest: LAST_LABEL, class: 0 });
+    let row = |lowest: u32, highest, class| Row { lowest, highest, class, grams: (lowest * lowest) as u16 };
+    let mut rows: Vec<Row> = (0..256).map(|label| row(label, label, of(label))).collect();
+    rows.push(row(256, LAST_LABEL, 0));
     Client { rows, class }
 }
 
@@ -49,6 +51,11 @@ fn struck_out(text: &str, hidden: &str) -> String {
 /// The text of a forest whose labels are letters.
 fn text(forest: &[copy::Entry]) -> String {
     forest.iter().map(|entry| format!("({}{})", char::from(entry.label as u8), text(&entry.below))).collect()
+}
+
+/// The grams of a text, by such a list.
+fn grams(text: &str) -> u64 {
+    text.bytes().filter(u8::is_ascii_lowercase).map(|letter| u64::from(letter).pow(2)).sum()
 }
 
 /// The sample plan of document 01.
@@ -148,6 +155,11 @@ fn plans_at_random() {
         let client = client(0, |label| u16::from(hidden.contains(char::from(label as u8))));
         let seen = text(&unfolded.visible(&client));
         assert_eq!(seen, struck_out(&all, &hidden), "of {all} without {hidden}");
+        let weighed = rules::grams(&plan, &client.rows, &mut vec![7; work_bytes(n)]);
+        assert_eq!((weighed, unfolded.grams(&client.rows, &mut vec![7; work_bytes(n)])), (Ok(grams(&all)), weighed));
+        let out: u64 = client.taken_out(&unfolded.forest.trees).iter().map(|label| u64::from(*label).pow(2)).sum();
+        assert_eq!(grams(&seen) + out, grams(&all), "of {all} without {hidden}");
+        assert_eq!(rules::taken_out(&plan, &client), Ok(Some(out.into())), "of {all} without {hidden}");
         // Equal forests have equal prints, whatever the rules and whatever is hidden, and no two others here have one in common.
         for (forest, sees) in [(seen, &(|label| client.sees(label)) as &dyn Fn(u32) -> bool), (all, &|_| true)] {
             let print = rules::visible_print(&plan, sees, 0x1234_5678_9ABC_DEF1).expect("a valid plan");
@@ -160,8 +172,9 @@ fn plans_at_random() {
 
 #[test]
 fn refusals_in_their_order() {
-    let sound = vec![Row { lowest: 0, highest: LAST_LABEL, class: 2 }];
-    let unsound = vec![Row { lowest: 0, highest: 9, class: 0 }, Row { lowest: 11, highest: LAST_LABEL, class: 0 }];
+    let row = |lowest, highest, class| Row { lowest, highest, class, grams: 65_535 };
+    let sound = vec![row(0, LAST_LABEL, 2)];
+    let unsound = vec![row(0, 9, 0), row(11, LAST_LABEL, 0)];
     let judge = |plan: &[u8], rows: &[Row], class: u16, work: usize, out: usize| {
         Client { rows: rows.to_vec(), class }.judge(plan, work, out)
     };

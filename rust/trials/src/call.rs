@@ -16,10 +16,11 @@ pub enum Operation {
     Walk,
     Compare,
     Copy,
+    Grams,
 }
 
 impl Operation {
-    pub const ALL: [Operation; 8] = [
+    pub const ALL: [Operation; 9] = [
         Operation::Check,
         Operation::Seal,
         Operation::Unseal,
@@ -28,11 +29,12 @@ impl Operation {
         Operation::Walk,
         Operation::Compare,
         Operation::Copy,
+        Operation::Grams,
     ];
 
     /// Those that are lent work.
-    pub const WORKING: [Operation; 5] =
-        [Operation::Measure, Operation::Spread, Operation::Walk, Operation::Compare, Operation::Copy];
+    pub const WORKING: [Operation; 6] =
+        [Operation::Measure, Operation::Spread, Operation::Walk, Operation::Compare, Operation::Copy, Operation::Grams];
 
     pub fn works(self) -> bool {
         Operation::WORKING.contains(&self)
@@ -41,6 +43,11 @@ impl Operation {
     /// Whether the operation is lent a cursor; compare is lent two.
     pub fn has_place(self) -> bool {
         matches!(self, Operation::Walk | Operation::Compare)
+    }
+
+    /// Whether the operation is lent a list of rows.
+    pub fn has_list(self) -> bool {
+        matches!(self, Operation::Copy | Operation::Grams)
     }
 }
 
@@ -62,14 +69,17 @@ pub struct Call {
     /// Compare's second cursor, and its budget.
     pub second: Vec<u8>,
     pub budget: u32,
-    /// Copy's list of rows, and the client's class.
+    /// The list of rows of copy and of grams, and the class of copy's client.
     pub rows: Vec<LabelRow>,
     pub class: u16,
 }
 
+/// The row by which each label is of class 0 and weighs one gram.
+pub const EACH: Row = Row { lowest: 0, highest: LAST_LABEL, class: 0, grams: 1 };
+
 impl Call {
     /// A call on a plan of n rules with as much work, cursor and answers as it needs; a copy with the output that it needs, for a client who sees
-    /// all.
+    /// all; grams by one gram for each node.
     pub fn new(operation: Operation, plan: Vec<u8>, n: usize) -> Call {
         let mut call = Call {
             operation,
@@ -97,7 +107,9 @@ impl Call {
         }
         if operation == Operation::Copy {
             call.out = vec![0xA5; copy_bytes(n)];
-            call.rows = vec![lent(0, &Row { lowest: 0, highest: LAST_LABEL, class: 0 })];
+        }
+        if operation.has_list() {
+            call.rows = lent(&[EACH]);
         }
         call
     }
@@ -109,15 +121,19 @@ impl Call {
 
     /// The same call for another client.
     pub fn with_client(mut self, client: &Client) -> Call {
-        self.rows = client.rows.iter().enumerate().map(|(i, row)| lent(i, row)).collect();
         self.class = client.class;
+        self.with_rows(&client.rows)
+    }
+
+    /// The same call by another list.
+    pub fn with_rows(mut self, rows: &[Row]) -> Call {
+        self.rows = lent(rows);
         self
     }
 
     /// Whom a copy is for.
     pub fn client(&self) -> Client {
-        let row = |row: &LabelRow| Row { lowest: row.lowest, highest: row.highest, class: row.class };
-        Client { rows: self.rows.iter().map(row).collect(), class: self.class }
+        Client { rows: taken(&self.rows), class: self.class }
     }
 
     /// The comparison of two stored places of a plan.
@@ -139,10 +155,19 @@ impl Call {
     }
 }
 
-/// A row as it is lent; its last field isn't looked at, so it holds anything.
-fn lent(i: usize, row: &Row) -> LabelRow {
-    let Row { lowest, highest, class } = *row;
-    LabelRow { lowest, highest, class, grams: (i as u16).wrapping_mul(40_503) ^ 0x5A5A }
+/// Rows as they are lent.
+pub fn lent(rows: &[Row]) -> Vec<LabelRow> {
+    let lent = |row: &Row| LabelRow::new(row.lowest, row.highest, row.class).weighing(row.grams);
+    rows.iter().map(lent).collect()
+}
+
+/// Rows that are lent, as the reference takes them.
+fn taken(rows: &[LabelRow]) -> Vec<Row> {
+    let taken = |row: &LabelRow| {
+        let LabelRow { lowest, highest, class, grams } = *row;
+        Row { lowest, highest, class, grams }
+    };
+    rows.iter().map(taken).collect()
 }
 
 /// The slices of a call as they are lent.
@@ -170,6 +195,7 @@ pub enum Values {
     Measured(Measured),
     Walked,
     Compared(Compared),
+    Grams(u64),
 }
 
 pub type Outcome = Result<Values, Refused>;
@@ -204,6 +230,7 @@ impl Implementation for ByRules {
                 compared.map(Values::Compared)
             }
             Operation::Copy => return None,
+            Operation::Grams => rules::grams(lent.plan, &taken(lent.rows), lent.work).map(Values::Grams),
         })
     }
 }
@@ -245,6 +272,7 @@ impl Implementation for OnForest {
             Operation::Compare => {
                 unfolded.compare(lent.work, lent.cursor, lent.second, lent.budget).map(Values::Compared)
             }
+            Operation::Grams => unfolded.grams(&taken(lent.rows), lent.work).map(Values::Grams),
             _ => unfolded.walk(lent.work, lent.cursor, lent.letters, lent.answers).map(|()| Values::Walked),
         })
     }

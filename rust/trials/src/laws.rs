@@ -22,8 +22,12 @@ pub fn ask(before: &Call, outcome: &Outcome, after: &Call) {
     };
     let n = if past(Why::Start) { rules_of(&before.plan) } else { 0 };
     if before.operation.works() {
-        // 8 is the last refusal of copy.
-        let past_lent = if before.operation == Operation::Copy { outcome.is_ok() } else { past(Why::Lent) };
+        // The list's refusals come before 8, which is the last of copy; behind it grams has 11 alone.
+        let past_lent = match before.operation {
+            Operation::Copy => outcome.is_ok(),
+            Operation::Grams => outcome.is_ok() || *outcome == Err(Why::Output.here()),
+            _ => past(Why::Lent),
+        };
         let cleared = if past_lent { work_bytes(n) } else { 0 };
         assert!(after.work[..cleared].iter().all(|byte| *byte == 0), "past 8 work is zeros");
         assert!(after.work[cleared..] == before.work[cleared..], "else work stays");
@@ -41,7 +45,7 @@ pub(crate) fn rules_of(plan: &[u8]) -> usize {
     usize::from(u16::from_le_bytes([plan[at], plan[at + 1]]))
 }
 
-/// Output changes at its front alone; refused, nowhere. Check and measure have none.
+/// Output changes at its front alone; refused, nowhere. Check, measure and grams have none.
 fn ask_front(before: &[u8], outcome: &Outcome, after: &[u8]) {
     let written = match outcome {
         Ok(Values::Length(length)) => *length as usize,

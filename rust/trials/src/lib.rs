@@ -36,6 +36,8 @@ pub fn try_all(trial: &mut Trial, effort: usize) {
     rounds::rows::agree(trial, 2 * effort);
     rounds::copies::refuse(trial, effort);
     rounds::copies::agree(trial, effort);
+    rounds::grams::refuse(trial, effort);
+    rounds::grams::agree(trial, effort);
 }
 
 /// Runs something on a stack that has room for deep forests.

@@ -50,6 +50,7 @@ impl Implementation for Library {
                 let copied = mealplan::copy(lent.plan, lent.rows, lent.class, lent.work, lent.out);
                 copied.map(|length| Values::Length(length as u64))
             }
+            Operation::Grams => mealplan::grams(lent.plan, lent.rows, lent.work).map(Values::Grams),
         };
         Some(answer.map_err(|refused| Refused { number: refused.number, position: refused.position }))
     }
@@ -131,6 +132,9 @@ impl Implementation for Interface {
                     trees,
                     &mut position,
                 ),
+                Operation::Grams => {
+                    c::plan_grams(plan, plan_len, rows.as_ptr(), rows.len(), room, room_len, trees, &mut position)
+                }
             }
         };
         if number != 0 {
@@ -153,6 +157,7 @@ impl Implementation for Interface {
                 [2, count] => Compared::Spent(count),
                 [verdict, _] => panic!("{verdict} is no verdict"),
             }),
+            Operation::Grams => Values::Grams(trees),
         }))
     }
 }

@@ -35,6 +35,11 @@ pub const LEAST_EACH_PLACE: u64 = 100;
 pub const LEAST_DISGUISED: u64 = 500;
 pub const LEAST_LETTERS_OF_COPIES: u64 = 100_000;
 pub const LEAST_LETTERS_LOOKED: u64 = 5_000;
+/// How many calls must have weighed more than nothing; how many copies must have been weighed beside what was taken out of them, with that listed
+/// and of forests that nobody lists; and how many forests of more than 2^64 − 1 nodes must have been weighed.
+pub const LEAST_WEIGHED: u64 = 10_000;
+pub const LEAST_PARTED: [u64; 2] = [5_000, 200];
+pub const LEAST_BEYOND: u64 = 300;
 /// The last refusal.
 const LAST: u32 = Why::TooMany as u32;
 
@@ -73,6 +78,11 @@ pub struct Tally {
     pub of_other_bytes: u64,
     pub letters_on_copies: u64,
     pub letters_looked: u64,
+    /// Calls that weighed more than nothing; copies that were weighed beside what was taken out of them, with that listed and of forests that
+    /// aren't unfolded; and forests of more than 2^64 − 1 nodes that were weighed.
+    weighed: u64,
+    pub parted: [u64; 2],
+    pub beyond: u64,
     /// How often a refusal came up: by its number, the way to it, and the operation's name.
     ways: BTreeMap<(u32, String, String), u64>,
 }
@@ -94,6 +104,9 @@ impl Tally {
         }
         if let Ok(Values::Compared(compared)) = outcome {
             self.count_verdict(*compared);
+        }
+        if let Ok(Values::Grams(grams)) = outcome {
+            self.weighed += u64::from(*grams > 0);
         }
     }
 
@@ -177,6 +190,11 @@ impl Tally {
         if self.letters_looked < LEAST_LETTERS_LOOKED {
             missing.push(format!("{} letters on copies beside a look at the whole forest", self.letters_looked));
         }
+        let parted = self.parted.iter().zip(LEAST_PARTED).any(|(count, least)| *count < least);
+        if self.weighed < LEAST_WEIGHED || parted || self.beyond < LEAST_BEYOND {
+            let Tally { weighed, parted, beyond, .. } = self;
+            missing.push(format!("{weighed} calls weighed, {parted:?} copies parted, {beyond} of over 2^64 - 1 nodes"));
+        }
         if 3 * self.moves < self.letters {
             missing.push(format!("{} moves of {} letters", self.moves, self.letters));
         }
@@ -233,6 +251,13 @@ impl fmt::Display for Tally {
             "copies of plans that differ in what isn't seen: {} pairs, {} of other bytes, {} letters on both; {} letters beside a look at the whole \
              forest",
             self.disguised, self.of_other_bytes, self.letters_on_copies, self.letters_looked
+        )?;
+        let [listed, by_rules] = self.parted;
+        writeln!(
+            f,
+            "grams: {} calls weighed more than nothing, {} forests of more than 2^64 - 1 nodes; copies beside what was taken out: {listed} with that \
+             listed, {by_rules} of forests that aren't unfolded",
+            self.weighed, self.beyond
         )?;
         for number in 1..=LAST {
             let of_number = self.ways.iter().filter(|(key, _)| key.0 == number);

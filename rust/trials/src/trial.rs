@@ -249,9 +249,9 @@ impl Drop for Told<'_> {
         eprintln!("  second cursor ({} bytes) {}, budget {budget}", second.len(), hex(second, 200));
         eprintln!("  letters ({}) {}", letters.len(), String::from_utf8_lossy(&letters[..letters.len().min(200)]));
         eprintln!("  bytes of work {}, answers {}, output {}", work.len(), answers.len(), out.len());
-        if *operation == Operation::Copy {
-            let some: Vec<[u32; 3]> =
-                rows.iter().take(60).map(|row| [row.lowest, row.highest, row.class.into()]).collect();
+        if operation.has_list() {
+            let row = |row: &LabelRow| [row.lowest, row.highest, row.class.into(), row.grams.into()];
+            let some: Vec<[u32; 4]> = rows.iter().take(60).map(row).collect();
             eprintln!("  rows ({}) {some:?}, class {class}", rows.len());
         }
     }

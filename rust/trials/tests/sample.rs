@@ -217,7 +217,7 @@ fn two_places_of_the_sample_plan() {
 
 /// A list in which the labels of the sample plan, or of the wide one, are of these classes: that of a, of b and of c.
 fn list([a, b, c]: [u32; 3], classes: [u16; 3]) -> Vec<LabelRow> {
-    let row = |lowest, highest, class| LabelRow { lowest, highest, class, grams: 7 };
+    let row = |lowest, highest, class| LabelRow::new(lowest, highest, class).weighing(7);
     vec![row(0, a, classes[0]), row(a + 1, b, classes[1]), row(b + 1, c, classes[2]), row(c + 1, LAST_LABEL, 3)]
 }
 
@@ -258,6 +258,50 @@ fn copies_of_the_sample_plan() {
     assert_eq!(copy(&rows, 0, &mut work, &mut out[1..]), Err(refused(8, 0)));
     assert_eq!(copy(&rows, 0, &mut work[1..], &mut out), Err(refused(8, 0)));
     assert!(out.iter().all(|byte| *byte == 5), "a refusal writes nothing");
+}
+
+#[test]
+fn grams_of_the_sample_plan() {
+    // Label 97 four times, 98 five times, 99 twice.
+    let grams = |rows: &[LabelRow], grams: [u16; 4]| -> Vec<LabelRow> {
+        rows.iter().zip(grams).map(|(row, grams)| row.weighing(grams)).collect()
+    };
+    for (draft, labels) in [(families::sample(), [97, 98, 99]), (wide_sample(), [65_535, 66_051, 16_777_214])] {
+        let rows = list(labels, [0, 2, 1]);
+        let (plan, mut work) = (draft.plan(), vec![9; mealplan::work_bytes(8) + 3]);
+        // The wide plan's last label stands in the last row.
+        let heavy = if labels[0] == 97 { [120, 30, 250, 9] } else { [120, 30, 9, 250] };
+        assert_eq!(mealplan::grams(&plan, &grams(&rows, heavy), &mut work), Ok(1_130));
+        assert_eq!((work[..512].iter().all(|byte| *byte == 0), &work[512..]), (true, &[9; 3][..]));
+        assert_eq!(mealplan::grams(&plan, &grams(&rows, [1; 4]), &mut work), Ok(11));
+        assert_eq!(mealplan::grams(&plan, &grams(&rows, [65_535; 4]), &mut work), Ok(720_885));
+        assert_eq!(mealplan::grams(&plan, &grams(&rows, [0; 4]), &mut work), Ok(0));
+        work.fill(9);
+        assert_eq!(mealplan::grams(&plan, &rows[..3], &mut work), Err(refused(14, 3)));
+        assert_eq!(mealplan::grams(&plan, &rows[..3], &mut work[..511]), Err(refused(14, 3)), "the list before work");
+        assert_eq!(mealplan::grams(&plan, &rows, &mut work[..511]), Err(refused(8, 0)));
+        assert_eq!(mealplan::grams(&plan[1..], &rows[..3], &mut work), Err(refused(3, 0)), "the plan before the list");
+        assert_eq!(work, vec![9; work.len()], "and work stays");
+    }
+    for format in Format::BOTH {
+        let empty = Draft { format, records: vec![[0; WORDS]], ..Draft::default() };
+        assert_eq!(mealplan::grams(&empty.plan(), &list([97, 98, 99], [0; 3]), &mut [9; 64]), Ok(0));
+        // 2^48 + 2^32 + 2^16 + 1 leaves of 65,535 grams are 2^64 − 1, and as many of one gram more than that.
+        let many = 0x0001_0001_0001_0001;
+        for (count, each, expected) in [
+            (many, 65_535, Ok(u64::MAX)),
+            (many + 1, 65_535, Err(refused(11, 0))),
+            (1 << 64, 1, Err(refused(11, 0))),
+            ((1 << 64) - 1, 1, Ok(u64::MAX)),
+            (1 << 70, 0, Ok(0)),
+        ] {
+            let draft = families::leaves(count).in_format(format);
+            let rows = [LabelRow::new(0, LAST_LABEL, 3).weighing(each)];
+            let mut work = vec![9; mealplan::work_bytes(draft.n())];
+            assert_eq!(mealplan::grams(&draft.plan(), &rows, &mut work), expected, "{count} leaves of {each} grams");
+            assert!(work.iter().all(|byte| *byte == 0), "past 8 work is zeros");
+        }
+    }
 }
 
 #[test]

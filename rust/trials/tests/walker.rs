@@ -1,6 +1,7 @@
 //! Crate `mealplan`'s plans, walkers and places on generated plans, held to the reference by rules.
 use mealplan::{Compared, Place, Plan, Walker};
 use reference::plan::{cursor_bytes, work_bytes};
+use trials::call::EACH;
 use trials::draft::Draft;
 use trials::random::Random;
 use trials::{families, random_plans};
@@ -42,6 +43,14 @@ fn methods_answer_as_the_reference_does() {
         assert_eq!(plan.prefix(), draft.prefix);
         let own: Vec<[u16; 5]> = plan.rules().map(|rule| rule.words(plan.format())).collect();
         assert_eq!(own, draft.records);
+        let mut work = vec![0; work_bytes(draft.n())];
+        let nodes = reference::rules::grams(&bytes, &[EACH], &mut work);
+        assert_eq!(plan.nodes().ok(), nodes.ok());
+        let mut text =
+            vec![0; nodes.map_or(0, |nodes| if nodes < 10_000 { nodes as usize } else { 0 }) * draft.format.node()];
+        if reference::rules::spread(&bytes, &mut work, &mut text).is_ok() {
+            assert_eq!(plan.spread(text.len()).as_ref(), Ok(&text));
+        }
 
         let letters: Vec<u8> = (0..40).map(|_| random.pick(LETTERS)).collect();
         let (expected, cursor) = reference(&draft, &letters);

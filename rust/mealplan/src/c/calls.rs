@@ -185,3 +185,23 @@ pub fn copy(plan: &[u8], rows: &[LabelRow], class: u16, work: &mut [u8], out: &m
     };
     answer(number, position, written as usize)
 }
+
+/// The grams of all nodes of a plan, each by the row that covers its label, of a list of rows as in [`class`]. Refused with 11 where their sum is
+/// above 2^64 − 1. By one row of 1 gram for all labels it is the number of nodes. `work` needs [`work_bytes`](crate::work_bytes).
+pub fn grams(plan: &[u8], rows: &[LabelRow], work: &mut [u8]) -> Result<u64, Refused> {
+    let (mut grams, mut position) = (0, 0);
+    // SAFETY: as in `spread` and `class`.
+    let number = unsafe {
+        c::plan_grams(
+            plan.as_ptr(),
+            plan.len(),
+            rows.as_ptr(),
+            rows.len(),
+            work.as_mut_ptr(),
+            work.len(),
+            &mut grams,
+            &mut position,
+        )
+    };
+    answer(number, position, grams)
+}

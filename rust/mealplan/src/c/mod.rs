@@ -106,4 +106,16 @@ unsafe extern "C" {
         written: *mut u64,
         position: *mut u64,
     ) -> u32;
+
+    /// [`grams`](crate::grams), unsafe.
+    pub fn plan_grams(
+        plan: *const u8,
+        plan_len: usize,
+        rows: *const LabelRow,
+        rows_len: usize,
+        work: *mut u8,
+        work_len: usize,
+        grams: *mut u64,
+        position: *mut u64,
+    ) -> u32;
 }

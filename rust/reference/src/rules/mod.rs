@@ -3,6 +3,7 @@
 //!
 //! A good walker without proofs, for plans of any size: it serves as the second opinion and as the benchmark's other side.
 mod counts;
+mod grams;
 mod moves;
 mod prints;
 mod stored;
@@ -11,7 +12,9 @@ mod table;
 mod text;
 
 use crate::plan::{self, Plan, cursor_bytes, work_bytes};
+use crate::rows::{self, Row};
 use crate::{Compared, Measured, Refused, Why, answers, compare::pair_by_pair, first_stranger};
+pub use grams::taken_out;
 use moves::Walker;
 pub use prints::visible as visible_print;
 use subtree::Subtree;
@@ -39,6 +42,13 @@ pub fn spread(plan: &[u8], work: &mut [u8], out: &mut [u8]) -> Result<u64, Refus
         text::write(&Table::build(&plan, work).0, plan.format(), plan.start, &mut out[..length as usize]);
         Ok(length)
     })
+}
+
+/// The grams of all nodes: the plan is judged first, then the list, then work, and the sum last.
+pub fn grams(plan: &[u8], list: &[Row], work: &mut [u8]) -> Result<u64, Refused> {
+    let plan = plan::read(plan)?;
+    rows::check(list)?;
+    with_work(&plan, work, |work| grams::of_start(&plan, list, work).ok_or(Why::Output.here()))
 }
 
 pub fn walk(plan: &[u8], work: &mut [u8], cursor: &mut [u8], letters: &[u8], out: &mut [u8]) -> Result<(), Refused> {

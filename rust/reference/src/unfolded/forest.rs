@@ -73,6 +73,12 @@ impl Forest {
         Measured { trees: self.trees.len() as u64, entries: entries(&self.trees), levels: levels(&self.trees) }
     }
 
+    /// The sum over all nodes of what each weighs by its label.
+    pub fn grams(&self, of: impl Fn(u32) -> u16) -> u128 {
+        let nodes = self.trees.iter().flat_map(Tree::listed);
+        nodes.map(|node| u128::from(of(node.label))).sum()
+    }
+
     /// The text, with labels as a format writes them.
     pub fn text(&self, format: Format) -> Vec<u8> {
         let mut text = Vec::new();

@@ -6,6 +6,7 @@ pub mod places;
 use crate::copy::{Client, Entry};
 use crate::place;
 use crate::plan::{self, Plan, cursor_bytes, work_bytes};
+use crate::rows::{self, Row};
 use crate::{Compared, Format, Measured, Refused, Why, answers, compare::pair_by_pair, first_stranger};
 use finger::Finger;
 use forest::{Forest, Tree};
@@ -40,6 +41,12 @@ impl Unfolded {
         let text = self.forest.text(self.format);
         out.get_mut(..text.len()).ok_or(Why::Output.here())?.copy_from_slice(&text);
         Ok(text.len() as u64)
+    }
+
+    pub fn grams(&self, list: &[Row], work: &mut [u8]) -> Result<u64, Refused> {
+        rows::check(list)?;
+        self.take_work(work)?;
+        u64::try_from(self.forest.grams(|label| rows::grams(list, label))).map_err(|_| Why::Output.here())
     }
 
     pub fn walk(&self, work: &mut [u8], cursor: &mut [u8], letters: &[u8], out: &mut [u8]) -> Result<(), Refused> {

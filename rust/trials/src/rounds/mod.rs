@@ -2,6 +2,7 @@
 pub mod compares;
 pub mod copies;
 pub mod formats;
+pub mod grams;
 pub mod orders;
 pub mod places;
 pub mod plans;

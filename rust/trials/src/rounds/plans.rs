@@ -44,8 +44,8 @@ fn prepare(trial: &mut Trial, operation: Operation, damaged: &damage::Damaged, n
     if operation.works() && trial.random.once_in(4) {
         call.work.truncate(7);
     }
-    // The plan's check comes before the class, and that before the list.
-    if operation == Operation::Copy && trial.random.once_in(2) {
+    // The plan's check comes before copy's class, and before the list.
+    if operation.has_list() && trial.random.once_in(2) {
         call.rows.clear();
         call.class = trial.random.pick(&[0, 3, 4, 65_535]);
     }

@@ -1,8 +1,10 @@
 //! Lists of label rows (document 02, Note 5): sound ones, asked for the labels at the ends of their rows, and the same with a fault at every
-//! row, of every kind, and with several at once. The library by its safe function and by its C function, against both references.
+//! row, of every kind, and with several at once. The library by its safe function and by its C function, against both references. Whatever the
+//! rows weigh (Note 8), the class and the refusals are the same.
+use crate::call;
 use crate::random::Random;
 use crate::trial::Trial;
-use mealplan::{LabelRow, c};
+use mealplan::c;
 use reference::rows::{LAST_CLASS, LAST_LABEL, Row, by_counting, in_order};
 use reference::{Refused, Why};
 
@@ -51,7 +53,9 @@ pub(super) const FAULTS: [(&str, Why, Fault); 9] = [
             rows.insert(i + 1, row);
         }
     }),
-    ("a row below all", Why::Overlap, |rows, i, _| rows.insert(i + 1, Row { lowest: 0, highest: 0, class: 0 })),
+    ("a row below all", Why::Overlap, |rows, i, _| {
+        rows.insert(i + 1, Row { lowest: 0, highest: 0, class: 0, grams: 0 })
+    }),
     ("ends a label late", Why::Overlap, |rows, i, _| {
         if rows[i].highest < LAST_LABEL {
             rows[i].highest += 1;
@@ -106,8 +110,23 @@ pub(super) fn sound(random: &mut Random, count: usize) -> Vec<Row> {
         cuts.dedup();
     }
     let ends = cuts[1..].iter().copied().chain([LAST_LABEL + 1]);
-    let row = |(lowest, end): (&u32, u32)| Row { lowest: *lowest, highest: end - 1, class: random.below(4) as u16 };
+    let row = |(lowest, end): (&u32, u32)| Row {
+        lowest: *lowest,
+        highest: end - 1,
+        class: random.below(4) as u16,
+        grams: any_grams(random),
+    };
     cuts.iter().zip(ends).map(row).collect()
+}
+
+/// Grams of an entry: none, one, the most, few or any.
+pub(super) fn any_grams(random: &mut Random) -> u16 {
+    match random.below(6) {
+        0 => 0,
+        1 => random.pick(&[1, 65_535]),
+        2 | 3 => random.below(500) as u16,
+        _ => random.word(),
+    }
 }
 
 /// A row, the first and the last as often as one between.
@@ -168,12 +187,7 @@ fn ask(trial: &mut Trial, rows: &[Row], label: u32, refused: Option<(&str, Refus
     if rows.len() <= MOST_COUNTED {
         assert_eq!(by_counting(rows, label), outcome, "{label} by counting (left) and in order (right): {rows:?}");
     }
-    // The last field is never looked at.
-    let lent = |row: &Row| {
-        let Row { lowest, highest, class } = *row;
-        LabelRow { lowest, highest, class, grams: trial.random.word() }
-    };
-    let lent: Vec<LabelRow> = rows.iter().map(lent).collect();
+    let lent = call::lent(rows);
     let before = lent.clone();
     let came = mealplan::class(&lent, label).map_err(|no| Refused { number: no.number, position: no.position });
     assert_eq!(came, outcome, "{label} by the library (left) and the reference (right): {rows:?}");

@@ -4,7 +4,7 @@ use crate::call::{Call, Operation};
 use crate::cursors::{self, Known, Stored};
 use crate::draft::Draft;
 use crate::families::{self, Growth};
-use crate::rounds::{self, compares, copies, plans, sizes, walks};
+use crate::rounds::{self, compares, copies, grams, plans, sizes, walks};
 use crate::trial::Trial;
 use crate::{cycles, random_plans};
 use reference::copy::MOST_COPIED;
@@ -67,6 +67,7 @@ fn every_operation(trial: &mut Trial, draft: &Draft) {
     places(trial, draft);
     compares::compare_far(trial, draft);
     copies::of_any_size(trial, draft);
+    grams::of_any_size(trial, draft);
 }
 
 /// A call that must be refused so.

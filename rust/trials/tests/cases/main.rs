@@ -97,6 +97,11 @@ impl Lent {
                 let rows: &[[usize; 3]] = numbers.as_chunks().0;
                 self.rows = rows.iter().map(row).collect::<Result<Vec<LabelRow>, String>>()?;
             }
+            ("grams", grams) if grams.len() == self.rows.len() => {
+                for (row, grams) in self.rows.iter_mut().zip(grams) {
+                    row.grams = u16::try_from(*grams).map_err(|_| format!("{grams} is no word"))?;
+                }
+            }
             _ => return Err("no such line".to_string()),
         }
         Ok(())
@@ -109,6 +114,7 @@ impl Lent {
         let came = match text.split_once(' ') {
             Some(("class", label)) => told::class(mealplan::class(&self.rows, long(label)?)),
             Some(("client", letters)) => self.answers(letters.as_bytes()),
+            None if text == "weigh" => told::grams(&made(&mut self.copied(Operation::Grams))),
             _ => self.made(text)?,
         };
         if came == expected { Ok(()) } else { Err(format!("expected: {expected}\n  came:     {came}")) }
@@ -128,10 +134,15 @@ impl Lent {
 
     /// The answers to letters on the last copy, from above its forest.
     fn answers(&self, letters: &[u8]) -> String {
-        let n = mealplan::check(&self.copy).map_or(0, |checked| checked.n.into());
-        let mut call = Call::new(Operation::Walk, self.copy.clone(), n).with_letters(letters);
+        let mut call = self.copied(Operation::Walk).with_letters(letters);
         let outcome = made(&mut call);
         told::answers(&call, &outcome)
+    }
+
+    /// A call on the last copy, by the list.
+    fn copied(&self, operation: Operation) -> Call {
+        let n = mealplan::check(&self.copy).map_or(0, |checked| checked.n.into());
+        Call { rows: self.rows.clone(), ..Call::new(operation, self.copy.clone(), n) }
     }
 
     /// The call that a case's first field says, with slices of just the lengths that it is lent.
@@ -169,6 +180,7 @@ impl Lent {
                 call.class = word(class)?;
                 call.out = out;
             }
+            (Operation::Grams, None) => call.rows = self.rows.clone(),
             (Operation::Copy, None) => return Err("copy needs a class".to_string()),
             (Operation::Compare, None) => return Err("compare needs a budget".to_string()),
             (Operation::Walk, None) => return Err("walk needs letters".to_string()),
@@ -214,6 +226,7 @@ fn operation(name: &str) -> Result<Operation, String> {
         "walk" => Operation::Walk,
         "compare" => Operation::Compare,
         "copy" => Operation::Copy,
+        "grams" => Operation::Grams,
         _ => return Err(format!("{name} is no operation")),
     })
 }
@@ -230,11 +243,11 @@ fn long(text: &str) -> Result<u32, String> {
     text.parse().map_err(|_| format!("'{text}' is no label"))
 }
 
-/// A row of three numbers; its last field isn't looked at.
+/// A row of three numbers, which weighs the most until its grams are told.
 fn row([lowest, highest, class]: &[usize; 3]) -> Result<LabelRow, String> {
     let told = |number: &usize| u32::try_from(*number).map_err(|_| format!("{number} is no label"));
     let class = u16::try_from(*class).map_err(|_| format!("{class} is no word"))?;
-    Ok(LabelRow { lowest: told(lowest)?, highest: told(highest)?, class, grams: 65_535 })
+    Ok(LabelRow::new(told(lowest)?, told(highest)?, class).weighing(65_535))
 }
 
 /// Numbers as 16-bit words.

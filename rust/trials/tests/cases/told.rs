@@ -10,7 +10,7 @@ pub fn line(before: &Call, after: &Call, outcome: &Outcome) -> String {
     let left = match after.operation {
         Operation::Check => String::new(),
         Operation::Seal | Operation::Unseal => all_words(&after.out),
-        Operation::Measure => work,
+        Operation::Measure | Operation::Grams => work,
         Operation::Spread => format!(" {}{work}", text(&after.out)),
         Operation::Walk => all_answers(&after.answers) + &cells(&after.cursor) + &work,
         Operation::Compare if before.cursor != after.cursor => ", cursor changed".to_string(),
@@ -50,6 +50,11 @@ pub fn answers(after: &Call, outcome: &Outcome) -> String {
     if outcome.is_ok() { all_answers(&after.answers).trim_start().to_string() } else { answer(outcome) }
 }
 
+/// The grams alone, or the refusal.
+pub fn grams(outcome: &Outcome) -> String {
+    if let Ok(Values::Grams(grams)) = outcome { grams.to_string() } else { answer(outcome) }
+}
+
 fn answer(outcome: &Outcome) -> String {
     match outcome {
         Ok(Values::Checked(checked)) => format!("accepted {} {}", checked.n, checked.start),
@@ -62,6 +67,7 @@ fn answer(outcome: &Outcome) -> String {
         Ok(Values::Compared(Compared::Same(count))) => format!("same {count}"),
         Ok(Values::Compared(Compared::Differ(count))) => format!("differ {count}"),
         Ok(Values::Compared(Compared::Spent(count))) => format!("spent {count}"),
+        Ok(Values::Grams(grams)) => format!("accepted {grams}"),
         Err(refused) => format!("refused {} at {}", refused.number, refused.position),
     }
 }

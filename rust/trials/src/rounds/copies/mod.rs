@@ -8,7 +8,8 @@ use crate::call::{Call, Operation, Values};
 use crate::copies;
 use crate::draft::Draft;
 use crate::random::Random;
-use crate::rounds::{self, walks};
+use crate::rounds::rows::any_grams;
+use crate::rounds::{self, grams, walks};
 use crate::trial::{Judged, Trial};
 use crate::{families, random_plans};
 use reference::copy::{Client, MOST_COPIED};
@@ -52,14 +53,14 @@ fn client(random: &mut Random, class: u16, seen: &BTreeMap<u32, bool>) -> Client
         } as u16;
         match rows.last_mut() {
             Some(last) if last.class == class && random.once_in(2) => last.highest = highest,
-            _ => rows.push(Row { lowest, highest, class }),
+            _ => rows.push(Row { lowest, highest, class, grams: any_grams(random) }),
         }
     }
     Client { rows, class }
 }
 
 /// The labels of a plan.
-fn labels_of(draft: &Draft) -> BTreeSet<u32> {
+pub(in crate::rounds) fn labels_of(draft: &Draft) -> BTreeSet<u32> {
     let label = |rule| match draft.rule(rule) {
         Rule::Node(label, _) | Rule::Part(label, ..) => Some(label),
         _ => None,
@@ -68,7 +69,7 @@ fn labels_of(draft: &Draft) -> BTreeSet<u32> {
 }
 
 /// A client of a class who sees all labels of a plan, most, half, few or none; one of the last class sees all.
-fn any_client(random: &mut Random, draft: &Draft, class: u16) -> Client {
+pub(in crate::rounds) fn any_client(random: &mut Random, draft: &Draft, class: u16) -> Client {
     let of_eight = random.pick(&[8, 7, 7, 6, 4, 2, 1, 0]);
     let seen = labels_of(draft).into_iter().map(|label| (label, class == LAST_CLASS || random.below(8) < of_eight));
     let seen: BTreeMap<u32, bool> = seen.collect();
@@ -76,14 +77,16 @@ fn any_client(random: &mut Random, draft: &Draft, class: u16) -> Client {
 }
 
 /// The copy of a plan that nothing speaks against, with anything in slices that may be longer than they need be.
-fn copied(trial: &mut Trial, draft: &Draft, client: &Client) -> Vec<u8> {
+pub(in crate::rounds) fn copied(trial: &mut Trial, draft: &Draft, client: &Client) -> Vec<u8> {
     let mut call = Call::copy(draft, client);
     let longer = [(); 2].map(|()| trial.random.below(3) * trial.random.below(40));
     call.work = trial.random.leftovers(call.work.len() + longer[0]);
     call.out = trial.random.leftovers(call.out.len() + longer[1]);
     let Judged { outcome, after } = trial.judge(&call);
     let Ok(Values::Length(length)) = outcome else { panic!("nothing speaks against this copy: {outcome:?}") };
-    after.out[..length as usize].to_vec()
+    let copy = after.out[..length as usize].to_vec();
+    grams::parted(trial, &call.plan, client, &copy);
+    copy
 }
 
 /// Plans with forests that are unfolded.
@@ -115,7 +118,7 @@ fn large(trial: &mut Trial, class: u16) {
 }
 
 /// A plan of either format with labels at random, so that of rules alike some are hidden.
-fn varied(random: &mut Random, draft: &Draft) -> Draft {
+pub(in crate::rounds) fn varied(random: &mut Random, draft: &Draft) -> Draft {
     let format = random.pick(&Format::BOTH);
     draft.relabelled(|_| random_plans::label(format, random)).in_format(format)
 }
@@ -137,7 +140,7 @@ fn huge(trial: &mut Trial) {
         let copy = copied(trial, &draft, &client);
         look(trial, &draft, &client, &copy, 150);
         // Nothing of it seen, all of its rules are of an empty forest.
-        let nothing = Client { class: 0, rows: vec![Row { lowest: 0, highest: LAST_LABEL, class: 1 }] };
+        let nothing = Client { class: 0, rows: vec![Row { lowest: 0, highest: LAST_LABEL, class: 1, grams: 65_535 }] };
         let copy = copied(trial, &draft, &nothing);
         assert_eq!(copies::unfolded(&copy, 0), Some(Vec::new()), "nothing is seen, so nothing is copied");
     }
