@@ -2,7 +2,7 @@
 //! docs/bench.md, with a plot in docs/bench.svg. `bench check` only prints the times of check by the order of the rules, `bench compare` those
 //! of compare, `bench rows` those of the class of a label, `bench copy` those of copy, `bench grams` those of grams, `bench baseline` those beside
 //! the archive that `BASELINE` named when this was built. It ends in an error where a copy takes longer than five measures of the same plan, or
-//! grams by few rows longer than four.
+//! grams by few rows longer than four, but for plans in which every rule has a label of its own.
 mod archive;
 mod baseline;
 mod compares;

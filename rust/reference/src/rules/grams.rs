@@ -39,10 +39,6 @@ struct Parted {
     open: bool,
 }
 
-fn sum(one: Option<u128>, other: Option<u128>) -> Option<u128> {
-    one?.checked_add(other?)
-}
-
 /// The grams of the nodes that a client's copy of a plan is without, each that isn't seen and all below it, for forests that nobody unfolds.
 /// They are summed over those nodes, not taken as a remainder; none where they pass 2^128 − 1.
 pub fn taken_out(plan: &[u8], client: &Client) -> Result<Option<u128>, Refused> {
@@ -52,15 +48,16 @@ pub fn taken_out(plan: &[u8], client: &Client) -> Result<Option<u128>, Refused> 
         let of = |rule: u16| parted[usize::from(rule)];
         let rule = plan.rules.get(number);
         let own = rule.label().map_or(0, |label| rows::grams(&client.rows, label).into());
-        let all = rule.named().fold(Some(own), |grams, named| sum(grams, of(named).all));
-        let out = rule.named().fold(Some(0), |grams, named| sum(grams, of(named).out));
+        let all = rule.named().try_fold(own, |grams: u128, named| grams.checked_add(of(named).all?));
+        let out = rule.named().try_fold(0, |grams: u128, named| grams.checked_add(of(named).out?));
         let seen = rule.label().is_none_or(|label| client.sees(label));
         parted[usize::from(number)] = match rule {
             Rule::Node(..) | Rule::Part(..) if !seen => Parted { out: all, all, open: false },
             Rule::Part(..) => Parted { out, all, open: true },
             // What is in a hole that isn't seen is below a node that isn't.
             Rule::Fill(b, c) | Rule::Join(b, c) if !of(b).open => {
-                Parted { out: sum(of(b).out, of(c).all), all, open: false }
+                let out = of(b).out.zip(of(c).all).and_then(|(out, all)| out.checked_add(all));
+                Parted { out, all, open: false }
             }
             Rule::Join(_, c) => Parted { out, all, open: of(c).open },
             _ => Parted { out, all, open: false },

@@ -13,7 +13,7 @@ use crate::rounds::{self, grams, walks};
 use crate::trial::{Judged, Trial};
 use crate::{families, random_plans};
 use reference::copy::{Client, MOST_COPIED};
-use reference::plan::{FEW_RULES, Rule};
+use reference::plan::FEW_RULES;
 use reference::rows::{LAST_CLASS, LAST_LABEL, Row};
 use reference::{Format, NOWHERE, Why, answers, rules};
 use std::collections::{BTreeMap, BTreeSet};
@@ -61,11 +61,7 @@ fn client(random: &mut Random, class: u16, seen: &BTreeMap<u32, bool>) -> Client
 
 /// The labels of a plan.
 pub(in crate::rounds) fn labels_of(draft: &Draft) -> BTreeSet<u32> {
-    let label = |rule| match draft.rule(rule) {
-        Rule::Node(label, _) | Rule::Part(label, ..) => Some(label),
-        _ => None,
-    };
-    (0..draft.n() as u16).filter_map(label).collect()
+    (0..draft.n() as u16).filter_map(|rule| draft.rule(rule).label()).collect()
 }
 
 /// A client of a class who sees all labels of a plan, most, half, few or none; one of the last class sees all.
@@ -76,7 +72,8 @@ pub(in crate::rounds) fn any_client(random: &mut Random, draft: &Draft, class: u
     client(random, class, &seen)
 }
 
-/// The copy of a plan that nothing speaks against, with anything in slices that may be longer than they need be.
+/// The copy of a plan that nothing speaks against, with anything in slices that may be longer than they need be; it is weighed beside what was
+/// taken out.
 pub(in crate::rounds) fn copied(trial: &mut Trial, draft: &Draft, client: &Client) -> Vec<u8> {
     let mut call = Call::copy(draft, client);
     let longer = [(); 2].map(|()| trial.random.below(3) * trial.random.below(40));
