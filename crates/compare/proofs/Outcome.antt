@@ -79,25 +79,27 @@ module _ {s : List ℕ} {n start : ℕ} {work first second : List ℕ} (L : Lend
         → nodeJudged (placeJudged (rulesOf s) n start cursor) ≡ Begun.at n (x .walked) (x .node .opens .path)
     node-judged x = rw (f .rules) at (x .node .judged)
 
-    module _ {h g : Standing} (x : StandsAt (take (rowLength * n) t) n start first h) (y : StandsAt (take (rowLength * n) t) n start second g) where
-      pub standings : Standings t n first second h g
-      standings =
-          record {
-            rows = record { rank = rank (rulesOf s); sound = rw rules (whole .sound); few = whole .greatest };
-            room = let room = L .worked in let same = w .same-length in omega arith;
-            order = rw rules order;
-            one = node-place x;
-            two = node-place y;
-            first-lies = node-lies x;
-            second-lies = node-lies y;
-          }
+    -- two nodes of two cursors, or of one
+    pub standings : {one two : List ℕ} {h g : Standing} → StandsAt (take (rowLength * n) t) n start one h
+        → StandsAt (take (rowLength * n) t) n start two g → Standings t n one two h g
+    standings x y =
+        record {
+          rows = record { rank = rank (rulesOf s); sound = rw rules (whole .sound); few = whole .greatest };
+          room = let room = L .worked in let same = w .same-length in omega arith;
+          order = rw rules order;
+          one = node-place x;
+          two = node-place y;
+          first-lies = node-lies x;
+          second-lies = node-lies y;
+        }
 
+    module _ {h g : Standing} (x : StandsAt (take (rowLength * n) t) n start first h) (y : StandsAt (take (rowLength * n) t) n start second g) where
       -- the subtrees are compared by the tokens of their tasks
       found : begunDiffer t n first second h g
           ≡ pairsFound (subtreeAt (forest (rulesOf s) (x .walked)) (x .node .opens .path)) (subtreeAt (forest (rulesOf s) (y .walked)) (y .node .opens .path))
       unfolding standings node-place
       found =
-          sym (begun-pairs standings)
+          sym (begun-pairs (standings x y))
           ∙ ap (λ (R : List Rule). pairsFound (subtreeAt (forest R (x .walked)) (x .node .opens .path)) (subtreeAt (forest R (y .walked)) (y .node .opens .path))) rules
 
       pub answered : (budget : ℕ) {z : Compared} → z ≡ within budget (begunDiffer t n first second h g)

@@ -1,4 +1,4 @@
--- A number's digits are those before the last and the last, so one that is below a power of ten has at most so many.
+-- A number's digits are those before the last and the last, so it has one, and one that is below a power of ten has at most so many.
 -- Assumes nothing.
 use Prim.Native.Nat.{ℕ, zero, suc, _+_, _-_, _/_, _^_, _<_, _≤_}
 use native.Mathlib.Omega.{arith}
@@ -9,6 +9,7 @@ use mathlib.Core.List.{List, [], _∷_, _++_, append-assoc, append-nil}
 use lib.ListN.{length, take, drop, set, length-drop, length-append, length-set, drop-of-length-le}
 use lib.Seq.{take-all, drop-cons, getD-set-same, drop-set-lt}
 use lib.Dec.{ltb}
+use borrow.Table.Steps.{cases}
 use borrow.Author.Tests.{ltb-true, ltb-false}
 use Rattle.decimal.specs.Put.{mostDigits, Spelt}
 use Rattle.decimal.specs.Decimal.{digit, decimal, decimal-one, decimal-more}
@@ -18,6 +19,9 @@ one-digit v h = ap length (decimal-one v h)
 
 more-digits : (v : ℕ) → 10 ≤ v → length (decimal v) ≡ length (decimal (v / 10)) + 1
 more-digits v h = ap length (decimal-more v h) ∙ length-append (decimal (v / 10)) (digit v ∷ [])
+
+pub some-digit : (v : ℕ) → 1 ≤ length (decimal v)
+some-digit v = cases (ltb v 10) (λ e. omega (arith, one-digit v (ltb-true v 10 e))) (λ e. omega (arith, more-digits v (ltb-false v 10 e)))
 
 pub decimal-length : (k v : ℕ) → v < 10 ^ suc k → length (decimal v) ≤ suc k
 decimal-length zero v h = omega (arith, one-digit v (omega (arith, pow-suc 10 0)))

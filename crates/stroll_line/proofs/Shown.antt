@@ -1,12 +1,12 @@
 -- The answer that a word says is shown as "-" or as its digits, and the lines of letters are that of the first and those of the
 -- rest. Assumes nothing.
-use Prim.Native.Nat.{ℕ, suc, _+_, _-_, _*_, _<_}
+use Prim.Native.Nat.{ℕ, suc, _+_, _-_, _*_, _<_, _≤_}
 use native.Mathlib.Omega.{arith}
 use native.Mathlib.Nat.{sub-zero}
 use native.Mathlib.Numerals.{add-one}
 use mathlib.Core.Path.{_≡_, ap, ap₂}
 use mathlib.Core.List.{List, [], _∷_, _++_, map}
-use mathlib.Core.Option.{Option}
+use mathlib.Core.Option.{Option, none, some}
 use lib.ListN.{length, getD, drop, length-append}
 use lib.Seq.{drop-cons, drop-length}
 use borrow.Author.Tests.{eq-eqb, ne-eqb}
@@ -16,6 +16,7 @@ use Rattle.refusal.specs.Refusal.{numberOf, positionOf}
 use Rattle.forest.specs.Walk.{answerLength, nowhere}
 use Rattle.demand.proofs.Words.{words-more}
 use Rattle.decimal.specs.Decimal.{decimal}
+use Rattle.decimal.proofs.Decimals.{some-digit}
 use Rattle.stroll_line.specs.Lines.{lineEnd, shown, line, lines, refusedText, atText, refusedLine}
 use Rattle.stroll_line.specs.Said.{answerOf, answersFrom}
 
@@ -26,6 +27,12 @@ shown-nowhere w e = rw (eq-eqb w nowhere e)
 pub shown-label : (w : ℕ) → (w ≡ nowhere → ⊥) → shown (answerOf w) ≡ decimal w
 unfolding shown answerOf
 shown-label w e = rw (ne-eqb w nowhere e)
+
+-- an answer is shown by a byte at least
+pub shown-some : (x : Option ℕ) → 1 ≤ length (shown x)
+unfolding shown
+shown-some none = omega arith
+shown-some (some a) = some-digit a
 
 pub line-length : (b : ℕ) (x : Option ℕ) → length (line b x) ≡ 3 + length (shown x)
 unfolding line

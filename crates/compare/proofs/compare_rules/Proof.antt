@@ -2,6 +2,7 @@
 use native.Mathlib.Omega.{arith}
 use mathlib.Core.Path.{sym, _∙_}
 use borrow.Author.Tests.{not-true, not-false}
+use Rattle.forest.specs.Outcome.{workWords}
 use Rattle.compare.proofs.Outcome.{lent, lendable, finished}
 use borrow.Author.Needs.{needs}
 use Rattle.compare.proofs.compare_rules.Statement.{statement}
@@ -19,7 +20,9 @@ returns c = lent _ _ _ _ _ _ _ (c .before .before .before .before .before .befor
 compare-places-requires : tie.Need-compare-places-requires
 compare-places-requires c κs = lendable _ _ _ _ (c .before .before .before .before .before .before .before .before .args .budget) _ _ (c .before .before .before .before .before .before .before .before .pre) (sym (c .before .before .enough-compared .ensures) ∙ not-false _ (c .before .if1 .left))
 
+-- by computation, for n rules and for none
 clear-work-requires : tie.Need-clear-work-requires
+unfolding workWords
 clear-work-requires c κs =
     let l = lendable _ _ _ _ (c .before .before .before .before .before .before .before .before .before .before .before .before .args .budget) _ _ (c .before .before .before .before .before .before .before .before .before .before .before .before .pre) (sym (c .before .before .before .before .before .before .enough-compared .ensures) ∙ not-false _ (c .before .before .before .before .before .if1 .left)) in
     let same = c .before .before .before .compare-places .ensures .1 .same-length in

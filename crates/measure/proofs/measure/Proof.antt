@@ -1,5 +1,6 @@
 -- The plan's rules are loaded, measured and cleared away, on both answers; or it is refused. Assumes nothing.
 use borrow.Author.Needs.{needs}
+use Rattle.forest.specs.Outcome.{workWords}
 use Rattle.count_passes.proofs.Work.{held}
 use Rattle.measure.proofs.Outcome.{countable, refused, finished}
 use native.Mathlib.Omega.{arith}
@@ -15,7 +16,9 @@ enum-known-n c = search needs
 answer-requires : tie.Need-answer-requires
 answer-requires c κs = countable (held (c .before .before .before .before .before .before .load-plan .ensures) (c .before .before .n .given .1))
 
+-- by computation, for n rules and for none
 clear-work-requires : tie.Need-clear-work-requires
+unfolding workWords
 clear-work-requires c κs =
     let h = held (c .before .before .before .before .before .before .before .before .before .before .load-plan .ensures) (c .before .before .before .before .before .before .n .given .1) in
     let same = c .before .before .before .answer .ensures .within .same-length in omega (arith, h .words)

@@ -1,6 +1,7 @@
 -- The plan's rules are loaded, spread in its format and cleared away, on both answers; or it is refused. Assumes nothing.
 use native.Mathlib.Omega.{arith}
 use denote.Ref.{now}
+use Rattle.forest.specs.Outcome.{workWords}
 use Rattle.count_passes.proofs.Work.{held}
 use Rattle.spread.proofs.Outcome.{refused, trailered, finished, answerable}
 use borrow.Author.Needs.{needs}
@@ -19,7 +20,9 @@ format-requires c κs = trailered (c .before .before .before .before .before .lo
 answer-requires : tie.Need-answer-requires
 answer-requires c κs = answerable (held (c .before .before .before .before .before .before .before .before .load-plan .ensures) (c .before .before .before .before .n .given .1))
 
+-- by computation, for n rules and for none
 clear-work-requires : tie.Need-clear-work-requires
+unfolding workWords
 clear-work-requires c κs =
     let h = held (c .before .before .before .before .before .before .before .before .before .before .before .before .before .before .load-plan .ensures) (c .before .before .before .before .before .before .before .before .before .before .n .given .1) in
     let same = c .before .before .before .before .before .answer .ensures .within .same-length in omega (arith, h .words)

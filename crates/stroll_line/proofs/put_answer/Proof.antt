@@ -4,12 +4,13 @@ use mathlib.Core.Path.{sym, ap}
 use lib.ListN.{length}
 use borrow.Author.Needs.{needs}
 use Rattle.decimal.proofs.Puts.{put-as}
-use Rattle.stroll_line.proofs.Shown.{shown-nowhere, shown-label}
+use Rattle.stroll_line.specs.Said.{answerOf}
+use Rattle.stroll_line.proofs.Shown.{shown-nowhere, shown-label, shown-some}
 use Rattle.stroll_line.proofs.put_answer.Statement.{statement}
 use Rattle.stroll_line.proofs.put_answer.Tie as tie
 
 put-byte-requires : tie.Need-put-byte-requires
-put-byte-requires c κs = omega (arith, ap length (shown-nowhere (c .before .before .before .args .word) (c .before .if1 .taken)))
+put-byte-requires c κs = omega (arith, shown-some (answerOf (c .before .before .before .args .word)))
 
 same-length : tie.Need-same-length
 same-length c = search needs

@@ -2,6 +2,7 @@
 use native.Mathlib.Omega.{arith}
 use mathlib.Core.Path.{sym, _∙_}
 use borrow.Author.Tests.{not-true, not-false}
+use Rattle.forest.specs.Outcome.{workWords}
 use Rattle.walk.proofs.Outcome.{lent, lendable, finished}
 use borrow.Author.Needs.{needs}
 use Rattle.walk.proofs.walk_rules.Statement.{statement}
@@ -25,7 +26,9 @@ returns c = lent _ _ _ _ _ _ _ (c .before .before .before .before .before .befor
 walk-bytes-requires : tie.Need-walk-bytes-requires
 walk-bytes-requires c κs = lendable _ _ _ _ _ _ _ (c .before .before .before .before .before .before .before .before .before .before .before .before .before .pre) (sym (c .before .before .before .before .enough-lent .ensures) ∙ not-false _ (c .before .before .before .if1 .left))
 
+-- by computation, for n rules and for none
 clear-work-requires : tie.Need-clear-work-requires
+unfolding workWords
 clear-work-requires c κs = let l = lendable _ _ _ _ _ _ _ (c .before .before .before .before .before .before .before .before .before .before .before .before .before .before .before .before .before .before .before .before .before .pre) (sym (c .before .before .before .before .before .before .before .before .before .before .before .before .enough-lent .ensures) ∙ not-false _ (c .before .before .before .before .before .before .before .before .before .before .before .if1 .left)) in let same = c .before .before .before .before .before .before .before .walk-bytes .ensures .1 .same-length in let room = l .words in omega arith
 
 same-length-4 : tie.Need-same-length-4
