@@ -2,9 +2,9 @@
 
        copy PLAN CLASS [LETTERS]
 
-   Without letters it shows all entries in reading order, each below its parent by two columns, and beside those that the copy has these; with
-   letters it shows where each leads, in the plan and in the copy, both from above the forest. Whatever the copy's rules are, an entry that it
-   has must be the plan's next one that the client may see, at the same level: if not, it says so.
+   Without letters it shows all nodes in reading order, dividers too, each below its parent by two columns, and beside those that the copy has
+   these; with letters it shows where each leads, in the plan and in the copy, both from above the forest. Whatever the copy's rules are, a node
+   that it has must be the plan's next one that the client may see, at the same level: if not, it says so.
    All memory is laid out here, once. A copy has at most three rules for each of the plan's. */
 #include "mealplan.h"
 #include <ctype.h>
@@ -26,7 +26,7 @@ static uint8_t plan[MOST_PLAN + 1], copy[MEALPLAN_COPY_BYTES(MOST_RULES)];
 static uint8_t work[MEALPLAN_WORK_BYTES(3 * MOST_RULES)];
 static uint8_t cursors[2][MEALPLAN_CURSOR_BYTES(3 * MOST_RULES)]; /* zeros: above the forest */
 
-/* A plan that is walked, and the level of the entry where the walk stands; above the forest that is 0. */
+/* A plan that is walked, and the level of the node where the walk stands; above the forest that is 0. */
 static struct walk {
     const uint8_t *plan;
     size_t length;
@@ -61,7 +61,7 @@ static uint32_t go(struct walk *w, char letter) {
     return MEALPLAN_ANSWER(answer, 0);
 }
 
-/* To the next entry in reading order: the first root, the first child, else the next sibling of the entry or of the nearest one above it. */
+/* To the next node in reading order: the first root, the first child, else the next sibling of the node or of the nearest one above it. */
 static uint32_t next(struct walk *w) {
     uint32_t label = go(w, w->level ? 'f' : 'a');
     if (label != MEALPLAN_NOWHERE) return w->level++, label;
@@ -98,30 +98,30 @@ static void line(const char *first, const char *second) {
         printf("%s\n", first);
 }
 
-/* An entry, below its parent by two columns. */
-static const char *entry(unsigned level, uint32_t label, char *text, size_t length) {
+/* A node, below its parent by two columns. */
+static const char *node(unsigned level, uint32_t label, char *text, size_t length) {
     char of[16];
     snprintf(text, length, "%*s%s", 2 * ((int)level - 1), "", name(label, of, sizeof of));
     return text;
 }
 
-/* All entries, and beside them those of the copy. */
+/* All nodes, and beside them those of the copy. */
 static int outline(uint16_t class_) {
-    unsigned entries = 0, copied = 0, gone = 0; /* gone: the level of an entry that the client may not see, and so for all below it */
-    for (uint32_t label; entries < MOST_SHOWN && (label = next(&whole)) != MEALPLAN_NOWHERE; entries++) {
+    unsigned nodes = 0, copied = 0, gone = 0; /* gone: the level of a node that the client may not see, and so for all below it */
+    for (uint32_t label; nodes < MOST_SHOWN && (label = next(&whole)) != MEALPLAN_NOWHERE; nodes++) {
         char first[80], second[80] = "";
         if (!gone || whole.level <= gone) gone = may_see(class_, label) ? 0 : whole.level;
         if (!gone) {
             uint32_t there = next(&seen);
             if (there != label || seen.level != whole.level) return printf("the copy has something else\n"), 1;
-            entry(seen.level, there, second, sizeof second), copied++;
+            node(seen.level, there, second, sizeof second), copied++;
         }
-        line(entry(whole.level, label, first, sizeof first), second);
+        line(node(whole.level, label, first, sizeof first), second);
     }
     char first[80], second[80];
-    snprintf(first, sizeof first, "entries: %u", entries), snprintf(second, sizeof second, "entries: %u", copied);
+    snprintf(first, sizeof first, "nodes: %u", nodes), snprintf(second, sizeof second, "nodes: %u", copied);
     line(first, second);
-    if (entries < MOST_SHOWN && next(&seen) != MEALPLAN_NOWHERE) return printf("the copy has more\n"), 1;
+    if (nodes < MOST_SHOWN && next(&seen) != MEALPLAN_NOWHERE) return printf("the copy has more\n"), 1;
     return 0;
 }
 

@@ -2,7 +2,7 @@
 
        reader PLAN
 
-   Keys are the letters of plan_walk (a z f l n p u s), m, which remembers the place, =, which asks whether the entry and all below it is the
+   Keys are the letters of plan_walk (a z f l n p u s), m, which remembers the place, =, which asks whether the node and all below it is the
    same there and here, and q, which ends; blanks and line ends are passed over.
    All memory is laid out here, once, for the largest plan of either format that this reader takes: the walker keeps nothing and asks for
    nothing. A table-top reader takes few rules, and turns down a plan of more before any call, so that it needs the smaller stack alone. */
@@ -11,7 +11,7 @@
 #include <stdio.h>
 #include <string.h>
 
-enum { BUDGET = 100000 /* pairs of entries that a reader waits for */ };
+enum { BUDGET = 100000 /* pairs of nodes that a reader waits for */ };
 enum { MOST_PLAN = 16384 /* bytes, with its cover */, MOST_RULES = MEALPLAN_FEW_RULES };
 
 static uint8_t plan[MOST_PLAN + 1];
@@ -47,7 +47,7 @@ static int greet(void) {
     int wide = MEALPLAN_RECORD_LENGTH(plan, plan_len) == MEALPLAN_WIDE;
     printf("%u %srules, start %u: ", n, wide ? "wide " : "", start);
     number = plan_measure(plan, plan_len, work, sizeof work, &trees, &entries, &levels, &position);
-    if (number == MEALPLAN_ROOM) return printf("more than 2^64 - 1 entries\n"), 0;
+    if (number == MEALPLAN_ROOM) return printf("more than 2^64 - 1 nodes\n"), 0;
     if (number) return refused(number, position);
     printf("%llu trees, %llu entries, %llu levels\n", (unsigned long long)trees, (unsigned long long)entries,
            (unsigned long long)levels);

@@ -95,6 +95,9 @@ extern "C" {
      (uint32_t)(answers)[4 * (i) + 2] << 16 | (uint32_t)(answers)[4 * (i) + 3] << 24)
 #define MEALPLAN_NOWHERE 4294967295u
 
+/* The label of a divider line, whatever the format. */
+#define MEALPLAN_DIVIDER 0u
+
 /* The used cells of a cursor, and the bytes at its front that hold the place: these
    alone have to be stored. Whatever stands behind them isn't looked at. */
 #define MEALPLAN_CELLS(cursor) ((size_t)((cursor)[0] | (cursor)[1] << 8))
@@ -156,9 +159,11 @@ uint32_t plan_unseal(const uint8_t *plan, size_t plan_len,
                      uint16_t *record_length, uint16_t *n, uint16_t *start,
                      uint64_t *position);
 
-/* Measure a plan's forest, *trees, *entries (all nodes) and *levels: 1 to 6, 12, 7, 8,
-   and 11 if it has more than 2^64 - 1 nodes. Unless 1 to 8 or 12 refuses, the needed
-   bytes of work end as zeros; those past them never change. */
+/* Measure a plan's forest, *trees, *entries and *levels: 1 to 6, 12, 7, 8, and 11 if it
+   has more than 2^64 - 1 nodes. A node with label MEALPLAN_DIVIDER is a divider line and
+   not an entry: trees, levels and 11 count it, entries don't. To all other functions it
+   is a node as any other; by one row of 1 gram plan_grams counts all nodes. Unless 1 to
+   8 or 12 refuses, the needed bytes of work end as zeros; those past them never change. */
 uint32_t plan_measure(const uint8_t *plan, size_t plan_len,
                       uint8_t *work, size_t work_len,
                       uint64_t *trees, uint64_t *entries, uint64_t *levels,
@@ -210,8 +215,8 @@ uint32_t plan_compare(const uint8_t *plan, size_t plan_len,
                       uint64_t *position);
 
 /* A row of a list of who may read which label, and of what an entry weighs: the labels
-   from lowest to highest have the class, and so many grams per entry, 0 to 65,535. The
-   grams are looked at by plan_grams alone. */
+   from lowest to highest have the class, and so many grams per entry, 0 to 65,535; so
+   has the label of a divider line. The grams are looked at by plan_grams alone. */
 struct plan_row {
     uint32_t lowest, highest;
     uint16_t class_;

@@ -304,7 +304,7 @@ static void sampled(void) {
     want("levels", levels, 3);
     for (size_t i = 0; i < sizeof work; i++) want("work", work[i], i < MEALPLAN_WORK_BYTES(8) ? 0 : 3);
     memset(out, 2, sizeof out);
-    NEEDS(MEALPLAN_TEXT_BYTES(entries, NARROW), MEALPLAN_ROOM,
+    NEEDS(MEALPLAN_TEXT_BYTES(11, NARROW), MEALPLAN_ROOM,
           plan_spread(sample, sizeof sample, work, sizeof work, out, LENGTH, &written, &position));
     want("text length", written, TEXT);
     want("the text", memcmp(out, text, TEXT) == 0, 1);
@@ -312,6 +312,33 @@ static void sampled(void) {
     n = 77;
     gives("a mark that is neither", changed(73, 'r'), MEALPLAN_MAGIC, 0);
     want("n is left alone", n, 77);
+}
+
+/* Dividers: the sample plan with their label in place of 98, a divider alone, and labels of a wide plan whose low words are 0. */
+static void divided(void) {
+    const char text[] = "(c(a)(\0)(c(a)(\0)(a)(\0))(\0))(a)(\0)";
+    gives("label 0 in place of 98", changed(18, MEALPLAN_DIVIDER), MEALPLAN_ACCEPTED, 0);
+    gives("measure", plan_measure(plan, sizeof sample, work, sizeof work, &trees, &entries, &levels, &position), MEALPLAN_ACCEPTED, 0);
+    want("trees, dividers too", trees, 3);
+    want("entries", entries, 6);
+    want("levels", levels, 3);
+    NEEDS(MEALPLAN_TEXT_BYTES(11, NARROW), MEALPLAN_ROOM,
+          plan_spread(plan, sizeof sample, work, sizeof work, out, LENGTH, &written, &position));
+    want("the text has every node", written == sizeof text - 1 && memcmp(out, text, sizeof text - 1) == 0, 1);
+    memset(cursor, 0, sizeof cursor);
+    gives("zlafn", walk(plan, sizeof sample, "zlafn"), MEALPLAN_ACCEPTED, 0);
+    want("the last tree", MEALPLAN_ANSWER(answers, 0), MEALPLAN_DIVIDER);
+    want("the second child of the first", MEALPLAN_ANSWER(answers, 4), MEALPLAN_DIVIDER);
+    memset(cursor, 0, sizeof cursor);
+    plan[66] = 2;
+    gives("a divider alone", plan_measure(plan, sizeof sample, work, sizeof work, &trees, &entries, &levels, &position), MEALPLAN_ACCEPTED, 0);
+    want("is a tree of one level, and no entry", trees == 1 && entries == 0 && levels == 1, 1);
+    gives("label 65,536 in place of 98", changed_word(2, 1, 0), MEALPLAN_ACCEPTED, 0);
+    gives("measure", plan_measure(plan, sizeof wide, work, sizeof work, &trees, &entries, &levels, &position), MEALPLAN_ACCEPTED, 0);
+    want("it is the whole label that counts", entries, 11);
+    plan[WIDE * 2 + 8] = 0;
+    gives("label 0 there", plan_measure(plan, sizeof wide, work, sizeof work, &trees, &entries, &levels, &position), MEALPLAN_ACCEPTED, 0);
+    want("entries", entries, 6);
 }
 
 /* The answers, the word for nowhere, and the bytes that hold a place. */
@@ -610,6 +637,7 @@ int main(int argc, char **argv) {
     formats();
     widely();
     sampled();
+    divided();
     places();
     compared();
     classes();

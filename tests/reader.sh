@@ -118,6 +118,36 @@ n  nowhere
 stopped with 3 cells
 END
 
+# The sample plan with dividers in place of 98: they are walked, compared and no entries.
+{ head -c 18 samples/plan.bin && printf '\0' && tail -c 55 samples/plan.bin; } >"$build/divided"
+shows "$build/divided" 'afnmz=' 0 <<'END'
+8 rules, start 7: 3 trees, 6 entries, 3 levels
+a  99 c
+f  97 a
+n  0
+m  remembered
+z  0
+=  the same, 1 in all
+stopped with 3 cells
+END
+
+# A row of 2^64 dividers.
+{
+    printf '\0\0\0\0\0\0\0\0\2\0\0\0\0\0\0\0'
+    for rule in $(seq 1 64); do
+        octal=$(printf '%o' "$rule")
+        printf "\\1\\0\\$octal\\0\\$octal\\0\\0\\0"
+    done
+    printf '\102\0\101\0\20\2\0\0mp'
+} >"$build/dividers"
+shows "$build/dividers" 'aznq' 0 <<'END'
+66 rules, start 65: more than 2^64 - 1 nodes
+a  0
+z  0
+n  nowhere
+stopped with 3 cells
+END
+
 shows "$build/absent" 'a' 1 <<'END'
 refused 1 at 0
 END

@@ -2,8 +2,10 @@
 -- kept stays apart from counts that fit: the most nodes with more behind them are too many, and with nothing they have no tops. Assumes nothing.
 use Prim.Native.Nat.{ℕ, suc, _+_, _%_, _^_, _≤_, _<_, max, min}
 use native.Mathlib.Omega.{arith}
+use mathlib.Core.Bool.{Bool, true, false, cond}
 use mathlib.Core.Path.{_≡_, refl, _∙_}
-use Rattle.forest.specs.Outcome.{entry}
+use lib.Dec.{eqb}
+use Rattle.forest.specs.Outcome.{divider, entry}
 use Rattle.count_all.specs.declared.Counts.{Counts}
 use Rattle.count_all.specs.Counts.{noCounts, joined, beside, filling, over, oneTree}
 use Rattle.count_all.specs.Kept.{most, Bounded, Keeps, TooMany, IsNone, Joins}
@@ -89,9 +91,13 @@ module _ {a b : Counts} where
   filling-low m k p q = omega (arith, keeps-bounded p .tops, keeps-bounded p .levels, keeps-bounded q .levels)
 
 -- a node over them: an entry counts for at most as much as a node
+bit-one : (b : Bool) → cond b 0 1 ≤ 1
+bit-one true = omega arith
+bit-one false = omega arith
+
 entry-one : (a : ℕ) → entry a ≤ 1
 unfolding entry
-entry-one a = omega arith
+entry-one a = bit-one (eqb a divider)
 
 over-bounded : (a : ℕ) {m : Counts} → Bounded m → Bounded (over a m)
 unfolding over

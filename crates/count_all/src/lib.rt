@@ -22,10 +22,13 @@ pub struct Counts {
     pub levels: u64,
 }
 
-// What an entry with a label counts for.
+// What a label counts for among the entries: a divider isn't one (document 02, Note 9).
 fn weight(label: u32) -> u64
     ensures { λ r. ⌜ r ≡ entry label ⌝ }
 {
+    if label == Counts::DIVIDER {
+        return 0;
+    }
     Counts::ENTRY
 }
 
@@ -46,6 +49,9 @@ fn at_most_one(a: u64) -> u64
 impl Counts {
     // What an entry counts for.
     const ENTRY: u64 = 1;
+
+    // The label of a divider.
+    const DIVIDER: u32 = 0;
 
     // The most nodes that 64 bits hold.
     const MOST: u64 = Count::MOST;
@@ -118,9 +124,10 @@ impl Counts {
         if self.nodes == Counts::MOST {
             return Counts::too_many();
         }
+        let entry = weight(label);
         Counts {
             nodes: self.nodes + 1,
-            entries: std::num::wrapping_add_u64(self.entries, weight(label)),
+            entries: std::num::wrapping_add_u64(self.entries, entry),
             tops: 1,
             levels: std::num::wrapping_add_u64(self.levels, 1),
         }

@@ -1,6 +1,6 @@
--- What same and differ mean (document 02, Note 4). Of two lists the verdict is true exactly if they are equal, with their length; it is false
--- at k exactly if the first k − 1 pairs agree and the k-th doesn't, a node against an ended list included. By recursion over both lists. The
--- lists of two forests are equal exactly if the forests are. Assumes nothing.
+-- What same and differ mean (document 02, Note 4). Of two lists the verdict is true exactly if they are equal, with their length; it is
+-- false at k exactly if the first k − 1 pairs agree and the k-th doesn't, a node against an ended list included. By recursion over both
+-- lists. The lists of two forests are equal exactly if the forests are. Assumes nothing.
 use Prim.Native.Nat.{ℕ, zero, suc, _-_, _≤_}
 use native.Mathlib.Omega.{arith}
 use mathlib.Core.Logic.{_↔_, _≢_}

@@ -76,6 +76,16 @@ seven = first ∷ child ∷ next ∷ next ∷ child ∷ next ∷ next ∷ []
 abbrev comb : List ℕ
 comb = plan (Rule.Empty ∷ Rule.Node 97 0 ∷ Rule.Pair 1 1 ∷ Rule.Pair 2 1 ∷ Rule.Pair 3 1 ∷ []) 4
 
+-- the sample with label 0 in place of 98; and a wide plan with labels 0 and 65,536 side by side
+abbrev divided : List ℕ
+divided =
+    plan
+    (Rule.Empty ∷ Rule.Node 97 0 ∷ Rule.Node 0 0 ∷ Rule.Pair 1 2 ∷ Rule.Part 99 3 2 ∷ Rule.Join 4 4 ∷ Rule.Fill 5 1 ∷ Rule.Pair 6 3 ∷ [])
+    7
+
+abbrev wide : List ℕ
+wide = planBytes Format.Wide (map encode (Rule.Empty ∷ Rule.Node 0 0 ∷ Rule.Node 65536 0 ∷ Rule.Pair 1 2 ∷ [])) 3
+
 -- one-sided pairs on either side, at the start rule too
 abbrev one-sided : List ℕ
 one-sided = plan (Rule.Empty ∷ Rule.Node 97 0 ∷ Rule.Pair 0 1 ∷ Rule.Pair 2 0 ∷ Rule.Pair 3 1 ∷ Rule.Pair 0 4 ∷ []) 5
@@ -96,6 +106,9 @@ pub record Starred : Type 0 where
   pub text-short : spread sample work (replicate 32 0) ≡ Written.Refused Refusal.Room
   -- ★ measure 3, 11, 3
   pub counts : measured sample work ≡ Measured.Counts 3 11 3
+  -- document 02, Note 9: "The sample plan gives 11 as before; the same plan with label 0 in place of 98 gives 6"; the whole label is looked at
+  pub dividers : measured divided work ≡ Measured.Counts 3 6 3
+  pub wide-dividers : measured wide work ≡ Measured.Counts 2 1 1
   -- ★ after a, after afnnfnn, one more n
   pub cells-1 : cellsAfter sample (first ∷ []) ≡ (1, 0, 7, 0) ∷ (3, 7, 6, 0) ∷ (2, 6, 0, 0) ∷ (3, 5, 4, 0) ∷ []
   pub cells-7 : cellsAfter sample seven ≡ (1, 0, 7, 0) ∷ (3, 7, 6, 0) ∷ (2, 6, 0, 0) ∷ (4, 5, 4, 0) ∷ (2, 1, 0, 0) ∷ []
@@ -134,6 +147,8 @@ starred =
       text-length = refl;
       text-short = refl;
       counts = refl;
+      dividers = refl;
+      wide-dividers = refl;
       cells-1 = refl;
       cells-7 = refl;
       cells-8 = refl;

@@ -3,7 +3,7 @@ use Prim.Native.Nat.{ℕ, _+_, _*_, _^_}
 use mathlib.Core.Bool.{Bool, cond}
 use mathlib.Core.List.{List}
 use lib.ListN.{length}
-use lib.Dec.{leb, ltb}
+use lib.Dec.{eqb, leb, ltb}
 use Rattle.words.specs.Number.{wordCount}
 unfoldable pub use Rattle.words.specs.Front.{cleared}
 use Rattle.rule.specs.declared.Rule.{Rule}
@@ -43,15 +43,20 @@ unfolding workWords cleared
 workAfter enough (Checked.Accepted n start) work = cond (enough n) (cleared (wordLength * workWords n) work) work
 workAfter enough (Checked.Refused r) work = work
 
--- an entry's weight: "entries (all nodes)"
+-- document 02, Note 9: "label 0 for printed dividers", the whole label
+abbrev pub divider : ℕ
+divider = 0
+
+-- what a label counts for among the entries: "a divider isn't an entry"
 unfoldable pub entry : ℕ → ℕ
-entry a = 1
+entry a = cond (eqb a divider) 0 1
 
 -- "over 2^64 − 1": the least number that is too large to be given
 abbrev pub countLimit : ℕ
 countLimit = 2 ^ 64
 
--- "11: over 2^64 − 1 nodes. It gives trees, entries (all nodes) and levels"
+-- "11: over 2^64 − 1 nodes. It gives trees, entries (all nodes) and levels"; Note 9: "Measure's second number leaves label 0 out; trees and
+-- levels still include it. .. refusal 11 of measure still looks at all nodes."
 unfoldable pub counted : Forest ℕ → Measured
 unfolding count weigh levels entry
 counted g = cond (ltb (weigh one g) countLimit) (Measured.Counts (count g) (weigh entry g) (levels g)) (Measured.Refused Refusal.Room)

@@ -16,7 +16,7 @@ const PASSES: usize = 5;
 const TITLE: &str = "Beside a baseline";
 const NONE: &str = "No baseline was given: `BASELINE` named no archive when the benchmark was built.";
 const ABOUT: &str = "Library / baseline (the one by the other): nanoseconds a letter; microseconds of a walk without letters where these begin, of a \
-check, and of a measure of the plan started where it has most entries of those that measure counts. 'f then u' goes down for as long as f leads \
+check, and of a measure of the plan started where it has most nodes of those that measure takes. 'f then u' goes down for as long as f leads \
 somewhere, at most 1,000 times, and up again, 'n then p' so along a row and back. 'Mixed' letters are f, l, n, p, u at random, those that lead somewhere. \
 'u nowhere' is asked in the middle of the forest's own row, s at the last node. The ratios are those of one program: where the linker puts code counts \
 too, most in short loops as those of 'u nowhere' and s.";

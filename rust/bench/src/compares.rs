@@ -60,16 +60,16 @@ fn nothing_shared(report: &mut Report) {
     report.section(
         "Compare, where nothing is shared",
         "Nanoseconds a pair, as above: a call less one with a budget of 1, by the number of pairs. The forest is the family's largest of at most 20,000 \
-         entries, its rules stand in the plan twice, and either forest is below a node of its own. Beside it a letter n on the same forest, as in the \
+         nodes, its rules stand in the plan twice, and either forest is below a node of its own. Beside it a letter n on the same forest, as in the \
          first table.",
     );
     report.header(&["family", "pairs", "a pair", "a letter n"]);
     for (name, family) in FAMILIES {
-        let (draft, entries) = tours::largest_below(family, 20_000.0);
+        let (draft, nodes) = tours::largest_below(family, 20_000.0);
         let (mut twice, starts) = draft.twice();
         let tops = starts.map(|start| twice.add(Rule::Node(122, start)));
         twice.add(Rule::Pair(tops[0], tops[1]));
-        let pairs = entries as u32 + 1;
+        let pairs = nodes as u32 + 1;
         let mut desk = Desk::between(&twice, b"a", b"z");
         desk.budget(1);
         let without = desk.time(Operation::Compare, 8);

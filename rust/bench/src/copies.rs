@@ -17,7 +17,7 @@ const ROWS: u32 = 64;
 /// As many measures a copy may take at most.
 pub const MOST_MEASURES: f64 = 5.0;
 
-/// But for the doubled rows, most of which stand for more entries than measure counts, all rules are reached.
+/// But for the doubled rows, most of which stand for more nodes than measure takes, all rules are reached.
 const FAMILIES: [(&str, Family); 6] = [
     ("doubled rows", |n| families::rows(Growth::Doubled, n)),
     ("combs", |n| families::rows(Growth::Comb, n)),
@@ -32,7 +32,7 @@ pub fn all(report: &mut Report) -> f64 {
     report.section(
         "The client's copy",
         "Microseconds a call of the library, nanoseconds of it for each rule, microseconds of a measure of the same plan, and how many measures a copy \
-         takes. The families' plans start where they have most entries of those that measure counts; their labels are below 256 at random. The list \
+         takes. The families' plans start where they have most nodes of those that measure takes; their labels are below 256 at random. The list \
          has 64 rows, of classes 0 and 1 by turns: a client of class 1 sees all, one of class 0 about half of the labels, and nothing below \
          the others. Two plans are there with their rules in any order too.",
     );

@@ -31,7 +31,7 @@ pub fn all(report: &mut Report) -> f64 {
     report.section(
         "Grams",
         "Microseconds a call of the library by lists of so many rows, of as many labels each, microseconds of a measure of the same plan, and how many \
-         measures grams by 256 rows takes. The families' plans are wide and start where they have most entries of those whose grams fit; their labels \
+         measures grams by 256 rows takes. The families' plans are wide and start where they have most nodes of those whose grams fit; their labels \
          are any below 2^24. The list is checked in every call, row by row, and each rule's label is looked up in it by a binary search. Of nested nodes \
          one rule in three has a label, of a node chain every rule but one: of so many labels at random the processor doesn't predict which way a search \
          goes, and that is most of the time.",

@@ -66,7 +66,7 @@ fn main() -> io::Result<()> {
     }
     letters(&mut report);
     nowhere(&mut report);
-    let by_entries = entries(&mut report);
+    let by_nodes = nodes(&mut report);
     calls(&mut report);
     orders(&mut report);
     formats(&mut report);
@@ -78,7 +78,7 @@ fn main() -> io::Result<()> {
     baseline::all(&mut report);
     print!("{}", report.text());
     let docs: PathBuf = [env!("CARGO_MANIFEST_DIR"), "..", "..", "docs"].iter().collect();
-    fs::write(docs.join("bench.svg"), plot::by_entries(&by_entries))?;
+    fs::write(docs.join("bench.svg"), plot::by_nodes(&by_nodes))?;
     fs::write(docs.join("bench.md"), report.text())?;
     few_measures("a copy", most_of_copies, copies::MOST_MEASURES)?;
     few_measures("grams", most_of_grams, grams::MOST_MEASURES)
@@ -131,14 +131,14 @@ fn nowhere(report: &mut Report) {
     }
 }
 
-/// The cost of a letter by the number of entries, on one plan with one start after the other.
-fn entries(report: &mut Report) -> Vec<(String, Times)> {
+/// The cost of a letter by the number of nodes, on one plan with one start after the other.
+fn nodes(report: &mut Report) -> Vec<(String, Times)> {
     report.section(
-        "A letter, by the number of entries",
+        "A letter, by the number of nodes",
         "Nanoseconds a letter, as above, on one plan of 1,024 rules (rows doubled eight times, a node over each, and so on) whose start \
          rule decides how large the forest is. Letters f, l, n, p, u at random, those that lead somewhere. ![plot](bench.svg)",
     );
-    report.header(&["entries", "start", "f l n p u"]);
+    report.header(&["nodes", "start", "f l n p u"]);
     let mut draft = families::towers(1024);
     let starts = tours::starts(&draft);
     let mut costs: Vec<(String, Times)> = starts.iter().map(|(name, _)| (name.clone(), Times::WORST)).collect();
@@ -243,14 +243,14 @@ fn in_both(draft: Draft) -> [(&'static str, Draft); 2] {
 fn texts(report: &mut Report) {
     report.section(
         "Spread",
-        "Nanoseconds a byte of output: library / reference (the one by the other). The forest is the family's largest of at most 50,000 entries; \
-         an entry is three bytes in a narrow plan, five in a wide one.",
+        "Nanoseconds a byte of output: library / reference (the one by the other). The forest is the family's largest of at most 50,000 nodes; \
+         a node is three bytes in a narrow plan, five in a wide one.",
     );
     report.header(&["family", "bytes", "spread"]);
     for (name, family) in FAMILIES {
-        let (draft, entries) = tours::largest_below(family, 50_000.0);
+        let (draft, nodes) = tours::largest_below(family, 50_000.0);
         for (format, draft) in in_both(draft) {
-            let bytes = draft.format.node() * entries as usize;
+            let bytes = draft.format.node() * nodes as usize;
             let mut desk = Desk::new(&draft);
             desk.room(bytes);
             let spread = desk.time(Operation::Spread, 1) / bytes as f64;

@@ -1,4 +1,4 @@
-//! A small plot of the cost of a letter against the number of entries.
+//! A small plot of the cost of a letter against the number of nodes.
 use crate::timing::Times;
 use std::fmt::Write;
 
@@ -6,8 +6,8 @@ const WIDTH: f64 = 640.0;
 const HEIGHT: f64 = 300.0;
 const MARGIN: f64 = 50.0;
 
-/// The plot: a place for each number of entries to the right, nanoseconds up.
-pub fn by_entries(points: &[(String, Times)]) -> String {
+/// The plot: a place for each number of nodes to the right, nanoseconds up.
+pub fn by_nodes(points: &[(String, Times)]) -> String {
     let highest = points.iter().map(|(_, times)| times.library.max(times.other)).fold(10.0, f64::max);
     let mut plot = Plot { svg: String::new(), places: points.len(), top: (highest / 10.0).ceil() * 10.0 };
     plot.put(&format!(
@@ -24,7 +24,7 @@ pub fn by_entries(points: &[(String, Times)]) -> String {
         plot.label(MARGIN - 6.0, y + 4.0, "end", &format!("{nanoseconds:.0}"));
     }
     plot.label(MARGIN, 24.0, "start", "nanoseconds a letter");
-    plot.label(WIDTH / 2.0, HEIGHT - 10.0, "middle", "entries");
+    plot.label(WIDTH / 2.0, HEIGHT - 10.0, "middle", "nodes");
     plot.line(points.iter().map(|(_, times)| times.library), "#b03030", "library", WIDTH - 210.0);
     plot.line(points.iter().map(|(_, times)| times.other), "#3050b0", "reference", WIDTH - 130.0);
     plot.put("</svg>");

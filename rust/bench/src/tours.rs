@@ -69,7 +69,7 @@ pub fn wandering(draft: &Draft, count: usize) -> Tour {
 }
 
 /// The number of nodes of every rule.
-fn entries(draft: &Draft) -> Vec<f64> {
+fn nodes(draft: &Draft) -> Vec<f64> {
     let mut counts: Vec<f64> = Vec::with_capacity(draft.n());
     for number in 0..draft.n() as u16 {
         let of = |rule: u16| counts[usize::from(rule)];
@@ -83,9 +83,9 @@ fn entries(draft: &Draft) -> Vec<f64> {
     counts
 }
 
-/// Starts the plan at its largest forest of no more entries than this; gives their number.
+/// Starts the plan at its largest forest of no more nodes than this; gives their number.
 pub fn start_below(draft: &mut Draft, most: f64) -> f64 {
-    let counts = entries(draft);
+    let counts = nodes(draft);
     let fits = |rule: &usize| draft.kind(*rule) <= 3 && counts[*rule] <= most;
     let largest = (0..draft.n()).filter(fits).max_by(|one, other| counts[*one].total_cmp(&counts[*other]));
     let largest = largest.expect("the empty rule fits");
@@ -93,19 +93,19 @@ pub fn start_below(draft: &mut Draft, most: f64) -> f64 {
     counts[largest]
 }
 
-/// The plan of a family, of at most 256 rules, that has the largest forest of no more entries than this; with their number.
+/// The plan of a family, of at most 256 rules, that has the largest forest of no more nodes than this; with their number.
 pub fn largest_below(family: fn(usize) -> Draft, most: f64) -> (Draft, f64) {
     let plans = (8..=256).map(|n| {
         let mut draft = family(n);
-        let entries = start_below(&mut draft, most);
-        (draft, entries)
+        let nodes = start_below(&mut draft, most);
+        (draft, nodes)
     });
     plans.max_by(|one, other| one.1.total_cmp(&other.1)).expect("there are plans")
 }
 
-/// The starts with just above 10 entries, 100 and so on up to 2^900: a name and the rule.
+/// The starts with just above 10 nodes, 100 and so on up to 2^900: a name and the rule.
 pub fn starts(draft: &Draft) -> Vec<(String, u16)> {
-    let counts = entries(draft);
+    let counts = nodes(draft);
     let powers = [16, 32, 64, 128, 256, 400, 512, 700, 900].map(|power| (format!("2^{power}"), 2f64.powi(power)));
     let tens = [10.0, 100.0, 1000.0].map(|count| (format!("{count}"), count));
     let wanted = tens.into_iter().chain(powers);

@@ -28,7 +28,8 @@ const COMMANDS: [Command; 12] = [
         words: "PLAN",
         options: Options::NONE,
         summary: "counts the forest's trees, entries and levels",
-        help: "A forest of more than 2^64 - 1 entries is refused with 11.\n",
+        help: "A node with label 0 is a divider line: trees and levels include it, entries don't. A forest of more than 2^64 - 1 nodes is\n\
+               refused with 11.\n",
         run: operations::measure,
     },
     Command {
@@ -65,9 +66,9 @@ const COMMANDS: [Command; 12] = [
         words: "[--depth N] [--lines N] [--at KEYS] PLAN",
         options: Options { valued: &["--depth", "--lines", "--at"], flags: &[] },
         summary: "shows the forest as an indented tree, of any plan however large",
-        help: "  --depth N  the most levels; all if not given. Behind an entry that has more below it stands ...\n  \
+        help: "  --depth N  the most levels; all if not given. Behind a node that has more below it stands ...\n  \
                --lines N  the most lines; 200 if not given\n  \
-               --at KEYS  only the entry that these keys lead to from above the forest, and what is below it\n",
+               --at KEYS  only the node that these keys lead to from above the forest, and what is below it\n",
         run: operations::show,
     },
     Command {
@@ -83,8 +84,8 @@ const COMMANDS: [Command; 12] = [
         words: "[--budget N] PLAN KEYS KEYS",
         options: Options { valued: &["--budget"], flags: &[] },
         summary: "compares the subtrees at two places, each told by keys from above the forest",
-        help: "  --budget N  the most pairs of entries; 10000000 if not given\n\
-               It says 'same' with the number of entries, 'differ' with the place, from 1, of the first pair that does, or 'spent' with\n\
+        help: "  --budget N  the most pairs of nodes; 10000000 if not given\n\
+               It says 'same' with the number of nodes, 'differ' with the place, from 1, of the first pair that does, or 'spent' with\n\
                the budget. A place above the forest is refused with 10.\n",
         run: operations::compare,
     },
@@ -101,7 +102,7 @@ const COMMANDS: [Command; 12] = [
         name: "copy",
         words: "[-o COPY] PLAN LIST.txt CLASS",
         options: Options { valued: &["-o"], flags: &[] },
-        summary: "makes the copy of a plan for a client of a class, who sees no entry of a higher one",
+        summary: "makes the copy of a plan for a client of a class, who sees no node of a higher one",
         help: "  -o COPY  the file to write; standard output if not given\n\
                The list is one as 'mealplan classes' takes it.\n",
         run: operations::copy,
@@ -110,7 +111,7 @@ const COMMANDS: [Command; 12] = [
         name: "grams",
         words: "PLAN LIST.txt",
         options: Options::NONE,
-        summary: "weighs a plan: the grams of all entries, by a list that tells them",
+        summary: "weighs a plan: the grams of all nodes, by a list that tells them",
         help: "The list is one as 'mealplan classes' takes it; a row of three numbers weighs nothing.\n\
                A sum of more than 2^64 - 1 grams is refused with 11.\n",
         run: operations::grams,

@@ -9,7 +9,7 @@ use mealplan::{Compared, Format, Label, Plan, Refusal, Walker};
 use std::fmt::Write;
 use std::io;
 
-/// The most bytes of a text, lines of a tree and pairs of entries where nobody says how many.
+/// The most bytes of a text, lines of a tree and pairs of nodes where nobody says how many.
 const MOST_TEXT: usize = 1 << 28;
 const MOST_LINES: u64 = 200;
 const BUDGET: u32 = 10_000_000;

@@ -188,6 +188,18 @@ fn classes_and_copy() {
 }
 
 #[test]
+fn dividers() {
+    let text = file("divided.txt", RULES.replace("node 98", "node 0").as_bytes());
+    let plan = file("divided.bin", &run(&["seal", &text]).stdout);
+    assert_eq!(prints(&["measure", &plan]), "trees 3\nentries 6\nlevels 3\n");
+    assert_eq!(run(&["spread", "--most", "33", &plan]).stdout, b"(c(a)(\0)(c(a)(\0)(a)(\0))(\0))(a)(\0)");
+    assert_eq!(prints(&["spread", "--decimal", &plan]), "(99(97)(0)(99(97)(0)(97)(0))(0))(97)(0)");
+    assert!(says(&["spread", "--most", "32", &plan], 1).contains("divided.bin: refused 11 at 0: "));
+    assert_eq!(prints(&["compare", &plan, "a", "a"]), "same 9\n");
+    assert_eq!(prints(&["grams", &plan, &file("each.txt", b"0 16777215 0 1\n")]), "grams 11\n");
+}
+
+#[test]
 fn grams() {
     let list = sample("grams.txt");
     assert_eq!(prints(&["grams", &sample("plan.bin"), &list]), "grams 1130\n");

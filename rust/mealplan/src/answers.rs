@@ -3,6 +3,9 @@
 /// What a node carries: in a narrow plan 0 to 255, in a wide one 0 to 16,777,215.
 pub type Label = u32;
 
+/// The label of a divider line, in plans of both formats. It is a node as any other, but not an entry: [`measure`](crate::measure) doesn't count it.
+pub const DIVIDER: Label = 0;
+
 /// The word among the answers for a letter that leads nowhere, in plans of both formats.
 pub const NOWHERE: u32 = 4_294_967_295;
 

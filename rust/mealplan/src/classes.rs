@@ -12,7 +12,7 @@ pub struct LabelRow {
     pub highest: Label,
     /// Their class, 0 to 3.
     pub class: u16,
-    /// Grams per entry, which [`grams`](crate::grams) alone looks at.
+    /// Grams per entry, and for label 0 per divider line; [`grams`](crate::grams) alone looks at them.
     pub grams: u16,
 }
 

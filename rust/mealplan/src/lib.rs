@@ -75,7 +75,7 @@ mod values;
 #[cfg(feature = "alloc")]
 mod walker;
 
-pub use answers::{Label, NOWHERE, labels};
+pub use answers::{DIVIDER, Label, NOWHERE, labels};
 pub use c::calls::{check, class, compare, copy, grams, measure, seal, spread, unseal, walk};
 pub use classes::{Classes, LabelRow};
 pub use format::Format;

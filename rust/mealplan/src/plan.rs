@@ -94,19 +94,28 @@ impl<'a> Plan<'a> {
         vec![0; work_bytes(self.n().into())]
     }
 
-    /// Counts trees, entries and levels. Refused with 11 for more than 2^64 − 1 nodes.
+    /// Counts trees, entries and levels. Entries are the nodes that are no divider lines. Refused with 11 for more than 2^64 − 1 nodes.
     ///
     /// ```
+    /// use mealplan::{DIVIDER, Format, Plan, Rule, seal_rules};
     /// # let bytes = std::fs::read(concat!(env!("CARGO_MANIFEST_DIR"), "/../../samples/plan.bin")).unwrap();
-    /// let size = mealplan::Plan::new(&bytes)?.measure()?;
+    /// let size = Plan::new(&bytes)?.measure()?;
     /// assert_eq!((size.trees, size.entries, size.levels), (3, 11, 3));
+    ///
+    /// // An entry over a divider, and another behind both.
+    /// let rules = [Rule::Empty, Rule::Node(DIVIDER, 0), Rule::Node(97, 1), Rule::Node(98, 0), Rule::Pair(2, 3)];
+    /// let bytes = seal_rules(&rules, Format::Narrow, 4)?;
+    /// let plan = Plan::new(&bytes)?;
+    /// let size = plan.measure()?;
+    /// assert_eq!((size.trees, size.entries, size.levels), (2, 2, 2));
+    /// assert_eq!(plan.nodes()?, 3);
     /// # Ok::<(), mealplan::Refused>(())
     /// ```
     pub fn measure(self) -> Result<Measured, Refused> {
         measure(self.bytes, &mut self.work())
     }
 
-    /// The number of nodes, whatever their labels. Refused with 11 for more than 2^64 − 1.
+    /// The number of nodes, dividers too. Refused with 11 for more than 2^64 − 1.
     ///
     /// ```
     /// # let bytes = std::fs::read(concat!(env!("CARGO_MANIFEST_DIR"), "/../../samples/plan.bin")).unwrap();
@@ -174,8 +183,8 @@ impl<'a> Plan<'a> {
     /// # let bytes = std::fs::read(concat!(env!("CARGO_MANIFEST_DIR"), "/../../samples/plan.bin")).unwrap();
     /// let rows = [LabelRow::new(0, 97, 0), LabelRow::new(98, 98, 2), LabelRow::new(99, LAST_LABEL, 1)];
     /// let copy = Plan::new(&bytes)?.copy(Classes::new(&rows)?, 1)?;
-    /// // Of the eleven entries five have label 98, which a client of class 1 doesn't see.
-    /// assert_eq!(Plan::new(&copy)?.measure()?.entries, 6);
+    /// // Of the eleven nodes five have label 98, which a client of class 1 doesn't see.
+    /// assert_eq!(Plan::new(&copy)?.nodes()?, 6);
     /// # Ok::<(), mealplan::Refused>(())
     /// ```
     pub fn copy(self, classes: Classes, class: u16) -> Result<Vec<u8>, Refused> {

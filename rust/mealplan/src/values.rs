@@ -23,11 +23,11 @@ pub struct Unsealed {
 /// The size of a plan's forest.
 #[derive(Clone, Copy, PartialEq, Eq, Debug, Default)]
 pub struct Measured {
-    /// Trees of the forest, each with a root.
+    /// Trees of the forest, each with a root, which may be a divider.
     pub trees: u64,
-    /// All nodes.
+    /// Entries: all nodes but the divider lines, which have label [`DIVIDER`](crate::DIVIDER). [`Plan::nodes`](crate::Plan::nodes) counts both.
     pub entries: u64,
-    /// Levels of the deepest tree; the roots are the first.
+    /// Levels of the deepest tree, those of dividers too; the roots are the first.
     pub levels: u64,
 }
 

@@ -38,6 +38,7 @@ fn limits_are_the_headers() {
         ("FEW_RULES", FEW_RULES as u64),
         ("MOST_COPIED", MOST_COPIED as u64),
         ("NOWHERE", NOWHERE.into()),
+        ("DIVIDER", DIVIDER.into()),
         ("LAST_LABEL", LAST_LABEL.into()),
         ("LAST_CLASS", LAST_CLASS.into()),
     ] {

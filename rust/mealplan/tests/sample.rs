@@ -186,10 +186,31 @@ fn texts_and_copies_of_the_samples() {
     let plan = Plan::new(&bytes).expect("the sample");
     assert_eq!(plan.spread(33).as_deref(), Ok(&b"(c(a)(b)(c(a)(b)(a)(b))(b))(a)(b)"[..]));
     assert_eq!(Plan::new(&wide).and_then(|wide| wide.spread(54)), Err(Refusal::Room.at(0)));
-    let entries =
-        |class| plan.copy(classes, class).and_then(|copy| Plan::new(&copy)?.measure()).map(|size| size.entries);
-    assert_eq!([0, 1, 2, 3].map(entries), [Ok(1), Ok(6), Ok(11), Ok(11)]);
-    assert_eq!(entries(4), Err(Refusal::Row.at(0)));
+    let nodes = |class| plan.copy(classes, class).and_then(|copy| Plan::new(&copy)?.nodes());
+    assert_eq!([0, 1, 2, 3].map(nodes), [Ok(1), Ok(6), Ok(11), Ok(11)]);
+    assert_eq!(nodes(4), Err(Refusal::Row.at(0)));
+}
+
+#[test]
+fn dividers_of_the_sample() {
+    for format in [Format::Narrow, Format::Wide] {
+        for (labels, entries) in
+            [([97, DIVIDER, 99], 6), ([DIVIDER, 98, 99], 7), ([97, 98, DIVIDER], 9), ([DIVIDER; 3], 0)]
+        {
+            let bytes = seal_rules(&rules(labels), format, 7).expect("the sample");
+            let plan = Plan::new(&bytes).expect("it was sealed");
+            assert_eq!(plan.measure(), Ok(Measured { trees: 3, entries, levels: 3 }));
+            assert_eq!(plan.nodes(), Ok(11));
+            let length = text_bytes(11, format).expect("it is small");
+            assert_eq!(plan.spread(length).map(|text| text.len()), Ok(length), "bytes for every node");
+            assert_eq!(plan.spread(length - 1), Err(Refusal::Room.at(0)));
+            assert_eq!(plan.walker().walk(b"afn"), Ok([2, 0, 1].map(|label| Some(labels[label])).to_vec()));
+        }
+    }
+    let rules = [Rule::Empty, Rule::Node(DIVIDER, 0), Rule::Node(65_536, 0), Rule::Pair(1, 2)];
+    let bytes = seal_rules(&rules, Format::Wide, 3).expect("a plan");
+    let size = Plan::new(&bytes).and_then(Plan::measure);
+    assert_eq!(size, Ok(Measured { trees: 2, entries: 1, levels: 1 }), "label 0 is the whole label");
 }
 
 #[test]

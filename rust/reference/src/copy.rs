@@ -23,9 +23,9 @@ pub struct Client {
 
 /// A node of a forest without its place: its label, and the nodes below it.
 #[derive(Clone, PartialEq, Eq, Debug)]
-pub struct Entry {
+pub struct Node {
     pub label: u32,
-    pub below: Vec<Entry>,
+    pub below: Vec<Node>,
 }
 
 impl Client {
@@ -35,9 +35,9 @@ impl Client {
     }
 
     /// The trees without those that the client may not see, and likewise below each that stays.
-    pub fn visible(&self, trees: &[Tree]) -> Vec<Entry> {
+    pub fn visible(&self, trees: &[Tree]) -> Vec<Node> {
         let seen = trees.iter().filter(|tree| self.sees(tree.label));
-        seen.map(|tree| Entry { label: tree.label, below: self.visible(&tree.children) }).collect()
+        seen.map(|tree| Node { label: tree.label, below: self.visible(&tree.children) }).collect()
     }
 
     /// The labels of the nodes that aren't seen: of each tree that the client may not see all, and likewise below each that stays.
@@ -69,26 +69,26 @@ impl Client {
 }
 
 /// All nodes of a forest.
-pub fn entries(trees: &[Tree]) -> Vec<Entry> {
-    trees.iter().map(|tree| Entry { label: tree.label, below: entries(&tree.children) }).collect()
+pub fn nodes(trees: &[Tree]) -> Vec<Node> {
+    trees.iter().map(|tree| Node { label: tree.label, below: nodes(&tree.children) }).collect()
 }
 
 /// How many nodes a forest has.
-pub fn count(forest: &[Entry]) -> usize {
-    forest.iter().map(|entry| 1 + count(&entry.below)).sum()
+pub fn count(forest: &[Node]) -> usize {
+    forest.iter().map(|node| 1 + count(&node.below)).sum()
 }
 
 /// A forest as text: a bracket, the label in decimal, what is below it, a bracket.
-pub fn told(forest: &[Entry]) -> String {
+pub fn told(forest: &[Node]) -> String {
     let mut text = String::new();
     tell(forest, &mut text);
     text
 }
 
-fn tell(forest: &[Entry], text: &mut String) {
-    for entry in forest {
-        write!(text, "({}", entry.label).expect("a string takes all");
-        tell(&entry.below, text);
+fn tell(forest: &[Node], text: &mut String) {
+    for node in forest {
+        write!(text, "({}", node.label).expect("a string takes all");
+        tell(&node.below, text);
         text.push(')');
     }
 }

@@ -43,13 +43,16 @@ pub struct Unsealed {
     pub start: u16,
 }
 
-/// The size of a plan's forest.
+/// The size of a plan's forest. Entries are the nodes that are no dividers; trees and levels include these.
 #[derive(Clone, Copy, PartialEq, Eq, Debug)]
 pub struct Measured {
     pub trees: u64,
     pub entries: u64,
     pub levels: u64,
 }
+
+/// The label of a printed divider, which isn't an entry (document 02, Note 9).
+pub const DIVIDER: u32 = 0;
 
 /// The eight letters of a walk.
 pub const LETTERS: [u8; 8] = *b"azflnpus";

@@ -49,8 +49,8 @@ fn struck_out(text: &str, hidden: &str) -> String {
 }
 
 /// The text of a forest whose labels are letters.
-fn text(forest: &[copy::Entry]) -> String {
-    forest.iter().map(|entry| format!("({}{})", char::from(entry.label as u8), text(&entry.below))).collect()
+fn text(forest: &[copy::Node]) -> String {
+    forest.iter().map(|node| format!("({}{})", char::from(node.label as u8), text(&node.below))).collect()
 }
 
 /// The grams of a text, by such a list.
@@ -75,7 +75,7 @@ fn the_sample_plan() {
     const WHOLE: &str = "(c(a)(b)(c(a)(b)(a)(b))(b))(a)(b)";
     for format in Format::BOTH {
         let unfolded = Unfolded::of(&plan_of(format, &SAMPLE, 7), 11).expect("eleven nodes");
-        let all = copy::entries(&unfolded.forest.trees);
+        let all = copy::nodes(&unfolded.forest.trees);
         assert_eq!((text(&all).as_str(), copy::count(&all)), (WHOLE, 11));
         assert_eq!(copy::told(&all), "(99(97)(98)(99(97)(98)(97)(98))(98))(97)(98)");
         for (hidden, seen) in [
@@ -150,7 +150,7 @@ fn plans_at_random() {
             (0..n as u16).filter(|rule| Sort::CLOSED.has(rules[usize::from(*rule)].words()[0])).collect();
         let plan = plan_of(Format::Narrow, &rules, closed[random.below(closed.len())]);
         let Some(unfolded) = Unfolded::of(&plan, 400) else { continue };
-        let all = text(&copy::entries(&unfolded.forest.trees));
+        let all = text(&copy::nodes(&unfolded.forest.trees));
         let hidden: String = ('a'..='f').filter(|_| random.below(4) == 0).collect();
         let client = client(0, |label| u16::from(hidden.contains(char::from(label as u8))));
         let seen = text(&unfolded.visible(&client));

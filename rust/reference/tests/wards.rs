@@ -171,7 +171,7 @@ fn the_finger_on_more_rules() {
             let unfolded = Unfolded::of(&plan, n).expect("fewer nodes than rules");
             let counts = rules::measure(&plan, &mut vec![5; work_bytes(n)]);
             assert_eq!(unfolded.measure(&mut vec![5; work_bytes(n)]), counts);
-            let nodes = counts.expect("it is measured").entries as usize;
+            let nodes = rules::nodes(&plan, &mut vec![5; work_bytes(n)]).expect("it is measured") as usize;
             let mut texts = [vec![0; format.node() * nodes], vec![0; format.node() * nodes]];
             let [by_rules, by_finger] = &mut texts;
             let length = Ok((format.node() * nodes) as u64);

@@ -1,5 +1,5 @@
 //! What must hold of a client's copy whatever rules it has (document 02, Note 6), asked of its bytes.
-use reference::copy::{Client, Entry, entries};
+use reference::copy::{Client, Node, nodes};
 use reference::plan::{self, Rule, TRAILER};
 use reference::unfolded::Unfolded;
 use reference::{Format, rules};
@@ -48,6 +48,6 @@ pub fn judge(plan: &[u8], client: &Client, copy: &[u8], base: u64) -> Result<(),
 }
 
 /// The forest of a copy, unless it has more nodes than this.
-pub fn unfolded(copy: &[u8], most: usize) -> Option<Vec<Entry>> {
-    Unfolded::of(copy, most).map(|unfolded| entries(&unfolded.forest.trees))
+pub fn unfolded(copy: &[u8], most: usize) -> Option<Vec<Node>> {
+    Unfolded::of(copy, most).map(|unfolded| nodes(&unfolded.forest.trees))
 }

@@ -1,6 +1,6 @@
 //! A plan being made: rules that may still be damaged, and the start.
-use reference::Format;
-use reference::plan::{self, Rule, Sort, TRAILER, WORDS, trailer};
+use reference::plan::{self, Rule, Sort, TRAILER, WORDS, trailer, work_bytes};
+use reference::{Format, rules};
 
 /// The words that name rules: kind, word, and the sort that the rule named must have.
 pub const NAMES: [(u16, usize, Sort); 9] = [
@@ -134,6 +134,11 @@ impl Draft {
         plan.extend(self.words());
         plan.extend(trailer(self.format, self.n(), self.start));
         plan
+    }
+
+    /// The number of nodes of a valid plan's forest, whatever their labels; none above 2^64 − 1.
+    pub fn nodes(&self) -> Option<u64> {
+        rules::nodes(&self.plan(), &mut vec![0; work_bytes(self.n())]).ok()
     }
 
     /// The stand-in of every rule of a valid plan, for an empty one none.

@@ -1,6 +1,7 @@
 //! Plans with a shape in mind.
 use crate::draft::Draft;
 use crate::random::Random;
+use crate::random_plans;
 use reference::plan::{MAX_RULES, Rule};
 
 /// The sample plan of document 01.
@@ -256,15 +257,16 @@ pub fn twin_spines(twins: Twins, doublings: u32) -> (Draft, u128) {
     (draft, if twins == Twins::OneEntry { 2 * parts + 1 } else { 3 * parts + 1 })
 }
 
-/// Any of the families, of at most this many rules.
+/// Any of the families, of at most this many rules, now and then with dividers.
 pub fn any(random: &mut Random, most: usize) -> Draft {
     let n = random.between(8, most.clamp(8, MAX_RULES));
     let growth = random.pick(&Growth::ALL);
-    match random.below(8) {
+    let draft = match random.below(8) {
         0..=2 => rows(growth, n),
         3 | 4 => spine(growth, n),
         5 => chained(n),
         6 => nested(n),
         _ => paper(n.saturating_sub(14) / 2),
-    }
+    };
+    random_plans::divided(draft, random)
 }

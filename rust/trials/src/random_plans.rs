@@ -2,7 +2,7 @@
 use crate::draft::Draft;
 use crate::random::Random;
 use reference::plan::{Rule, Sort, work_bytes};
-use reference::{Format, rules};
+use reference::{DIVIDER, Format, rules};
 
 /// How a random plan's rules choose what they name.
 struct Taste {
@@ -10,6 +10,8 @@ struct Taste {
     reach: usize,
     /// Pairs, nodes, fills, parts and joins, by weight; the rest are empty rules.
     weights: [usize; 5],
+    /// Of so many labels one is a divider's.
+    divided: usize,
 }
 
 impl Taste {
@@ -17,6 +19,7 @@ impl Taste {
         Taste {
             reach: random.pick(&[1, 2, 3, 6, 20, 1024]),
             weights: std::array::from_fn(|_| random.pick(&[1, 1, 2, 5, 12])),
+            divided: random.pick(&DIVIDED),
         }
     }
 }
@@ -29,13 +32,17 @@ fn named(draft: &Draft, sort: Sort, reach: usize, random: &mut Random) -> Option
     if fitting.is_empty() { None } else { Some(random.pick(&fitting) as u16) }
 }
 
-/// Labels at an edge: the last of a byte, of word 1 and of all, those beside them, and the first with a full high part.
+/// Of how many labels one is a divider's: often some are, and now and then half of them or all.
+const DIVIDED: [usize; 6] = [1, 2, 5, 10, 30, 1_000];
+
+/// Labels at an edge: a divider's, which is the first of all, the last of a byte, of word 1 and of all, those beside them, and the first with a full
+/// high part.
 const EDGES: [u32; 10] = [0, 255, 256, 65_534, 65_535, 65_536, 65_537, 16_711_680, 16_777_214, 16_777_215];
 
 /// A label that a format has, now and then one at an edge.
 pub fn label(format: Format, random: &mut Random) -> u32 {
     match format {
-        Format::Narrow if random.once_in(20) => random.pick(&[0, 255]),
+        Format::Narrow if random.once_in(20) => random.pick(&[DIVIDER, 255]),
         Format::Narrow => random.between(97, 122) as u32,
         Format::Wide if random.once_in(4) => random.pick(&EDGES),
         Format::Wide => {
@@ -45,9 +52,19 @@ pub fn label(format: Format, random: &mut Random) -> u32 {
     }
 }
 
-/// The same plan as a wide one, with labels that it may have.
+/// The same plan as a wide one, with labels that it may have; dividers stay.
 pub fn widened(draft: &Draft, random: &mut Random) -> Draft {
-    draft.relabelled(|_| label(Format::Wide, random)).in_format(Format::Wide)
+    let label = |old| if old == DIVIDER { DIVIDER } else { label(Format::Wide, random) };
+    draft.relabelled(label).in_format(Format::Wide)
+}
+
+/// The same plan, every other time with dividers among its labels.
+pub fn divided(draft: Draft, random: &mut Random) -> Draft {
+    if random.once_in(2) {
+        return draft;
+    }
+    let of_so_many = random.pick(&DIVIDED);
+    draft.relabelled(|old| if random.once_in(of_so_many) { DIVIDER } else { old })
 }
 
 /// A rule of this kind over what the draft has, if it can be.
@@ -63,17 +80,18 @@ fn rule_of(kind: u16, draft: &Draft, taste: &Taste, random: &mut Random) -> Opti
     })
 }
 
-fn labelled(rule: Rule, random: &mut Random) -> Rule {
+fn labelled(rule: Rule, taste: &Taste, random: &mut Random) -> Rule {
+    let mut label = || if random.once_in(taste.divided) { DIVIDER } else { label(Format::Narrow, random) };
     match rule {
-        Rule::Node(_, c) => Rule::Node(label(Format::Narrow, random), c),
-        Rule::Part(_, l, r) => Rule::Part(label(Format::Narrow, random), l, r),
+        Rule::Node(_, c) => Rule::Node(label(), c),
+        Rule::Part(_, l, r) => Rule::Part(label(), l, r),
         other => other,
     }
 }
 
 fn add_of_kind(kind: u16, draft: &mut Draft, taste: &Taste, random: &mut Random) -> bool {
     let Some(rule) = rule_of(kind, draft, taste, random) else { return false };
-    draft.add(labelled(rule, random));
+    draft.add(labelled(rule, taste, random));
     true
 }
 
@@ -129,9 +147,9 @@ pub fn start_within(draft: &mut Draft, most: u64, random: &mut Random) {
             continue;
         }
         draft.start = rule;
-        let entries = rules::measure(&draft.plan(), &mut work).map_or(u64::MAX, |measured| measured.entries);
-        if entries <= most {
-            fitting.push((entries, rule));
+        let nodes = rules::nodes(&draft.plan(), &mut work).unwrap_or(u64::MAX);
+        if nodes <= most {
+            fitting.push((nodes, rule));
         }
     }
     let largest = fitting.iter().max().copied().expect("the empty rule fits");

@@ -40,6 +40,8 @@ pub const LEAST_LETTERS_LOOKED: u64 = 5_000;
 pub const LEAST_WEIGHED: u64 = 10_000;
 pub const LEAST_PARTED: [u64; 2] = [5_000, 200];
 pub const LEAST_BEYOND: u64 = 300;
+/// How many forests must have been measured with dividers among other nodes, and of dividers alone.
+pub const LEAST_DIVIDED: [u64; 2] = [300, 50];
 /// The last refusal.
 const LAST: u32 = Why::TooMany as u32;
 
@@ -83,6 +85,8 @@ pub struct Tally {
     weighed: u64,
     pub parted: [u64; 2],
     pub beyond: u64,
+    /// Forests that were measured with dividers among other nodes, and of dividers alone.
+    divided: [u64; 2],
     /// How often a refusal came up: by its number, the way to it, and the operation's name.
     ways: BTreeMap<(u32, String, String), u64>,
 }
@@ -120,6 +124,13 @@ impl Tally {
             None => 3,
         };
         self.sights[sight] += 1;
+    }
+
+    /// Counts a forest that was measured, of so many nodes and entries.
+    pub fn count_dividers(&mut self, nodes: u64, entries: u64) {
+        if entries < nodes {
+            self.divided[usize::from(entries == 0)] += 1;
+        }
     }
 
     /// Notes that a hidden node was tried at a place.
@@ -195,6 +206,9 @@ impl Tally {
             let Tally { weighed, parted, beyond, .. } = self;
             missing.push(format!("{weighed} calls weighed, {parted:?} copies parted, {beyond} of over 2^64 - 1 nodes"));
         }
+        if self.divided.iter().zip(LEAST_DIVIDED).any(|(count, least)| *count < least) {
+            missing.push(format!("dividers among other nodes and alone: {:?} forests", self.divided));
+        }
         if 3 * self.moves < self.letters {
             missing.push(format!("{} moves of {} letters", self.moves, self.letters));
         }
@@ -252,6 +266,8 @@ impl fmt::Display for Tally {
              forest",
             self.disguised, self.of_other_bytes, self.letters_on_copies, self.letters_looked
         )?;
+        let [among, alone] = self.divided;
+        writeln!(f, "dividers: {among} forests measured with some among other nodes, {alone} of dividers alone")?;
         let [listed, by_rules] = self.parted;
         writeln!(
             f,

@@ -87,7 +87,7 @@ impl Trial {
         let Some(unfolded) = self.forest.unfold(plan) else {
             return self.tally.count_copy(client.class, None);
         };
-        let (seen, all) = (unfolded.visible(client), copy::entries(&unfolded.forest.trees));
+        let (seen, all) = (unfolded.visible(client), copy::nodes(&unfolded.forest.trees));
         match copies::unfolded(copy, copy::count(&seen)) {
             Some(copied) if copied == seen => (),
             Some(copied) => panic!("the copy is {}, and seen is {}", copy::told(&copied), copy::told(&seen)),

@@ -131,6 +131,35 @@ fn labels_of_wide_plans() {
 }
 
 #[test]
+fn the_sample_plan_with_dividers() {
+    for format in Format::BOTH {
+        for (labels, entries) in [([97, 0, 99], 6), ([0, 98, 99], 7), ([97, 98, 0], 9), ([0, 0, 0], 0)] {
+            let draft = families::sample().relabelled(|old| labels[old as usize - 97]).in_format(format);
+            let (plan, mut work) = (draft.plan(), vec![9; mealplan::work_bytes(8)]);
+            assert_eq!(mealplan::measure(&plan, &mut work), Ok(Measured { trees: 3, entries, levels: 3 }));
+            let mut text = vec![9; 11 * format.node()];
+            let short = text.len() - 1;
+            assert_eq!(mealplan::spread(&plan, &mut work, &mut text[..short]), Err(refused(11, 0)));
+            assert_eq!(mealplan::spread(&plan, &mut work, &mut text), Ok(text.len() as u64), "bytes for every node");
+            let [a, b, c] = labels;
+            let answers = Reader::new(&draft).walk("afnn");
+            assert_eq!(answers, Ok([c, a, b, c].map(Some).to_vec()), "a divider is walked as any other node");
+            let each = [LabelRow::new(0, LAST_LABEL, 0).weighing(1)];
+            assert_eq!(mealplan::grams(&plan, &each, &mut work), Ok(11), "a divider weighs as any other node");
+        }
+    }
+    let rules = [Rule::Empty, Rule::Node(0, 0), Rule::Node(65_536, 0), Rule::Pair(1, 2)];
+    let draft = Draft { format: Format::Wide, records: rules.map(Rule::words).to_vec(), start: 3, ..Draft::default() };
+    let measured = mealplan::measure(&draft.plan(), &mut [9; 256]);
+    assert_eq!(measured, Ok(Measured { trees: 2, entries: 1, levels: 1 }), "label 0 is the whole label");
+    for (count, expected) in [(1 << 64, Err(refused(11, 0))), ((1 << 64) - 1, Ok((u64::MAX, 0, 1)))] {
+        let draft = families::leaves(count).relabelled(|_| 0);
+        let measured = mealplan::measure(&draft.plan(), &mut vec![9; mealplan::work_bytes(draft.n())]);
+        assert_eq!(measured.map(|size| (size.trees, size.entries, size.levels)), expected, "11 looks at all nodes");
+    }
+}
+
+#[test]
 fn an_empty_forest() {
     for format in Format::BOTH {
         let empty = Draft { format, records: vec![[0; WORDS]], ..Draft::default() };
@@ -167,10 +196,9 @@ fn plans_for_a_whole_ward() {
             let bytes = usize::from(n) * if n > 1_024 { 80 } else { 64 };
             assert_eq!(mealplan::measure(&plan, &mut vec![9; bytes - 1]), Err(refused(8, 0)));
             let levels = u64::from(n) - 1;
-            assert_eq!(
-                mealplan::measure(&plan, &mut vec![9; bytes]),
-                Ok(Measured { trees: 1, entries: levels, levels })
-            );
+            // Of 256 labels one is a divider's.
+            let entries = levels - levels / 256;
+            assert_eq!(mealplan::measure(&plan, &mut vec![9; bytes]), Ok(Measured { trees: 1, entries, levels }));
             let down = reader.walk(&format!("a{}", "f".repeat(n.into()))).expect("from above");
             assert_eq!(down[..2], [Some(u32::from((n - 1) % 256)), Some(u32::from((n - 2) % 256))]);
             assert_eq!(down[usize::from(n) - 2..], [Some(1), None, None]);
@@ -242,7 +270,7 @@ fn copies_of_the_sample_plan() {
         let mut work = vec![9; mealplan::work_bytes(n.into())];
         let [trees, entries, levels] = measured;
         assert_eq!(mealplan::measure(copy, &mut work), Ok(Measured { trees, entries, levels }));
-        let mut spread = vec![0; 5 * entries as usize];
+        let mut spread = vec![0; 5 * (text.len() / 3)];
         mealplan::spread(copy, &mut work, &mut spread).expect("the text fits");
         // The high parts of labels below 256 are zeros, and nothing else is.
         spread.retain(|byte| *byte != 0);

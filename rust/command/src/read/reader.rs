@@ -7,7 +7,7 @@ use mealplan::{Compared, Label, Measured, Place, Plan, Walker};
 /// Siblings that are counted, and letters in a call of that.
 const MOST_COUNTED: u64 = 200_000;
 const AT_ONCE: usize = 1_000;
-/// Pairs of entries that a reader waits for.
+/// Pairs of nodes that a reader waits for.
 const BUDGET: u32 = 1_000_000;
 
 pub struct Reader<'a> {
@@ -43,7 +43,7 @@ impl<'a> Reader<'a> {
         let plan = self.walker.plan();
         let size = match self.size {
             Some(Measured { trees, entries, levels }) => format!("{trees} trees, {entries} entries, {levels} levels"),
-            None => "more than 2^64 - 1 entries".into(),
+            None => "more than 2^64 - 1 nodes".into(),
         };
         format!("{}: {} {} rules, start {}; {size}", self.name, plan.n(), format_name(plan.format()), plan.start())
     }

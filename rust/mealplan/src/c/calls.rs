@@ -57,7 +57,8 @@ pub fn unseal(plan: &[u8], out: &mut [u8]) -> Result<Unsealed, Refused> {
     answer(number, position, unsealed)
 }
 
-/// Counts a plan's trees, entries and levels. `work` needs [`work_bytes`](crate::work_bytes).
+/// Counts a plan's trees, entries and levels. A node with label 0 is a divider line: of the three it is left out of the entries alone. Refused with
+/// 11 for more than 2^64 − 1 nodes, dividers too. `work` needs [`work_bytes`](crate::work_bytes).
 pub fn measure(plan: &[u8], work: &mut [u8]) -> Result<Measured, Refused> {
     let mut measured = Measured::default();
     let mut position = 0;

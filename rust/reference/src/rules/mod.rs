@@ -28,16 +28,26 @@ fn with_work<T>(plan: &Plan, work: &mut [u8], run: impl FnOnce(&mut [u8]) -> Res
     outcome
 }
 
-pub fn measure(plan: &[u8], work: &mut [u8]) -> Result<Measured, Refused> {
+/// The number of nodes, whatever their labels, and the size. 11 looks at the nodes.
+fn counted(plan: &[u8], work: &mut [u8]) -> Result<(u64, Measured), Refused> {
     let plan = plan::read(plan)?;
     with_work(&plan, work, |work| counts::of_start(&plan, work).ok_or(Why::Output.here()))
+}
+
+pub fn measure(plan: &[u8], work: &mut [u8]) -> Result<Measured, Refused> {
+    counted(plan, work).map(|(_, measured)| measured)
+}
+
+/// The number of nodes, which no operation gives by itself; refused as measure is.
+pub fn nodes(plan: &[u8], work: &mut [u8]) -> Result<u64, Refused> {
+    counted(plan, work).map(|(nodes, _)| nodes)
 }
 
 pub fn spread(plan: &[u8], work: &mut [u8], out: &mut [u8]) -> Result<u64, Refused> {
     let plan = plan::read(plan)?;
     with_work(&plan, work, |work| {
-        let entries = counts::of_start(&plan, work).ok_or(Why::Output.here())?.entries;
-        let length = entries.checked_mul(plan.format().node() as u64).filter(|length| *length <= out.len() as u64);
+        let (nodes, _) = counts::of_start(&plan, work).ok_or(Why::Output.here())?;
+        let length = nodes.checked_mul(plan.format().node() as u64).filter(|length| *length <= out.len() as u64);
         let length = length.ok_or(Why::Output.here())?;
         text::write(&Table::build(&plan, work).0, plan.format(), plan.start, &mut out[..length as usize]);
         Ok(length)

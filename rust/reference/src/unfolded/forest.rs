@@ -1,7 +1,7 @@
 //! A forest in memory, every node of which carries its place.
 use crate::compare::Listed;
 use crate::place::Cell;
-use crate::{Format, Measured};
+use crate::{DIVIDER, Format, Measured};
 use std::collections::HashMap;
 
 /// A tree: its root's label and place, and the trees below.
@@ -69,14 +69,19 @@ impl Forest {
         self.paths.keys()
     }
 
+    /// The labels of all nodes, in reading order.
+    pub fn labels(&self) -> impl Iterator<Item = u32> {
+        self.trees.iter().flat_map(Tree::listed).map(|node| node.label)
+    }
+
     pub fn measured(&self) -> Measured {
-        Measured { trees: self.trees.len() as u64, entries: entries(&self.trees), levels: levels(&self.trees) }
+        let entries = self.labels().filter(|label| *label != DIVIDER).count() as u64;
+        Measured { trees: self.trees.len() as u64, entries, levels: levels(&self.trees) }
     }
 
     /// The sum over all nodes of what each weighs by its label.
     pub fn grams(&self, of: impl Fn(u32) -> u16) -> u128 {
-        let nodes = self.trees.iter().flat_map(Tree::listed);
-        nodes.map(|node| u128::from(of(node.label))).sum()
+        self.labels().map(|label| u128::from(of(label))).sum()
     }
 
     /// The text, with labels as a format writes them.
@@ -95,10 +100,6 @@ fn note_paths(trees: &[Tree], path: &mut Vec<usize>, paths: &mut HashMap<Vec<Cel
         note_paths(&tree.children, path, paths);
         path.pop();
     }
-}
-
-fn entries(trees: &[Tree]) -> u64 {
-    trees.iter().map(|tree| 1 + entries(&tree.children)).sum()
 }
 
 fn levels(trees: &[Tree]) -> u64 {

@@ -3,7 +3,7 @@ pub mod finger;
 pub mod forest;
 pub mod places;
 
-use crate::copy::{Client, Entry};
+use crate::copy::{Client, Node};
 use crate::place;
 use crate::plan::{self, Plan, cursor_bytes, work_bytes};
 use crate::rows::{self, Row};
@@ -77,7 +77,7 @@ impl Unfolded {
     }
 
     /// The forest that a client sees: every node, unless it or one above it is of a higher class.
-    pub fn visible(&self, client: &Client) -> Vec<Entry> {
+    pub fn visible(&self, client: &Client) -> Vec<Node> {
         client.visible(&self.forest.trees)
     }
 

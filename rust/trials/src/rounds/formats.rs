@@ -1,12 +1,14 @@
-//! Formats (document 02, Note 2): narrow plans, each beside the same rules in a wide plan whose labels are others. Places are the same, so counts
-//! and cells are; answers are the same but for the labels, and nowhere stays nowhere; a text has the wide label for each narrow one.
+//! Formats (document 02, Note 2): narrow plans, each beside the same rules in a wide plan whose labels are others. Places are the same, so cells are,
+//! and counts but for the dividers; answers are the same but for the labels, and nowhere stays nowhere; a text has the wide label for each narrow
+//! one.
 use crate::call::{Call, Operation, Values};
 use crate::draft::Draft;
-use crate::rounds::walks;
+use crate::rounds::{grams, walks};
 use crate::trial::Trial;
 use crate::{families, random_plans, rounds};
 use reference::plan::FEW_RULES;
-use reference::{Format, NOWHERE, answers};
+use reference::rows::{LAST_LABEL, Row};
+use reference::{DIVIDER, Format, Measured, NOWHERE, answers};
 
 /// The wide label for each narrow one.
 type Labels = Vec<u32>;
@@ -35,20 +37,33 @@ pub fn agree(trial: &mut Trial, plans: usize) {
     }
 }
 
-/// The same counts, and the text with the wide labels if it isn't long.
+/// The same counts but for the dividers, and the text with the wide labels if it isn't long.
 fn same_sizes(trial: &mut Trial, both: [&Draft; 2], labels: &Labels) {
     let measure = |draft: &Draft| trial.judge(&Call::new(Operation::Measure, draft.plan(), draft.n())).outcome;
     let [counts, as_wide] = both.map(measure);
-    assert_eq!(counts, as_wide, "as a wide plan, a plan has the same counts");
-    let Ok(Values::Measured(measured)) = counts else { return };
-    if measured.entries < 20_000 {
-        let [text, as_wide] = both.map(|draft| {
-            let mut spread = Call::new(Operation::Spread, draft.plan(), draft.n());
-            spread.out = vec![1; draft.format.node() * measured.entries as usize];
-            trial.accepted(&spread, "the text fits").out
-        });
-        assert!(widened_text(&text, labels) == as_wide, "as a wide plan, a plan has the same text with its labels");
-    }
+    let (Ok(Values::Measured(counts)), Ok(Values::Measured(as_wide))) = (counts, as_wide) else {
+        return assert_eq!(counts, as_wide, "as a wide plan, a plan has too many nodes too");
+    };
+    let entries = grams::weighed(trial, &both[0].plan(), &entries(labels));
+    let expected = Measured { entries: entries.expect("there are no more than nodes"), ..counts };
+    assert_eq!(
+        as_wide, expected,
+        "as a wide plan, a plan has the same counts, but for labels that become dividers or cease to be"
+    );
+    let Some(nodes) = both[0].nodes().filter(|nodes| *nodes < 20_000) else { return };
+    let [text, as_wide] = both.map(|draft| {
+        let mut spread = Call::new(Operation::Spread, draft.plan(), draft.n());
+        spread.out = vec![1; draft.format.node() * nodes as usize];
+        trial.accepted(&spread, "the text fits").out
+    });
+    assert!(widened_text(&text, labels) == as_wide, "as a wide plan, a plan has the same text with its labels");
+}
+
+/// The list by which a narrow label weighs one gram where the wide one is no divider's.
+fn entries(labels: &Labels) -> Vec<Row> {
+    let row = |(lowest, wide): (u32, &u32)| Row { lowest, highest: lowest, class: 0, grams: (*wide != DIVIDER).into() };
+    let above = Row { lowest: 256, highest: LAST_LABEL, class: 0, grams: 0 };
+    (0..).zip(labels).map(row).chain([above]).collect()
 }
 
 /// A narrow text with the wide labels.

@@ -11,8 +11,11 @@ use crate::{families, laws, random_plans};
 use reference::copy::Client;
 use reference::plan::{FEW_RULES, Rule};
 use reference::rows::{LAST_LABEL, Row, grams as grams_of};
-use reference::{Format, Why, rules};
+use reference::{DIVIDER, Format, Why, rules};
 use std::collections::{BTreeMap, BTreeSet};
+
+/// The list by which a node weighs one gram unless it is a divider: what a plan weighs by it are its entries.
+pub(super) const ENTRIES: [Row; 2] = [Row { highest: DIVIDER, grams: 0, ..EACH }, Row { lowest: DIVIDER + 1, ..EACH }];
 
 pub fn agree(trial: &mut Trial, rounds: usize) {
     for _ in 0..rounds {
@@ -69,7 +72,7 @@ fn weigh(trial: &mut Trial, plan: &[u8], rows: &[Row]) -> Outcome {
 }
 
 /// The same, where the list is sound: the sum, or none where that is above 2^64 − 1.
-fn weighed(trial: &mut Trial, plan: &[u8], rows: &[Row]) -> Option<u64> {
+pub(super) fn weighed(trial: &mut Trial, plan: &[u8], rows: &[Row]) -> Option<u64> {
     match weigh(trial, plan, rows) {
         Ok(Values::Grams(grams)) => Some(grams),
         outcome => {
@@ -108,13 +111,13 @@ fn retold(random: &mut Random, list: &[Row]) -> Vec<Row> {
     retold
 }
 
-/// Plans with forests that nobody unfolds, most of which weigh more than 2^64 − 1 grams.
+/// Plans with forests that nobody unfolds, most of which weigh more than 2^64 − 1 grams. Those of more rules are in `wards`.
 fn large(trial: &mut Trial) {
-    let n = trial.random.pick(&[30, 100, 300, FEW_RULES, 2_000, 16_384]);
+    let n = trial.random.pick(&[30, 100, 300, FEW_RULES, 2_000]);
     let draft = if trial.random.once_in(2) {
         families::any(&mut trial.random, n)
     } else {
-        random_plans::any(&mut trial.random, n.min(2_000))
+        random_plans::any(&mut trial.random, n)
     };
     let draft = copies::varied(&mut trial.random, &draft);
     let draft = rounds::in_any_order(&mut trial.random, draft);

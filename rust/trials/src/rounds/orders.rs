@@ -1,6 +1,6 @@
 //! Rules in any order (document 02, Note 1): plans that name lower rules only, each beside the same plan with its rules renumbered. The forest is
 //! the same, so counts, text and answers are; and the cells are, but for the numbers of their rules.
-use crate::call::{Call, Operation, Values};
+use crate::call::{Call, Operation};
 use crate::draft::Draft;
 use crate::rounds::walks;
 use crate::trial::Trial;
@@ -32,15 +32,13 @@ fn same_sizes(trial: &mut Trial, both: [&Draft; 2]) {
     let measure = |draft: &Draft| trial.judge(&Call::new(Operation::Measure, draft.plan(), draft.n())).outcome;
     let [counts, renumbered] = both.map(measure);
     assert_eq!(counts, renumbered, "renumbered, a plan has the same counts");
-    let Ok(Values::Measured(measured)) = counts else { return };
-    if measured.entries < 20_000 {
-        let [text, renumbered] = both.map(|draft| {
-            let mut spread = Call::new(Operation::Spread, draft.plan(), draft.n());
-            spread.out = vec![1; draft.format.node() * measured.entries as usize];
-            trial.accepted(&spread, "the text fits").out
-        });
-        assert!(text == renumbered, "renumbered, a plan has the same text");
-    }
+    let Some(nodes) = both[0].nodes().filter(|nodes| *nodes < 20_000) else { return };
+    let [text, renumbered] = both.map(|draft| {
+        let mut spread = Call::new(Operation::Spread, draft.plan(), draft.n());
+        spread.out = vec![1; draft.format.node() * nodes as usize];
+        trial.accepted(&spread, "the text fits").out
+    });
+    assert!(text == renumbered, "renumbered, a plan has the same text");
 }
 
 /// The same answers from the same places, in a few calls.

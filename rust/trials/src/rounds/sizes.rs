@@ -1,6 +1,7 @@
 //! Check, seal, unseal, measure and spread on valid plans of every size up to 1,024 rules; those of more are in `wards`.
 use crate::call::{Call, Operation, Values};
 use crate::draft::Draft;
+use crate::rounds::grams::{self, ENTRIES};
 use crate::trial::{Judged, Trial};
 use crate::{families, random_plans, rounds};
 use reference::Unsealed;
@@ -14,7 +15,10 @@ pub fn agree(trial: &mut Trial, plans: usize) {
                 let n = trial.random.between(1, FEW_RULES);
                 random_plans::any(&mut trial.random, n)
             }
-            2 => families::leaves(u128::MAX >> trial.random.between(1, 127)),
+            2 => {
+                let draft = families::leaves(u128::MAX >> trial.random.between(1, 127));
+                random_plans::divided(draft, &mut trial.random)
+            }
             _ => rounds::small(&mut trial.random, 60),
         };
         let draft = rounds::in_any_form(&mut trial.random, draft);
@@ -40,15 +44,20 @@ pub(super) fn round_trip(trial: &mut Trial, draft: &Draft) {
     trial.judge(&Call::new(Operation::Check, draft.plan(), n));
 }
 
-/// Measure, and spread if the text isn't long.
+/// Measure, and spread if the text isn't long. The entries are what the plan weighs by one gram for each node that is no divider.
 pub(super) fn count_and_write(trial: &mut Trial, draft: &Draft) {
     let mut call = Call::new(Operation::Measure, draft.plan(), draft.n());
     let longer = trial.random.below(20);
     call.work = trial.random.leftovers(call.work.len() + longer);
-    let Ok(Values::Measured(measured)) = trial.judge(&call).outcome else { return };
-    if measured.entries < 200_000 {
+    let outcome = trial.judge(&call).outcome;
+    let nodes = draft.nodes();
+    assert_eq!(outcome.is_ok(), nodes.is_some(), "11 of measure looks at all nodes");
+    let (Ok(Values::Measured(measured)), Some(nodes)) = (outcome, nodes) else { return };
+    assert_eq!(grams::weighed(trial, &call.plan, &ENTRIES), Some(measured.entries), "all nodes but the dividers");
+    trial.tally.count_dividers(nodes, measured.entries);
+    if nodes < 200_000 {
         call.operation = Operation::Spread;
-        call.out = trial.random.leftovers(draft.format.node() * measured.entries as usize + longer);
+        call.out = trial.random.leftovers(draft.format.node() * nodes as usize + longer);
         trial.judge(&call);
     }
 }

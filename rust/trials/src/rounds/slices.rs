@@ -1,11 +1,11 @@
 //! Refusals 1 and 2 of seal, 8, 9 and 11: slices too short, strange letters, forests too large.
-use crate::call::{Call, Operation};
+use crate::call::{Call, Operation, Values};
 use crate::draft::Draft;
 use crate::families;
 use crate::trial::Trial;
 use crate::{random_plans, rounds};
-use reference::plan::{MAX_RULES, Rule, TRAILER, work_bytes};
-use reference::{Format, LETTERS, Why, answers, rules};
+use reference::plan::{MAX_RULES, Rule, TRAILER};
+use reference::{DIVIDER, Format, LETTERS, Why, answers};
 
 pub fn refuse(trial: &mut Trial, rounds: usize) {
     for format in Format::BOTH {
@@ -166,13 +166,11 @@ fn of_format(trial: &mut Trial, format: Format, draft: Draft) -> Draft {
 /// 11: output one byte short and shorter, for seal, unseal and spread; just long enough it is accepted. What would do for the same rules
 /// in a narrow plan is too short for a wide one.
 fn outputs(trial: &mut Trial, format: Format) {
-    let (draft, entries) = loop {
+    let (draft, nodes) = loop {
         let draft = rounds::small(&mut trial.random, 30);
         let draft = of_format(trial, format, draft);
-        let mut work = vec![0; work_bytes(draft.n())];
-        match rules::measure(&draft.plan(), &mut work) {
-            Ok(measured) if measured.entries > 0 => break (draft, measured.entries as usize),
-            _ => (),
+        if let Some(nodes) = draft.nodes().filter(|nodes| *nodes > 0) {
+            break (draft, nodes as usize);
         }
     };
     let words = |format: Format| format.record() * draft.n();
@@ -180,7 +178,7 @@ fn outputs(trial: &mut Trial, format: Format) {
     let operations: [(Operation, Needed); 3] = [
         (Operation::Seal, &|format| words(format) + TRAILER),
         (Operation::Unseal, &words),
-        (Operation::Spread, &|format| format.node() * entries),
+        (Operation::Spread, &|format| format.node() * nodes),
     ];
     for (operation, needed) in operations {
         let mut call = match operation {
@@ -232,6 +230,18 @@ fn large(trial: &mut Trial, format: Format) {
             }
         }
     }
+    // For 11 dividers are nodes as all others.
+    for (way, count) in [("2^64 dividers", ALL), ("2^64 dividers and more", ALL + some)] {
+        let draft = divided(trial, format, families::leaves(count));
+        let measure = Call::new(Operation::Measure, draft.plan(), draft.n());
+        trial.refused(&measure, &format!("{format:?} plan, {way}"), Why::Output.here());
+    }
+    let draft = divided(trial, format, families::leaves(ALL - 1 - some / 2));
+    let Ok(Values::Measured(measured)) = trial.judge(&Call::new(Operation::Measure, draft.plan(), draft.n())).outcome
+    else {
+        panic!("so many dividers are measured")
+    };
+    assert_eq!((measured.entries, measured.levels), (0, 1), "and none is an entry");
     let mut draft = families::leaves(ALL << 3 | some);
     random_plans::start_within(&mut draft, 40, &mut trial.random);
     let draft = of_format(trial, format, draft);
@@ -240,6 +250,11 @@ fn large(trial: &mut Trial, format: Format) {
         call.out = trial.random.leftovers(200);
         trial.accepted(&call, "unreached rules may be larger");
     }
+}
+
+/// The same forest with dividers alone.
+fn divided(trial: &mut Trial, format: Format, draft: Draft) -> Draft {
+    rounds::in_any_order(&mut trial.random, draft.relabelled(|_| DIVIDER).in_format(format))
 }
 
 /// The same forest below one node.

@@ -30,7 +30,7 @@ fn copied(after: &Call, outcome: &Outcome) -> String {
             let told = match copies::judge(&after.plan, &after.client(), copy, BASE) {
                 Err(fault) => fault,
                 Ok(()) => match copies::unfolded(copy, MOST) {
-                    None => "accepted, more than 1,000 entries".to_string(),
+                    None => "accepted, more than 1,000 nodes".to_string(),
                     Some(forest) if forest.is_empty() => "accepted, empty".to_string(),
                     Some(forest) => format!("accepted {}", copy::told(&forest)),
                 },

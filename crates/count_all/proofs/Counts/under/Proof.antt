@@ -11,11 +11,11 @@ too-many-requires c κs = search needs
 returns : tie.Need-returns
 returns c = over-many _ (c .too-many .ensures) (c .before .if1 .taken)
 
-add-t4 : tie.Need-add-t4
-add-t4 c = search needs
-
 weight-requires : tie.Need-weight-requires
 weight-requires c κs = search needs
+
+add-t5 : tie.Need-add-t5
+add-t5 c = search needs
 
 wrapping-add-u64-requires : tie.Need-wrapping-add-u64-requires
 wrapping-add-u64-requires c κs = search needs
@@ -24,7 +24,10 @@ wrapping-add-u64-requires-2 : tie.Need-wrapping-add-u64-requires-2
 wrapping-add-u64-requires-2 c κs = search needs
 
 returns-2 : tie.Need-returns-2
-returns-2 c = over-fits _ _ _ _ (c .before .before .before .before .if1 .left) (c .before .before .weight .ensures) (c .before .wrapping-add-u64 .ensures) (c .wrapping-add-u642 .ensures)
+returns-2 c =
+    let past-entries = c .before in
+    let past-weight = past-entries .before .before in
+    over-fits _ _ _ _ (past-weight .before .if1 .left) (past-weight .weight .ensures) (past-entries .wrapping-add-u64 .ensures) (c .wrapping-add-u642 .ensures)
 
 pub under-spec : {M : Type 1} → statement M
 under-spec =
@@ -32,8 +35,8 @@ under-spec =
     (tie.spec
     too-many-requires
     returns
-    add-t4
     weight-requires
+    add-t5
     wrapping-add-u64-requires
     wrapping-add-u64-requires-2
     returns-2)

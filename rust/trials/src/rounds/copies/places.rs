@@ -5,7 +5,7 @@ use crate::draft::Draft;
 use crate::trial::Trial;
 use crate::{random_plans, rounds};
 use reference::Format;
-use reference::copy::Entry;
+use reference::copy;
 use reference::plan::Rule::{self, Fill, Join, Node, Pair, Part};
 use reference::rows::LAST_CLASS;
 use std::collections::BTreeMap;
@@ -156,8 +156,8 @@ fn place(trial: &mut Trial, shape: &Shape) {
 }
 
 /// The forest of a text, in which each label is a letter.
-fn forest(text: &str, labels: &BTreeMap<u32, u32>) -> Vec<Entry> {
-    let mut open: Vec<Vec<Entry>> = vec![Vec::new()];
+fn forest(text: &str, labels: &BTreeMap<u32, u32>) -> Vec<copy::Node> {
+    let mut open: Vec<Vec<copy::Node>> = vec![Vec::new()];
     let mut above = Vec::new();
     for byte in text.bytes() {
         match byte {
@@ -165,7 +165,7 @@ fn forest(text: &str, labels: &BTreeMap<u32, u32>) -> Vec<Entry> {
             b')' => {
                 let below = open.pop().expect("a bracket is open");
                 let label = above.pop().expect("a bracket has a label");
-                open.last_mut().expect("a bracket is open").push(Entry { label, below });
+                open.last_mut().expect("a bracket is open").push(copy::Node { label, below });
             }
             letter => above.push(labels[&letter.into()]),
         }
