@@ -9,7 +9,7 @@ use lib.ListN.{length, take, replicate}
 use borrow.Author.Tests.{le-leb}
 use Rattle.words.specs.Front.{inFront}
 use Rattle.plan.specs.declared.Checked.{Checked}
-use Rattle.plan.specs.Check.{checked, rulesOf}
+use Rattle.plan.specs.Check.{rulesOf}
 use Rattle.forest.specs.Forest.{forest, append, weigh}
 use Rattle.forest.specs.Outcome.{workWords, enoughWork, workJudged}
 use Rattle.label_rows.specs.declared.Weighed.{Weighed}
@@ -17,7 +17,7 @@ use Rattle.label_rows.specs.Coverage.{coverage, coverageFrom, extended, ended, 
 use Rattle.label_rows.specs.Class.{rowOf, covers, gramsOf}
 use Rattle.list_judge.specs.Listed.{listJudged}
 use Rattle.copy_variants.specs.Visible.{visible, takenOut, seenBy}
-use Rattle.copy_plan.specs.Bytes.{copyRoom, copyBytes}
+use Rattle.copy_plan.specs.Bytes.{copyBytes}
 use Rattle.copy.specs.Copy.{classJudged, countJudged, lentJudged, copyJudged}
 use Rattle.copy_answers.proofs.Sample.{few, list}
 use Rattle.copy_answers.proofs.Inhabited.{fewPlan, few-checked, few-rules, few-low, fewRules, fewTop, may-write}

@@ -5,7 +5,7 @@ use Prim.Native.Nat.{ℕ, _+_, _^_, _<_}
 use native.Mathlib.Omega.{arith}
 use mathlib.Core.Bool.{Bool, true, false, cond}
 use mathlib.Core.List.{List}
-use mathlib.Core.Path.{_≡_, refl, sym, ap, subst, _∙_}
+use mathlib.Core.Path.{_≡_, refl, sym, ap, _∙_}
 use lib.ListN.{length, take}
 use lib.Dec.{ltb}
 use borrow.Author.Tests.{lt-ltb, ltb-true}
@@ -14,7 +14,7 @@ use Rattle.rule.specs.declared.Rule.{Rule}
 use Rattle.plan.specs.declared.Checked.{Checked}
 use Rattle.plan.specs.declared.Written.{Written}
 use Rattle.plan.specs.Check.{checked, rulesOf}
-use Rattle.forest.specs.Forest.{Forest, forest, weigh}
+use Rattle.forest.specs.Forest.{forest, weigh}
 use Rattle.forest.specs.Outcome.{enoughWork, workJudged}
 use Rattle.label_rows.specs.declared.LabelRow.{LabelRow}
 use Rattle.label_rows.specs.declared.Coverage.{Coverage}

@@ -1,22 +1,18 @@
 -- Each step of grams leaves what the next one asks, whatever was judged: where something is turned down no rules are loaded, nothing is
 -- annotated, and the answer is that refusal; else the rows hold the plan's rules and the grams of their own labels, and the start rule's sum is
 -- that over its forest's nodes. Assumes nothing.
-use Prim.Native.Nat.{ℕ, _+_, _*_, _≤_, _<_}
+use Prim.Native.Nat.{ℕ, _*_, _≤_}
 use native.Mathlib.Omega.{arith}
 use mathlib.Core.List.{List}
-use mathlib.Core.Path.{_≡_, refl, sym, ap, subst, _∙_}
+use mathlib.Core.Path.{_≡_, refl, sym, ap, _∙_}
 use lib.ListN.{length}
 use Rattle.refusal.specs.declared.Refusal.{Refusal}
-use Rattle.record.specs.Format.{wordLength}
-use Rattle.rule.specs.declared.Rule.{Rule}
 use Rattle.reach.specs.Order.{rank}
 use Rattle.plan.specs.declared.Checked.{Checked}
-use Rattle.plan.specs.Check.{checked, rulesOf, mostRules}
-use Rattle.plan.proofs.Sound.{Plan, checked-plan}
-use Rattle.forest.specs.Expression.{Expression, expression}
-use Rattle.forest.specs.Algebra.{value}
-use Rattle.forest.specs.Forest.{forest, trees, weigh}
-use Rattle.forest.specs.Outcome.{workWords, enoughWork, cleared, workJudged, workAfter}
+use Rattle.plan.specs.Check.{checked, rulesOf}
+use Rattle.forest.specs.Expression.{expression}
+use Rattle.forest.specs.Forest.{forest}
+use Rattle.forest.specs.Outcome.{enoughWork, workJudged, workAfter}
 use Rattle.label_rows.specs.declared.LabelRow.{LabelRow}
 use Rattle.label_rows.specs.declared.Coverage.{Coverage}
 use Rattle.label_rows.specs.declared.Weighed.{Weighed}
@@ -24,20 +20,20 @@ use Rattle.label_rows.specs.Coverage.{coverage}
 use Rattle.label_rows.specs.Class.{gramsOf}
 use Rattle.list_judge.specs.Listed.{listJudged}
 use Rattle.list_judge.proofs.Passed.{list-passed}
-use Rattle.work_rows.specs.Rows.{workLength, ruleIn, Within}
+use Rattle.work_rows.specs.Rows.{workLength, ruleIn}
 use Rattle.work_rows.proofs.Rows.{within-both}
 use Rattle.work_rows.proofs.Work.{work-cleared, beyond-work}
 use Rattle.work_load.specs.Prepared.{Judged, Loads, Prepared}
-use Rattle.count_passes.specs.Tally.{Ready, Unfolds}
+use Rattle.count_passes.specs.Tally.{Unfolds}
 use Rattle.count_passes.proofs.Column.{besides-rule}
 use Rattle.count_passes.proofs.Ordered.{ready-besides}
 use Rattle.count_passes.proofs.Work.{Held, held}
-use Rattle.count_weights.specs.Weights.{WeightColumn, ownWeight, weightIn}
+use Rattle.count_weights.specs.Weights.{WeightColumn, ownWeight}
 use Rattle.count_weights.proofs.Meaning.{weight-value}
 use Rattle.label_annotate.specs.Annotated.{Annotatable, Annotated}
 use Rattle.label_annotate.proofs.Rules.{sound-annotatable}
 use Rattle.grams.specs.Grams.{sumJudged, weighedFrom, weighed, weighedWork}
-use Rattle.grams.specs.Steps.{loadedRules, Summable, Answerable, SumGiven, Answered}
+use Rattle.grams.specs.Steps.{loadedRules, Answerable, SumGiven, Answered}
 
 -- the answer and the work that grams gives
 abbrev pub Outcome : List ℕ → List LabelRow → List ℕ → Weighed → List ℕ → Type 0

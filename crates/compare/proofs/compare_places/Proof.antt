@@ -25,7 +25,14 @@ enum-known-one : tie.Need-enum-known-one
 enum-known-one c = search needs
 
 compare-subtrees-requires : tie.Need-compare-subtrees-requires
-compare-subtrees-requires c κs = let b = c .before .before .before .before .open-both .ensures .at _ _ (c .before .before .one .given .1) in standings (c .before .before .before .before .before .before .before .before .before .before .before .before .before .before .pre) (c .before .before .before .before .before .before .before .before .load .ensures .0) (c .before .before .before .before .before .before .before .before .load .ensures .1) (c .before .before .before .before .before .before .before .before .load .ensures .2) (c .before .before .before .before .before .before .before .before .load .ensures .3) (search (b .0, b .1)) (search (b .0, b .1))
+compare-subtrees-requires c κs =
+    let past-open = c .before .before in
+    let opened = past-open .before .before in
+    let past-load = opened .before .before .before .before in
+    let entry = past-load .before .before .before .before .before .before in
+    let b = opened .open-both .ensures .at _ _ (past-open .one .given .1) in
+    let loaded = past-load .load .ensures in
+    standings (entry .pre) (loaded .0) (loaded .1) (loaded .2) (loaded .3) (search (b .0, b .1)) (search (b .0, b .1))
 
 enum-known-refusal : tie.Need-enum-known-refusal
 enum-known-refusal c = search needs

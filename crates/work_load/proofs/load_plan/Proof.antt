@@ -1,7 +1,4 @@
 -- What check answers is judged of the plan by itself. Assumes nothing.
-use mathlib.Core.Path.{sym, subst}
-use Rattle.plan.specs.declared.Checked.{Checked}
-use Rattle.work_load.specs.Prepared.{Judged, Prepared}
 use Rattle.work_load.proofs.Prepares.{itself}
 use borrow.Author.Needs.{needs}
 use Rattle.work_load.proofs.load_plan.Statement.{statement}
