@@ -1,14 +1,15 @@
 /* The shell of a table-top reader: it lends the buffers, takes keys from standard input and shows labels.
 
-       reader PLAN
+       reader PLAN [RULE]
 
-   Keys are the letters of plan_walk (a z f l n p u s), m, which remembers the place, =, which asks whether the node and all below it is the
-   same there and here, and q, which ends; blanks and line ends are passed over.
+   With a rule, say that of one day, its forest alone is walked. Keys are the letters of plan_walk (a z f l n p u s), m, which remembers the
+   place, =, which asks whether the node and all below it is the same there and here, and q, which ends; blanks and line ends are passed over.
    All memory is laid out here, once, for the largest plan of either format that this reader takes: the walker keeps nothing and asks for
    nothing. A table-top reader takes few rules, and turns down a plan of more before any call, so that it needs the smaller stack alone. */
 #include "mealplan.h"
 #include <ctype.h>
 #include <stdio.h>
+#include <stdlib.h>
 #include <string.h>
 
 enum { BUDGET = 100000 /* pairs of nodes that a reader waits for */ };
@@ -76,6 +77,20 @@ static int press(int key) {
     return 0;
 }
 
+/* Stands above the forest of one rule, by its number; a walk of no letters tells whether there is such a rule and it is closed. */
+static int walk_alone(const char *text) {
+    char *end;
+    unsigned long rule = strtoul(text, &end, 10);
+    if (!isdigit((unsigned char)*text) || *end) return fprintf(stderr, "reader: %s is no number\n", text), 2;
+    if (rule >= MOST_RULES) return refused(MEALPLAN_PLACE, 0);
+    mealplan_above(cursor, MEALPLAN_RULE_WORD(rule));
+    uint64_t position;
+    uint8_t none[1];
+    uint32_t number = plan_walk(plan, plan_len, work, sizeof work, cursor, sizeof cursor, none, 0, none, 0, &position);
+    if (number) return refused(number, position);
+    return printf("rule %lu alone\n", rule), 0;
+}
+
 /* Remembers the place: its used cells are enough. */
 static int remember(void) {
     memcpy(remembered, cursor, MEALPLAN_PLACE_BYTES(cursor));
@@ -98,8 +113,10 @@ static int compare(void) {
 }
 
 int main(int argc, char **argv) {
-    if (argc != 2) return fprintf(stderr, "usage: reader PLAN\n"), 2;
+    if (argc < 2 || argc > 3) return fprintf(stderr, "usage: reader PLAN [RULE]\n"), 2;
     if (read_plan(argv[1]) || greet()) return 1;
+    int status = argc == 3 ? walk_alone(argv[2]) : 0;
+    if (status) return status;
     for (int key; (key = getchar()) != EOF && key != 'q';) {
         if (isspace(key)) continue;
         if (key == 'm' ? remember() : key == '=' ? compare() : press(key)) return 1;

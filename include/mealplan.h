@@ -103,6 +103,26 @@ extern "C" {
 #define MEALPLAN_CELLS(cursor) ((size_t)((cursor)[0] | (cursor)[1] << 8))
 #define MEALPLAN_PLACE_BYTES(cursor) (8 * (MEALPLAN_CELLS(cursor) + 1))
 
+/* The rule whose forest a cursor walks, as word 1 of its cell 0 names it: 0 for the start
+   rule, else the number of a rule plus one. Any closed rule may be named, the start, one
+   that nothing reaches and an empty one, too: one day of a plan is walked by its rule.
+   The word is part of the stored place and stays through every call. A cursor from before
+   there was such a word has 0 there, and goes on. MEALPLAN_RULE_WORD is the word for a
+   number of 16 bits; that for 65,535 is 65,535 too, and as far beyond the rules. */
+#define MEALPLAN_WORD(cursor) ((uint16_t)((cursor)[2] | (cursor)[3] << 8))
+#define MEALPLAN_RULE_WORD(rule) \
+    ((uint16_t)((uint16_t)(rule) + 1 - (((uint16_t)(rule) + 1) >> 16)))
+
+/* Puts a cursor above the forest of the rule that a word names, as the first walk wants it:
+   mealplan_above(cursor, MEALPLAN_RULE_WORD(3)) for rule 3 alone, mealplan_above(cursor, 0)
+   for the start, which 8 bytes of zeros are too. Whether there is such a rule to walk is
+   judged by the walk, which may be one of no letters. */
+static inline void mealplan_above(uint8_t *cursor, uint16_t word) {
+    cursor[0] = cursor[1] = 0;
+    cursor[2] = (uint8_t)word, cursor[3] = (uint8_t)(word >> 8);
+    cursor[4] = cursor[5] = cursor[6] = cursor[7] = 0;
+}
+
 /* The refusals. */
 enum mealplan_refusal {
     MEALPLAN_ACCEPTED = 0,
@@ -122,8 +142,9 @@ enum mealplan_refusal {
     MEALPLAN_LENT = 8,       /* work or a cursor too short, or fewer answers than letters; of
                                 plan_copy, output too short */
     MEALPLAN_LETTER = 9,     /* a byte outside a z f l n p u s */
-    MEALPLAN_PLACE = 10,     /* no letters lead from a place above this forest to these
-                                used cells, or cell 0 has a nonzero later word; where
+    MEALPLAN_PLACE = 10,     /* word 1 of cell 0 names a rule that isn't below n or isn't
+                                closed; no letters lead from a place above its forest to
+                                these used cells; word 2 or 3 of cell 0 isn't 0; where
                                 places are compared, one above the forest */
     MEALPLAN_ROOM = 11,      /* output too short; over 2^64 - 1 nodes; of plan_grams, over
                                 2^64 - 1 grams */
@@ -181,10 +202,11 @@ uint32_t plan_spread(const uint8_t *plan, size_t plan_len,
 /* Walk from the place in cursor, a letter at a time: 1 to 6, 12, 7 to 10. a, z: to the
    root of the first, last tree; f, l: first, last child; n, p: next, previous sibling;
    u: parent; s: stay. Each letter gives an answer: the label of the node arrived at,
-   or nowhere, and then the place is kept. A cursor whose first 8 bytes are 0 is above
-   the forest, from where only a and z lead. work as for plan_measure. Accepted: cursor
-   holds the new place and, in the needed bytes, zeros after it; its later bytes and
-   those of answers stay. Refused: cursor and answers are untouched. */
+   or nowhere, and then the place is kept. The forest is that of the rule which
+   MEALPLAN_WORD(cursor) names, whatever the start is. A cursor as mealplan_above leaves it
+   is above that forest, from where only a and z lead. work as for plan_measure. Accepted:
+   cursor holds the new place and, in the needed bytes, zeros after it; its MEALPLAN_WORD,
+   its later bytes and those of answers stay. Refused: cursor and answers are untouched. */
 uint32_t plan_walk(const uint8_t *plan, size_t plan_len,
                    uint8_t *work, size_t work_len,
                    uint8_t *cursor, size_t cursor_len,
@@ -205,8 +227,10 @@ enum mealplan_verdict {
    each other pair by pair. Accepted: *verdict is as above, *count the place, from 1, of
    the first pair that differs, a node against an ended list included, or their common
    length. Spent comes where that number is above the budget, and then always, and
-   *count is the budget: a larger budget changes no same and no differ. 10 is the first
-   place's, then the second's. work as for plan_measure; first and second are only read. */
+   *count is the budget: a larger budget changes no same and no differ. Each place is one
+   of the rule that its own cursor names, so that two days are compared as two rules. 10 is
+   the first place's, then the second's. work as for plan_measure; first and second are
+   only read. */
 uint32_t plan_compare(const uint8_t *plan, size_t plan_len,
                       uint8_t *work, size_t work_len,
                       const uint8_t *first, size_t first_len,

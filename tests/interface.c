@@ -206,10 +206,15 @@ static void refusals(void) {
     gives("x among the letters", walk(sample, sizeof sample, "afx"), MEALPLAN_LETTER, 2);
     cursor[0] = 1;
     gives("a cell that leads nowhere", walk(sample, sizeof sample, "a"), MEALPLAN_PLACE, 0);
-    cursor[0] = 0;
-    cursor[2] = 1;
-    gives("a later word of cell 0", walk(sample, sizeof sample, "a"), MEALPLAN_PLACE, 0);
-    cursor[2] = 0;
+    for (int word = 2; word < 4; word++) {
+        mealplan_above(cursor, 0);
+        cursor[2 * word] = 1;
+        gives("word 2 or 3 of cell 0", walk(sample, sizeof sample, "a"), MEALPLAN_PLACE, 0);
+        mealplan_above(cursor, 0);
+        cursor[2 * word + 1] = 1;
+        gives("word 2 or 3 of cell 0", walk(sample, sizeof sample, "a"), MEALPLAN_PLACE, 0);
+    }
+    mealplan_above(cursor, 0);
 }
 
 /* Rules in any order: 12, and what comes before it and after it. */
@@ -360,12 +365,16 @@ static void places(void) {
     want("the byte past the cursor", cursor[MEALPLAN_CURSOR_BYTES(8)], 255);
 }
 
-/* Takes the place in cursor for the second, and letters from above the forest for the first. */
-static void stand(const uint8_t *bytes, size_t length, const char *letters) {
+/* Takes the place in cursor for the second, and letters from above the forest of the rule that a word names for the first. */
+static void stand_in(const uint8_t *bytes, size_t length, uint16_t word, const char *letters) {
     memcpy(second, cursor, sizeof second);
     memset(cursor, 0, sizeof cursor);
+    mealplan_above(cursor, word);
     gives(letters, walk(bytes, length, letters), MEALPLAN_ACCEPTED, 0);
 }
+
+/* The same in the start rule's. */
+static void stand(const uint8_t *bytes, size_t length, const char *letters) { stand_in(bytes, length, 0, letters); }
 
 /* What a comparison finds, at a budget. */
 static void finds(const char *what, const uint8_t *bytes, size_t length, uint32_t budget, uint32_t found, uint32_t number) {
@@ -413,8 +422,8 @@ static void compared(void) {
         NEEDS(c, MEALPLAN_LENT, plan_compare(bytes, length, work, w, cursor, c, second, LENGTH, 9, &verdict, &count, &position));
     }
     check(sample, sizeof sample);
-    cursor[2] = 1;
-    turned_down("a later word of the first cell 0", MEALPLAN_PLACE);
+    cursor[4] = 1;
+    turned_down("word 2 of the first cell 0", MEALPLAN_PLACE);
     memset(cursor, 0, sizeof cursor);
     turned_down("the first above the forest", MEALPLAN_PLACE);
     stand(sample, sizeof sample, "a");
@@ -424,6 +433,98 @@ static void compared(void) {
     verdict = count = 77;
     gives("a plan cut short", compare(sample, sizeof sample - 1, 9), MEALPLAN_MAGIC, 0);
     want("the numbers are left alone", verdict == 77 && count == 77, 1);
+    memset(cursor, 0, sizeof cursor);
+}
+
+/* The used cells and cell 0 are these words, and behind them the needed bytes are zeros. */
+static void holds(const uint16_t *cells, size_t words) {
+    for (size_t i = 0; i < MEALPLAN_CURSOR_BYTES(n) / 2; i++)
+        want("a word of the cursor", (uint64_t)(cursor[2 * i] | cursor[2 * i + 1] << 8), i < words ? cells[i] : 0);
+}
+
+/* A walk from above the forest of the rule that a word names, refused with 10: nothing moves. */
+static void not_walked(const char *what, uint16_t word) {
+    static uint8_t before[sizeof cursor];
+    memset(cursor, 7, sizeof cursor), memset(answers, 7, sizeof answers), memset(work, 3, sizeof work);
+    mealplan_above(cursor, word);
+    memcpy(before, cursor, sizeof cursor);
+    gives(what, walk(sample, sizeof sample, "ax"), MEALPLAN_LETTER, 1);
+    gives(what, walk(sample, sizeof sample, "a"), MEALPLAN_PLACE, 0);
+    gives(what, walk(sample, sizeof sample, ""), MEALPLAN_PLACE, 0);
+    want("the cursor is untouched", memcmp(before, cursor, sizeof cursor) == 0, 1);
+    want("the word stays", MEALPLAN_WORD(cursor), word);
+    for (size_t i = 0; i < sizeof answers; i++) want("answers", answers[i], 7);
+    for (size_t i = 0; i <= MEALPLAN_WORK_BYTES(8); i++) want("work", work[i], i < MEALPLAN_WORK_BYTES(8) ? 0 : 3);
+}
+
+/* One rule alone, named by number: a day of the sample plan, its start, its empty rule, the words that name none, and two places of two rules. */
+static void days(void) {
+    static const uint16_t first[] = {3, 4, 0, 0, 1, 0, 3, 0, 3, 3, 1, 0, 2, 1, 0, 0};
+    static const uint16_t second_tree[] = {3, 4, 0, 0, 1, 0, 3, 0, 4, 3, 2, 0, 2, 2, 0, 0};
+    static const uint16_t above[] = {0, 1, 0, 0};
+    static const uint16_t words_of_rules[] = {0, MEALPLAN_RULE_WORD(7)}, labels[] = {99, 97, 98, 99, 97, 98, 97};
+    static uint8_t by_zero[MEALPLAN_CURSOR_BYTES(8)];
+    check(sample, sizeof sample);
+    want("the word of rule 3", MEALPLAN_RULE_WORD(3), 4);
+    want("the word of the last rule", MEALPLAN_RULE_WORD(MOST - 1), MOST);
+    for (unsigned rule = 0; rule < 65535; rule++) want("the word of a rule", MEALPLAN_RULE_WORD(rule), rule + 1);
+    want("the word of a number that has none", MEALPLAN_RULE_WORD(65535), 65535);
+    memset(cursor, 255, sizeof cursor);
+    mealplan_above(cursor, MEALPLAN_RULE_WORD(3));
+    gives("a in rule 3", walk(sample, sizeof sample, "a"), MEALPLAN_ACCEPTED, 0);
+    want("its first tree", MEALPLAN_ANSWER(answers, 0), 97);
+    holds(first, 16);
+    want("MEALPLAN_WORD", MEALPLAN_WORD(cursor), 4);
+    want("MEALPLAN_CELLS", MEALPLAN_CELLS(cursor), 3);
+    want("the byte past the cursor", cursor[MEALPLAN_CURSOR_BYTES(8)], 255);
+    mealplan_above(cursor, MEALPLAN_RULE_WORD(3));
+    gives("annu in rule 3", walk(sample, sizeof sample, "annu"), MEALPLAN_ACCEPTED, 0);
+    want("its first tree", MEALPLAN_ANSWER(answers, 0), 97);
+    want("its second", MEALPLAN_ANSWER(answers, 1), 98);
+    want("there is no third", MEALPLAN_ANSWER(answers, 2), MEALPLAN_NOWHERE);
+    want("and no parent", MEALPLAN_ANSWER(answers, 3), MEALPLAN_NOWHERE);
+    holds(second_tree, 16);
+    gives("nx", walk(sample, sizeof sample, "nx"), MEALPLAN_LETTER, 1);
+    holds(second_tree, 16);
+    memcpy(second, cursor, sizeof second);
+    second[2] = 0;
+    turned_down("its place as one of the start", MEALPLAN_PLACE);
+
+    /* The start by number gives the same, and its cursor differs in the word alone. */
+    for (int i = 0; i < 2; i++) {
+        mealplan_above(cursor, words_of_rules[i]);
+        gives("afnnfnn", walk(sample, sizeof sample, "afnnfnn"), MEALPLAN_ACCEPTED, 0);
+        for (size_t a = 0; a < 7; a++) want("its answers", MEALPLAN_ANSWER(answers, a), labels[a]);
+        if (i == 0) memcpy(by_zero, cursor, sizeof by_zero);
+    }
+    want("MEALPLAN_WORD", MEALPLAN_WORD(cursor), 8);
+    for (size_t b = 0; b < sizeof by_zero; b++) want("a byte of the cursor", cursor[b], b == 2 ? 8 : by_zero[b]);
+
+    /* The empty rule is closed; a part, a join and numbers beyond the rules aren't walked. */
+    mealplan_above(cursor, MEALPLAN_RULE_WORD(0));
+    gives("az in the empty rule", walk(sample, sizeof sample, "az"), MEALPLAN_ACCEPTED, 0);
+    want("a", MEALPLAN_ANSWER(answers, 0), MEALPLAN_NOWHERE);
+    want("z", MEALPLAN_ANSWER(answers, 1), MEALPLAN_NOWHERE);
+    holds(above, 4);
+    not_walked("a part", MEALPLAN_RULE_WORD(4));
+    not_walked("a join", MEALPLAN_RULE_WORD(5));
+    not_walked("a number beyond the rules", MEALPLAN_RULE_WORD(8));
+    not_walked("a number with another high byte", 256 + MEALPLAN_RULE_WORD(3));
+    not_walked("the last word", 65535);
+
+    /* A place of rule 3 with one of the start rule: each cursor has its own word. */
+    stand(sample, sizeof sample, "an"), stand_in(sample, sizeof sample, MEALPLAN_RULE_WORD(3), "a");
+    finds("97 of rule 3 and 97 of the start", sample, sizeof sample, 9, MEALPLAN_SAME, 1);
+    gives("n in rule 3", walk(sample, sizeof sample, "n"), MEALPLAN_ACCEPTED, 0);
+    finds("98 of rule 3 and 97 of the start", sample, sizeof sample, 9, MEALPLAN_DIFFER, 1);
+    stand_in(sample, sizeof sample, MEALPLAN_RULE_WORD(6), "a");
+    finds("99 of rule 6 and 98 of rule 3", sample, sizeof sample, 9, MEALPLAN_DIFFER, 1);
+    stand(sample, sizeof sample, "a");
+    finds("the first tree and the same by rule 6", sample, sizeof sample, 9, MEALPLAN_SAME, 9);
+    second[2] = MEALPLAN_RULE_WORD(5);
+    turned_down("a join in the second cursor", MEALPLAN_PLACE);
+    second[2] = MEALPLAN_RULE_WORD(6), cursor[2] = MEALPLAN_RULE_WORD(8);
+    turned_down("a number beyond the rules in the first", MEALPLAN_PLACE);
     memset(cursor, 0, sizeof cursor);
 }
 
@@ -640,6 +741,7 @@ int main(int argc, char **argv) {
     divided();
     places();
     compared();
+    days();
     classes();
     copied();
     weighed();

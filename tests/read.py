@@ -26,12 +26,12 @@ def fail(what):
 class Terminal:
     """A reader of a plan in a terminal of so many rows and columns."""
 
-    def __init__(self, plan, rows=24, columns=80):
+    def __init__(self, plan, *options, rows=24, columns=80):
         self.ours, self.its = pty.openpty()
         self.resize(rows, columns)
         self.before = termios.tcgetattr(self.its)
         self.text = ""
-        self.running = subprocess.Popen([COMMAND, "read", plan], stdin=self.its, stdout=self.its, stderr=self.its,
+        self.running = subprocess.Popen([COMMAND, "read", *options, plan], stdin=self.its, stdout=self.its, stderr=self.its,
                                         start_new_session=True,
                                         preexec_fn=lambda: fcntl.ioctl(0, termios.TIOCSCTTY, 0))
 
@@ -115,6 +115,24 @@ def walked():
         fail("its last line is %r" % t.text[-60:])
 
 
+def one_rule():
+    """The forest of one rule alone, and one that is holed."""
+    t = Terminal(SAMPLES + "/plan.bin", "--rule", "3")
+    t.shows(SAMPLES + "/plan.bin: 8 narrow rules, rule 3; 2 trees, 2 entries, 1 levels", "path   above the forest")
+    t.press(b"zm")
+    t.shows("path   2", "label  98 b", "cells  3", "remembered: 2")
+    t.press(b"n")
+    t.shows("n: nowhere", "path   2")
+    t.press(b"p=")
+    t.shows("path   1", "label  97 a", "another than remembered, at 1")
+    t.press(b"q")
+    t.ends(0)
+    t = Terminal(SAMPLES + "/plan.bin", "--rule=4")
+    t.ends(1)
+    if ENTER in t.text or "rule 4: refused 10 at 0: " not in t.text:
+        fail("of a holed rule it says %r" % t.text)
+
+
 def resized():
     """A window of another size is drawn anew, and its lines fit."""
     t = Terminal(SAMPLES + "/wide.bin")
@@ -168,6 +186,7 @@ def refused():
 
 
 walked()
+one_rule()
 resized()
 signalled()
 refused()

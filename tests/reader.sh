@@ -8,10 +8,10 @@ bash tests/library >"$build/log" 2>&1 || { cat "$build/log"; exit 1; }
 # shellcheck disable=SC2086
 gcc -std=c99 -pedantic -O1 -Wall -Wextra -Werror ${SANITIZE:-} -Iinclude -o "$build/reader" examples/reader.c target/staticlib/libmealplan.a
 
-# Shows KEYS on PLAN, which must print what stands on standard input and end with STATUS.
-shows() { # PLAN KEYS STATUS
+# Shows KEYS on PLAN, or on one RULE of it alone, which must print what stands on standard input and end with STATUS.
+shows() { # PLAN KEYS STATUS [RULE]
     status=0
-    printf '%s' "$2" | "$build/reader" "$1" >"$build/shown" || status=$?
+    printf '%s' "$2" | "$build/reader" "$1" ${4:+"$4"} >"$build/shown" 2>"$build/said" || status=$?
     diff - "$build/shown" || { echo "reader: $2 on $1 shows something else"; exit 1; }
     [ "$status" -eq "$3" ] || { echo "reader: $2 on $1 ends with status $status"; exit 1; }
 }
@@ -74,6 +74,48 @@ n  98 b
 =  the same, 1 in all
 stopped with 3 cells
 END
+
+# One rule alone: two leaves side by side, the start by its number, the empty rule; and rules that are holed, not there, or no numbers.
+shows samples/plan.bin 'zpmn=nuq' 0 3 <<'END'
+8 rules, start 7: 3 trees, 11 entries, 3 levels
+rule 3 alone
+z  98 b
+p  97 a
+m  remembered
+n  98 b
+=  another at 1
+n  nowhere
+u  nowhere
+stopped with 3 cells
+END
+shows samples/plan.bin 'afnn' 0 7 <<'END'
+8 rules, start 7: 3 trees, 11 entries, 3 levels
+rule 7 alone
+a  99 c
+f  97 a
+n  98 b
+n  99 c
+stopped with 4 cells
+END
+shows samples/wide.bin 'az' 0 0 <<'END'
+8 wide rules, start 7: 3 trees, 11 entries, 3 levels
+rule 0 alone
+a  nowhere
+z  nowhere
+stopped with 0 cells
+END
+for rule in 4 5 8 1023 1024 65536 99999999999999999999; do
+    shows samples/plan.bin 'a' 1 "$rule" <<'END'
+8 rules, start 7: 3 trees, 11 entries, 3 levels
+refused 10 at 0
+END
+done
+for rule in x -1 3x; do
+    shows samples/plan.bin 'a' 2 "$rule" <<'END'
+8 rules, start 7: 3 trees, 11 entries, 3 levels
+END
+    grep -q "is no number" "$build/said" || { echo "reader: it doesn't say that $rule is no number"; exit 1; }
+done
 
 # Two nodes over one row of 2^20 leaves, doubled twenty times, which is more than the reader's budget.
 {

@@ -230,6 +230,9 @@ static int tried(struct function *from, const struct shape *s, const struct orde
     build(s);
     uint64_t lowest = renumber(o);
     lay_out();
+    /* The start by its number, for the first tree in either format and for the walk in the wide one. */
+    mealplan_above(root, MEALPLAN_RULE_WORD(first));
+    if (format == MEALPLAN_WIDE) mealplan_above(cursor, MEALPLAN_RULE_WORD(first));
     plan_walk(plan, plan_len, work, sizeof work, root, sizeof root, (const uint8_t *)"a", 1, answers, sizeof answers, &position);
     for (struct function *f = from; f < functions + FUNCTIONS; f++) {
         size_t bytes = used(f->call);

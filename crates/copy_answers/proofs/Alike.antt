@@ -15,6 +15,8 @@ use Rattle.forest.specs.Walk.{firstOther, lettersOf, answerWord}
 use Rattle.demand.specs.Calls.{Call, walkOf}
 use Rattle.demand.specs.Demand.{isNone, turnedDown, fingerAnswers, Demand3}
 use Rattle.demand.proofs.Demand3.{demand3}
+use Rattle.demand.proofs.Plans.{start-closed}
+use Rattle.demand.proofs.FromAbove.{start-walked, start-above}
 use Rattle.demand.proofs.Replies.{reply, replies}
 use Rattle.label_rows.specs.declared.LabelRow.{LabelRow}
 use Rattle.copy_variants.specs.Visible.{visible, seenBy}
@@ -53,13 +55,17 @@ module _ (s t : List ℕ) (n m start top : ℕ) (e : checked s ≡ Checked.Accep
   pub tell-alike : forest (rulesOf s) start ≡ forest (rulesOf t) top → TellAlike walkOf s n t m
   unfolding Demand3 told
   tell-alike same cursor other cs ds a b q =
-      let M = demand3 s n start cursor cs e a in
-      let N = demand3 t m top other ds f b in
+      let a′ = start-above (start-closed s n start e) cursor a in
+      let b′ = start-above (start-closed t m top f) other b in
+      let M = demand3 s n start cursor cs e a′ in
+      let N = demand3 t m top other ds f b′ in
       let fingers =
-      ap (λ (g : Forest ℕ). fingerAnswers g (turnedDown n cursor) cs []) same
-      ∙ asked-finger n m cursor other (forest (rulesOf t) top) q [] in
+      ap (λ (r : ℕ). fingerAnswers (forest (rulesOf s) r) (turnedDown n cursor) cs []) (start-walked start cursor a)
+      ∙ ap (λ (g : Forest ℕ). fingerAnswers g (turnedDown n cursor) cs []) same
+      ∙ asked-finger n m cursor other (forest (rulesOf t) top) q []
+      ∙ ap (λ (r : ℕ). fingerAnswers (forest (rulesOf t) r) (turnedDown m other) ds []) (sym (start-walked top other b)) in
       λ i. record {
-        replies = (replies s n start cursor cs e a ∙ asked-replies n m cursor other q ∙ sym (replies t m top other ds f b)) i;
+        replies = (replies s n start cursor cs e a′ ∙ asked-replies n m cursor other q ∙ sym (replies t m top other ds f b′)) i;
         answers = (M .answered ∙ ap (map answerWord) fingers ∙ sym (N .answered)) i;
       }
 

@@ -12,7 +12,8 @@ use Rattle.words.specs.Front.{inFront}
 use Rattle.refusal.specs.declared.Refusal.{Refusal}
 use Rattle.record.specs.Format.{highLength, mostLabel}
 use Rattle.rule.specs.declared.Rule.{Rule}
-use Rattle.rule.specs.Rule.{encode, rule}
+use Rattle.rule.specs.Rule.{encode, rule, closed}
+use Rattle.rule.specs.Sound.{kindIn}
 use Rattle.reach.specs.Reaches.{lowestCycle, cycleFrom, reaches, within, anyNamed}
 use Rattle.reach.specs.Order.{count}
 use Rattle.judge.specs.Judge.{cycleJudged}
@@ -24,9 +25,9 @@ use Rattle.forest.specs.Place.{placedForest}
 use Rattle.forest.specs.Letter.{letterOf}
 use Rattle.forest.specs.Reference.{answers, pathAfter}
 use Rattle.forest.specs.Outcome.{workWords, enoughWork}
-use Rattle.forest.specs.Walk.{nowhere, cursorWords, enoughLent, andLetters, lettersOf, otherAt, firstOther, cellAt, cellsIn, usedCells, headed, pathOf, stored, placeJudged, lettersJudged, begunFrom, cellsOf, placeAt, cellBytes, cellsBytes, padded, storedCursor, answerWord, answersBytes}
+use Rattle.forest.specs.Walk.{nowhere, cursorWords, enoughLent, andLetters, lettersOf, otherAt, firstOther, cellAt, cellsIn, usedCells, ruleWord, ruleNamed, walkedRule, isClosed, headed, pathOf, stored, placeIn, placeJudged, lettersJudged, begunFrom, cellsOf, placeAt, cellBytes, cellsBytes, padded, storedCursor, answerWord, answersBytes}
 use Rattle.demand.specs.Calls.{Call, walkOf}
-use Rattle.demand.specs.Demand.{Above}
+use Rattle.demand.specs.Demand.{AboveStart}
 use Rattle.copy_answers.specs.Asked.{Enough, Asked, Told, told, TellAlike}
 use Rattle.copy_answers.proofs.Alike.{tell-alike}
 use Rattle.label_rows.specs.declared.LabelRow.{LabelRow}
@@ -112,8 +113,8 @@ calls = asks (97 ∷ 110 ∷ []) ∷ asks (97 ∷ 98 ∷ []) ∷ []
 abbrev above : List ℕ
 above = replicate 200 0
 
-sample-above : Above above
-unfolding Above cellAt number
+sample-above : AboveStart above
+unfolding AboveStart cellAt number
 sample-above = refl
 
 sample-asked : Asked 4 5 above above calls calls
@@ -125,7 +126,7 @@ abbrev pub client : Told
 client = record { replies = Walked.Accepted ∷ Walked.Refused (Refusal.Letter 1) ∷ []; answers = 97 ∷ nowhere ∷ [] }
 
 few-told : told walkOf fewBytes above calls ≡ client
-unfolding told walkOf copyBytes checked highLength mostLabel cycleFrom reaches within anyNamed inFront forest placedForest letterOf answers pathAfter enoughWork cursorWords enoughLent andLetters lettersOf otherAt firstOther cellAt cellsIn usedCells headed pathOf stored placeJudged lettersJudged begunFrom cellsOf placeAt cellBytes cellsBytes padded storedCursor answerWord answersBytes
+unfolding told walkOf copyBytes checked highLength mostLabel cycleFrom reaches within anyNamed inFront forest placedForest letterOf answers pathAfter enoughWork cursorWords enoughLent andLetters lettersOf otherAt firstOther cellAt cellsIn usedCells closed kindIn ruleWord ruleNamed walkedRule isClosed headed pathOf stored placeIn placeJudged lettersJudged begunFrom cellsOf placeAt cellBytes cellsBytes padded storedCursor answerWord answersBytes
 few-told = refl
 
 pub sample-told : (told walkOf fewBytes above calls ≡ client) × (told walkOf manyBytes above calls ≡ client)

@@ -7,7 +7,7 @@ use mathlib.Core.Path.{_≡_}
 use Rattle.forest.specs.declared.Walked.{Walked}
 use Rattle.forest.specs.Walk.{enoughLent}
 use Rattle.demand.specs.Calls.{Walk, Call, Left, lefts}
-use Rattle.demand.specs.Demand.{Above, walkAnswers}
+use Rattle.demand.specs.Demand.{AboveStart, walkAnswers}
 
 -- 8 doesn't turn the call down: enough is lent for n rules
 unfoldable pub Enough : ℕ → List ℕ → Call → Type 0
@@ -33,7 +33,8 @@ told w plan cursor calls =
       answers = walkAnswers calls (lefts w plan cursor calls);
     }
 
--- plans s of n and t of m rules tell a client the same, from above the forest, whatever else is lent
+-- plans s of n and t of m rules tell a client the same, from above the forest, whatever else is lent. "Note 6's equal answers are for word 1
+-- zero" (document 02, Note 10)
 abbrev pub TellAlike : Walk → List ℕ → ℕ → List ℕ → ℕ → Type 0
 TellAlike w s n t m =
-    (cursor other : List ℕ) (cs ds : List Call) → Above cursor → Above other → Asked n m cursor other cs ds → told w s cursor cs ≡ told w t other ds
+    (cursor other : List ℕ) (cs ds : List Call) → AboveStart cursor → AboveStart other → Asked n m cursor other cs ds → told w s cursor cs ≡ told w t other ds

@@ -1,10 +1,10 @@
--- Refusal 10 by letters. Where cell 0 is in order the cells are looked for in the forest: what is found is above the forest or a
+-- Refusal 10 by letters. Where cell 0 is in order the cells are looked for in the walked rule's forest: what is found is above the forest or a
 -- node, and letters lead to every node; what no node has no letters lead to. That cells 1 to k lie in 16 × (n + 1) words turns
 -- down no place that letters lead to, since each of them has at most 3 × n cells. Assumes nothing.
 use Prim.Native.Nat.{ℕ, suc, _+_, _*_, _≤_}
 use native.Mathlib.Omega.{arith}
 use mathlib.Core.Path.{_≡_, refl, sym, ap, _∙_, subst}
-use mathlib.Core.Logic.{_↔_, inl, inr, ⊎-elim}
+use mathlib.Core.Logic.{_↔_, _≢_, inl, inr, ⊎-elim}
 use mathlib.Core.Bool.{Bool, true, false, cond, not, true≢false, _&&_}
 use mathlib.Core.List.{List, [], _∷_}
 use mathlib.Core.Option.{Option, none, some, Option·none-ne-some}
@@ -12,6 +12,7 @@ use lib.ListN.{length}
 use lib.Dec.{leb}
 use borrow.Author.Tests.{le-leb, leb-true}
 use Rattle.refusal.specs.declared.Refusal.{Refusal}
+use Rattle.rule.specs.Sound.{Closed}
 use Rattle.plan.specs.declared.Checked.{Checked}
 use Rattle.plan.specs.Check.{checked, rulesOf}
 use Rattle.forest.specs.declared.Walked.{Walked}
@@ -19,13 +20,14 @@ use Rattle.forest.specs.Forest.{Forest, forest}
 use Rattle.forest.specs.Place.{Cells, Placed, placedForest}
 use Rattle.forest.specs.Letter.{Letter}
 use Rattle.forest.specs.Reference.{Path, labelAt, pathAfter}
-use Rattle.forest.specs.Walk.{cellWords, cursorWords, enoughLent, firstOther, cellsIn, usedCells, headed, pathOf, Begun, stored, placeJudged, lettersJudged, begunFrom, begun, walked, placeAt, cellsOf}
+use Rattle.forest.specs.Walk.{cellWords, cursorWords, enoughLent, firstOther, cellsIn, usedCells, walkedRule, isClosed, headed, pathOf, Begun, stored, placeIn, placeJudged, lettersJudged, begunFrom, begun, walked, placeAt, cellsOf}
 use Rattle.forest.proofs.Cases.{by-bool, by-option}
 use Rattle.forest.proofs.Reach.{letters, letters-after}
 use Rattle.forest.proofs.Search.{path-cells, path-of-place}
+use Rattle.forest.proofs.WalkedRule.{closed-walked, walked-closed}
 use Rattle.forest.specs.Position.{Named}
 use Rattle.demand.specs.Calls.{Call, lent, walkOf}
-use Rattle.demand.specs.Demand.{turnedDown, isNone}
+use Rattle.demand.specs.Demand.{turnedDown, isNone, InOrder, Above}
 use Rattle.demand.specs.Misplaced.{Unreached, Misplaced}
 use Rattle.demand.proofs.Passed.{zeros-headed, headed-zeros, length-cellsIn}
 use Rattle.demand.proofs.Walkable.{Walkable}
@@ -36,7 +38,7 @@ use Rattle.demand.proofs.Plans.{walkable}
 
 module _ {n : ℕ} {g : Forest ℕ} {G : Forest Placed} (W : Walkable n g G) where
   -- what is found is above the forest or a node
-  path-named : (cells : Cells) (p : Path) → pathOf G cells ≡ some p → Named G p
+  pub path-named : (cells : Cells) (p : Path) → pathOf G cells ≡ some p → Named G p
   unfolding pathOf placeAt cellsOf
   path-named [] p e = let h : [] ≡ p = cc in subst (Named G) h Named.above
   path-named (c ∷ cs) p e =
@@ -71,9 +73,9 @@ module _ {n : ℕ} {g : Forest ℕ} {G : Forest Placed} (W : Walkable n g G) whe
 -- ---- refusal 10
 
 -- that cells 1 to k must lie in 16 × (n + 1) words turns down no place of an accepted plan that letters lead to
-pub reached-lies : (s : List ℕ) (n start : ℕ) → checked s ≡ Checked.Accepted n start → (cs : List Letter)
-    → cellWords * (length (placeAt (placedForest (rulesOf s) start) (pathAfter (forest (rulesOf s) start) cs [])) + 1) ≤ cursorWords n
-reached-lies s n start accepted cs = short-reached (walkable s n start accepted) cs
+pub reached-lies : (s : List ℕ) (n start : ℕ) → checked s ≡ Checked.Accepted n start → (r : ℕ) → Closed (rulesOf s) r → (cs : List Letter)
+    → cellWords * (length (placeAt (placedForest (rulesOf s) r) (pathAfter (forest (rulesOf s) r) cs [])) + 1) ≤ cursorWords n
+reached-lies s n start accepted r C cs = short-reached (walkable s n start accepted r C) cs
 
 isAt : Begun → Bool
 isAt (Begun.refused r) = false
@@ -92,28 +94,44 @@ judged-last true (some i) b = (λ e. (cc, cc), λ h. cc)
 judged-last false x b = (λ e. (cc, cc), λ h. cc)
 
 module _ (s : List ℕ) (n start : ℕ) (cursor : List ℕ) (accepted : checked s ≡ Checked.Accepted n start) where
-  abbrev W : Walkable n (forest (rulesOf s) start) (placedForest (rulesOf s) start)
-  W = walkable s n start accepted
+  -- the walked rule
+  abbrev r : ℕ
+  r = walkedRule start cursor
 
   abbrev found : Option Path
-  found = pathOf (placedForest (rulesOf s) start) (cellsIn cursor (usedCells cursor))
+  found = pathOf (placedForest (rulesOf s) r) (cellsIn cursor (usedCells cursor))
+
+  abbrev W : Closed (rulesOf s) r → Walkable n (forest (rulesOf s) r) (placedForest (rulesOf s) r)
+  W C = walkable s n start accepted r C
 
   refused-misplaced : placeJudged (rulesOf s) n start cursor ≡ Begun.refused Refusal.Place → Misplaced (rulesOf s) start cursor
-  unfolding placeJudged stored Misplaced
-  refused-misplaced e = by-bool (headed n cursor) in-forest not-headed
+  unfolding placeJudged placeIn stored Misplaced
+  refused-misplaced e = by-bool (isClosed (rulesOf s) r) (λ c. by-bool (headed n cursor) (in-forest c) (not-headed c)) not-named
     where
-      in-forest : headed n cursor ≡ true → Misplaced (rulesOf s) start cursor
-      in-forest h = by-option found (λ x. inr (none-unreached W _ x)) (λ p x. absurd (at-not-refused (rw (h, x) at e)))
+      not-named : isClosed (rulesOf s) r ≡ false → Misplaced (rulesOf s) start cursor
+      not-named c = inl (λ o. true≢false (sym (closed-walked (rulesOf s) r (o .names)) ∙ c))
 
-      not-headed : headed n cursor ≡ false → Misplaced (rulesOf s) start cursor
-      not-headed h =
+      in-forest : isClosed (rulesOf s) r ≡ true → headed n cursor ≡ true → Misplaced (rulesOf s) start cursor
+      in-forest c h =
+          by-option found
+          (λ x. inr (none-unreached (W (walked-closed (rulesOf s) r c)) _ x))
+          (λ p x. absurd (at-not-refused (rw (c, h, x) at e)))
+
+      not-headed : isClosed (rulesOf s) r ≡ true → headed n cursor ≡ false → Misplaced (rulesOf s) start cursor
+      not-headed c h =
           by-bool (leb (cellWords * (usedCells cursor + 1)) (cursorWords n))
-          (λ fits. inl (λ z. true≢false (sym (zeros-headed n cursor z (leb-true _ _ fits)) ∙ h)))
-          (λ long. inr (long-unreached W cursor (λ fits. true≢false (sym (le-leb _ _ fits) ∙ long))))
+          (λ fits. inl (λ o. true≢false (sym (zeros-headed n cursor (o .zeros) (leb-true _ _ fits)) ∙ h)))
+          (λ long. inr (long-unreached (W (walked-closed (rulesOf s) r c)) cursor (λ fits. true≢false (sym (le-leb _ _ fits) ∙ long))))
 
   misplaced-refused : Misplaced (rulesOf s) start cursor → placeJudged (rulesOf s) n start cursor ≡ Begun.refused Refusal.Place
-  unfolding placeJudged stored Misplaced
-  misplaced-refused m = by-bool (headed n cursor) (λ h. by-option found (λ x. rw (h, x)) (λ p x. absurd (⊎-elim (λ z. z (headed-zeros n cursor h .0)) (found-reached W _ p x) m))) (λ h. rw h)
+  unfolding placeJudged placeIn stored Misplaced
+  misplaced-refused m =
+      by-bool (isClosed (rulesOf s) r)
+      (λ c. by-bool (headed n cursor) (λ h. by-option found (λ x. rw (c, h, x)) (λ p x. absurd (⊎-elim (λ o. o (order c h)) (found-reached (W (walked-closed (rulesOf s) r c)) _ p x) m))) (λ h. rw (c, h)))
+      (λ c. rw c)
+    where
+      order : isClosed (rulesOf s) r ≡ true → headed n cursor ≡ true → InOrder (rulesOf s) start cursor
+      order c h = record { names = walked-closed (rulesOf s) r c; zeros = headed-zeros n cursor h .0 }
 
   -- an accepted plan's place is refused with 10 exactly when document 01 says so
   pub refused-by-letters : (placeJudged (rulesOf s) n start cursor ≡ Begun.refused Refusal.Place) ↔ Misplaced (rulesOf s) start cursor
@@ -128,3 +146,23 @@ module _ (s : List ℕ) (n start : ℕ) (cursor : List ℕ) (accepted : checked 
       let eq : b ≡ cond t (lettersJudged (firstOther (c .letters) 0) (placeJudged (rulesOf s) n start cursor)) (Begun.refused Refusal.Lent) = rw accepted in
       let last = judged-last t (firstOther (c .letters) 0) (placeJudged (rulesOf s) n start cursor) in
       (λ e. let h = last .0 (sym (ap walked eq) ∙ e) in (h .0, refused-misplaced (h .1)), λ h. ap walked eq ∙ last .1 (h .0, misplaced-refused (h .1)))
+
+  -- no cells are above the forest
+  above-found : usedCells cursor ≡ 0 → found ≡ some []
+  unfolding cellsIn pathOf
+  above-found k = rw k
+
+  -- "Above the forest means k = 0 in a cell 0 that 10 doesn't refuse": the definition says exactly that
+  pub above-exactly : Above (rulesOf s) start cursor ↔ ((usedCells cursor ≡ 0) × (placeJudged (rulesOf s) n start cursor ≢ Begun.refused Refusal.Place))
+  unfolding placeJudged placeIn stored Misplaced
+  above-exactly = (λ a. (a .none-used, passes a), λ h. record { none-used = h .0; in-order = in-order (h .1) })
+    where
+      passes : Above (rulesOf s) start cursor → placeJudged (rulesOf s) n start cursor ≢ Begun.refused Refusal.Place
+      passes a e =
+          ⊎-elim (λ o. o (a .in-order)) (found-reached (W (a .in-order .names)) _ [] (above-found (a .none-used))) (refused-misplaced e)
+
+      in-order : placeJudged (rulesOf s) n start cursor ≢ Begun.refused Refusal.Place → InOrder (rulesOf s) start cursor
+      in-order f =
+          by-bool (isClosed (rulesOf s) r)
+          (λ c. by-bool (headed n cursor) (λ h. record { names = walked-closed (rulesOf s) r c; zeros = headed-zeros n cursor h .0 }) (λ h. absurd (f (rw (c, h)))))
+          (λ c. absurd (f (rw c)))

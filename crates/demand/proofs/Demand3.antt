@@ -1,5 +1,5 @@
 -- Demand 3: over every list of walk calls on an accepted plan the answers are the finger's and the used cells are those of the
--- node where it stands. An accepted plan's forest is walkable, and on a walkable forest each call keeps the cursor at the finger's
+-- node where it stands. A closed rule's forest is walkable, and on a walkable forest each call keeps the cursor at the finger's
 -- path. What it says of letters after the calls it says of every key inside a next call. Assumes nothing.
 use Prim.Native.Nat.{ℕ, _*_, _≤_}
 use mathlib.Core.Path.{_≡_, ap, _∙_}
@@ -12,15 +12,14 @@ use Rattle.forest.specs.Forest.{Forest, forest}
 use Rattle.forest.specs.Place.{Placed, placedForest}
 use Rattle.forest.specs.Letter.{Letter, isRoot}
 use Rattle.forest.specs.Reference.{Path, pathAfter}
-use Rattle.forest.specs.Walk.{lettersOf, cellsIn, usedCells, placeAt}
+use Rattle.forest.specs.Walk.{lettersOf, cellsIn, usedCells, walkedRule, placeAt}
 use Rattle.forest.proofs.Steps.{pathAfter-append}
 use Rattle.demand.specs.Calls.{Call, Left, walkOf, cursorAfterCalls}
 use Rattle.demand.specs.Demand.{turnedDown, fingerPath, Above, SameButSixteen, Meets, Demand3}
 use Rattle.demand.proofs.Lists.{demanded}
-use Rattle.demand.proofs.Plans.{walkable}
 
 pub demand3 : Demand3 walkOf
-demand3 = demanded walkable
+demand3 = demanded
 
 -- inside a next call: l are its letters before the key c
 module _ {n : ℕ} {g : Forest ℕ} {G : Forest Placed} {down : Call → Bool} {calls : List Call} {ls : List Left} {first end : List ℕ} {p : Path}
@@ -40,8 +39,13 @@ path-end g down [] c p e = rw e
 path-end g down (d ∷ ds) c p e = path-end g down ds c (cond (down d) p (pathAfter g (lettersOf (d .letters)) p)) e
 
 -- "and a call that ends there leaves them": a call with the letters up to a key leaves the place after it
-pub ends-there : (s : List ℕ) (n start : ℕ) (cursor : List ℕ) (calls : List Call) (c : Call) → checked s ≡ Checked.Accepted n start → Above cursor → turnedDown n cursor c ≡ false
+pub ends-there : (s : List ℕ) (n start : ℕ) (cursor : List ℕ) (calls : List Call) (c : Call) → checked s ≡ Checked.Accepted n start
+    → Above (rulesOf s) start cursor → turnedDown n cursor c ≡ false
     → cellsIn (cursorAfterCalls walkOf s cursor (calls ++ (c ∷ []))) (usedCells (cursorAfterCalls walkOf s cursor (calls ++ (c ∷ []))))
-    ≡ placeAt (placedForest (rulesOf s) start) (pathAfter (forest (rulesOf s) start) (lettersOf (c .letters)) (fingerPath (forest (rulesOf s) start) (turnedDown n cursor) calls []))
+    ≡ placeAt (placedForest (rulesOf s) (walkedRule start cursor))
+    (pathAfter (forest (rulesOf s) (walkedRule start cursor)) (lettersOf (c .letters)) (fingerPath (forest (rulesOf s) (walkedRule start cursor)) (turnedDown n cursor) calls []))
 unfolding Demand3
-ends-there s n start cursor calls c e a d = demand3 s n start cursor (calls ++ (c ∷ [])) e a .stored ∙ ap (placeAt (placedForest (rulesOf s) start)) (path-end (forest (rulesOf s) start) (turnedDown n cursor) calls c [] d)
+ends-there s n start cursor calls c e a d =
+    let r = walkedRule start cursor in
+    demand3 s n start cursor (calls ++ (c ∷ [])) e a .stored
+    ∙ ap (placeAt (placedForest (rulesOf s) r)) (path-end (forest (rulesOf s) r) (turnedDown n cursor) calls c [] d)

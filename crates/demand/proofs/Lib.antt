@@ -13,3 +13,4 @@ pub mod ByLetters
 pub mod Demand3
 pub mod Replies
 pub mod OldLimit
+pub mod NamedRule

@@ -6,6 +6,7 @@ use mathlib.Core.Path.{_≡_, refl, ap, ap₂, _∙_}
 use mathlib.Core.Bool.{Bool, true, false, cond}
 use mathlib.Core.List.{List, [], _∷_, map}
 use mathlib.Core.Option.{Option, none, some}
+use Rattle.rule.specs.Sound.{Closed}
 use Rattle.refusal.specs.declared.Refusal.{Refusal}
 use Rattle.plan.specs.declared.Checked.{Checked}
 use Rattle.plan.specs.Check.{checked, rulesOf}
@@ -13,13 +14,12 @@ use Rattle.forest.specs.declared.Walked.{Walked}
 use Rattle.forest.specs.Forest.{Forest, forest}
 use Rattle.forest.specs.Place.{Placed, placedForest}
 use Rattle.forest.specs.Reference.{Path}
-use Rattle.forest.specs.Walk.{enoughLent, firstOther, Begun, lettersJudged, walked}
+use Rattle.forest.specs.Walk.{enoughLent, firstOther, walkedRule, Begun, lettersJudged, walked}
 use Rattle.demand.specs.Calls.{Left, Call, lent, walkOf, lefts}
 use Rattle.demand.specs.Demand.{Above}
-use Rattle.demand.proofs.Walkable.{Walkable, Stands}
+use Rattle.demand.proofs.Walkable.{Stands}
 use Rattle.demand.proofs.OneCall.{Came, begins, one-call}
 use Rattle.demand.proofs.Lists.{above-stands}
-use Rattle.demand.proofs.Plans.{walkable}
 
 -- 9 at the first byte that is no letter, or accepted
 unfoldable pub lettersReply : Option ℕ → Walked
@@ -40,34 +40,34 @@ begun-reply true none n r p = refl
 begun-reply true (some i) n r p = refl
 begun-reply false x n r p = refl
 
-module _ (s : List ℕ) (n start : ℕ) (first : List ℕ) (accepted : checked s ≡ Checked.Accepted n start)
-    (W : Walkable n (forest (rulesOf s) start) (placedForest (rulesOf s) start)) where
+module _ (s : List ℕ) (n start : ℕ) (first : List ℕ) (accepted : checked s ≡ Checked.Accepted n start) (r : ℕ)
+    (names : walkedRule start first ≡ r) (C : Closed (rulesOf s) r) where
   abbrev G : Forest Placed
-  G = placedForest (rulesOf s) start
+  G = placedForest (rulesOf s) r
 
   one-reply : (cursor : List ℕ) (p : Path) → Stands G first cursor p → (c : Call) → (walkOf (lent s cursor c)) .answer ≡ reply n first c
   unfolding walkOf lent reply
   one-reply cursor p S c =
-      ap walked (begins s n start first accepted W cursor p S c)
-      ∙ begun-reply (enoughLent (c .work) first (c .letters) (c .answers) n) (firstOther (c .letters) 0) n start p
+      ap walked (begins s n start first accepted r names C cursor p S c)
+      ∙ begun-reply (enoughLent (c .work) first (c .letters) (c .answers) n) (firstOther (c .letters) 0) n r p
 
   -- whatever a call comes to, the cursor stands at a node, or above the forest
   stands-after : {cursor : List ℕ} {p : Path} {c : Call} {l : Left} → Stands G first cursor p
-      → Came s n (forest (rulesOf s) start) G first cursor p c l → (q : Path) × Stands G first (l .cursor) q
-  stands-after {p = p} S (Came.turned d r k) = (p, rw k S)
-  stands-after S (Came.went d r T k w) = (_, T)
+      → Came s n (forest (rulesOf s) r) G first cursor p c l → (q : Path) × Stands G first (l .cursor) q
+  stands-after {p = p} S (Came.turned d f k) = (p, rw k S)
+  stands-after S (Came.went d f T k w) = (_, T)
 
   all-replies : (calls : List Call) (cursor : List ℕ) (p : Path) → Stands G first cursor p
       → map (λ (l : Left). l .answer) (lefts walkOf s cursor calls) ≡ map (reply n first) calls
   unfolding lefts
   all-replies [] cursor p S = refl
   all-replies (c ∷ cs) cursor p S =
-      let q = stands-after S (one-call s n start first accepted W cursor p S c) in
+      let q = stands-after S (one-call s n start first accepted r names C cursor p S c) in
       ap₂ _∷_ (one-reply cursor p S c) (all-replies cs _ (q .0) (q .1))
 
 -- of a list of calls on an accepted plan, the first cursor above the forest
-pub replies : (s : List ℕ) (n start : ℕ) (cursor : List ℕ) (calls : List Call) → checked s ≡ Checked.Accepted n start → Above cursor
+pub replies : (s : List ℕ) (n start : ℕ) (cursor : List ℕ) (calls : List Call) → checked s ≡ Checked.Accepted n start → Above (rulesOf s) start cursor
     → map (λ (l : Left). l .answer) (lefts walkOf s cursor calls) ≡ map (reply n cursor) calls
 replies s n start cursor calls e a =
-    let W = walkable s n start e in
-    all-replies s n start cursor e W calls cursor [] (above-stands s n start cursor e W a)
+    let C = a .in-order .names in
+    all-replies s n start cursor e (walkedRule start cursor) refl C calls cursor [] (above-stands s n start cursor e (walkedRule start cursor) refl C a)

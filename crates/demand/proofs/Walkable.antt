@@ -11,7 +11,7 @@ use Rattle.forest.specs.Relabel.{relabel}
 use Rattle.forest.specs.Place.{Placed}
 use Rattle.forest.specs.Letter.{Letter, isRoot}
 use Rattle.forest.specs.Reference.{Path, labelAt, moved}
-use Rattle.forest.specs.Walk.{nowhere, cellAt, cellsIn, placeAt}
+use Rattle.forest.specs.Walk.{nowhere, cellAt, cellsIn, ruleWord, placeAt}
 use Rattle.forest.proofs.Forget.{label}
 use Rattle.forest.proofs.Search.{Distinct}
 use Rattle.forest.specs.Position.{Named}
@@ -28,9 +28,9 @@ pub record Walkable (n : ℕ) (g : Forest ℕ) (G : Forest Placed) : Type 0 wher
   pub labels : (p : Path) (a : ℕ) → labelAt g p ≡ some a → a < nowhere
   pub near : (p : Path) (c : Letter) → Named G p → isRoot c ≡ false → SameButSixteen (placeAt G p) (placeAt G (moved G c p))
 
--- a cursor as long as the first one, at the node at path p
+-- a cursor as long as the first one and with its word 1, at the node at path p
 pub record Stands (G : Forest Placed) (first cursor : List ℕ) (p : Path) : Type 0 where
   pub named : Named G p
   pub same-length : length cursor ≡ length first
-  pub head : cellAt cursor 0 ≡ (length (placeAt G p), 0, 0, 0)
+  pub head : cellAt cursor 0 ≡ (length (placeAt G p), ruleWord first, 0, 0)
   pub cells : cellsIn cursor (length (placeAt G p)) ≡ placeAt G p

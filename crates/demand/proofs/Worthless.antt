@@ -1,5 +1,6 @@
--- Demand 3 rules out each worthless walker of document 01, and three more, so that every field of Meets that speaks of the walk shuts
--- one out: on the sample plan one call of two letters already breaks it, by computation. The fields `small` and `local` speak of the
+-- Demand 3 rules out each worthless walker of document 01, and some more, so that every field of Meets that speaks of the walk shuts
+-- one out: on the sample plan one call of two letters already breaks it, by computation; for those that go wrong by word 1 of cell 0
+-- (document 02, Note 10) from above the forest of a rule by its number. The fields `small` and `local` speak of the
 -- forms of cells, which no walker makes: each shuts out a worthless form. A spread that says 11 before measuring isn't the
 -- definition's. Assumes nothing.
 use Prim.Native.Nat.{ℕ, _+_, _≤_}
@@ -13,6 +14,8 @@ use Rattle.words.specs.Number.{number, bytes}
 use Rattle.refusal.specs.declared.Refusal.{Refusal}
 use Rattle.plan.specs.declared.Written.{Written}
 use Rattle.record.specs.Format.{highLength, mostLabel}
+use Rattle.rule.specs.Rule.{closed}
+use Rattle.rule.specs.Sound.{kindIn}
 use Rattle.reach.specs.Reaches.{lowestCycle, cycleFrom, reaches, within, anyNamed}
 use Rattle.judge.specs.Judge.{cycleJudged}
 use Rattle.plan.specs.Check.{checked, rulesOf}
@@ -24,11 +27,11 @@ use Rattle.forest.specs.Place.{Side, Cell, Cells, Placed, placedForest, firstCe
 use Rattle.forest.specs.Letter.{Letter, letterOf, isRoot}
 use Rattle.forest.specs.Reference.{labelAt, answers, pathAfter}
 use Rattle.forest.specs.Outcome.{enoughWork, workJudged, textRoomed, spreadFrom, spread}
-use Rattle.forest.specs.Walk.{answerLength, nowhere, cursorWords, enoughLent, andLetters, lettersOf, otherAt, firstOther, cellAt, cellsIn, usedCells, headed, sameCell, sameCells, firstOf, nodeWith, pathOf, stored, placeJudged, lettersJudged, begunFrom, begun, walked, cellsOf, placeAt, cellBytes, cellsBytes, padded, storedCursor, cursorAfter, answerWord, answersBytes, answersAfter, walkedWork}
+use Rattle.forest.specs.Walk.{answerLength, nowhere, cursorWords, enoughLent, andLetters, lettersOf, otherAt, firstOther, cellAt, cellsIn, usedCells, ruleWord, ruleNamed, walkedRule, isClosed, headed, sameCell, sameCells, firstOf, nodeWith, pathOf, stored, placeIn, placeJudged, lettersJudged, begunFrom, begun, walked, cellsOf, placeAt, cellBytes, cellsBytes, padded, storedCursor, cursorAfter, answerWord, answersBytes, answersAfter, walkedWork}
 use Rattle.forest.specs.Sample.{sample}
 use Rattle.forest.proofs.Starred.{starred}
 use Rattle.demand.specs.Calls.{Lent, Left, Walk, Call, walkOf, lent, lefts, cursorAfterCalls}
-use Rattle.demand.specs.Demand.{turnedDown, isNone, isRefused, fingerPath, fingerAnswers, answerWords, walkAnswers, Above, someAccepted, ClearPast, SameButSixteen, laterWords, Meets, Demand3}
+use Rattle.demand.specs.Demand.{turnedDown, isNone, isRefused, fingerPath, fingerAnswers, answerWords, walkAnswers, someAccepted, ClearPast, SameButSixteen, laterWords, Meets, Demand3}
 
 -- some words, all alike, in front of a walk's answers
 alike : ℕ → ℕ → List ℕ → List ℕ
@@ -80,7 +83,29 @@ junkPast = spoils 287 1
 
 -- one that changes a later word of cell 0: `later`
 pub laterWord : Walk
-laterWord = spoils 2 1
+laterWord = spoils 4 1
+
+-- one that drops the word that names the walked rule: `later`
+pub dropsWord : Walk
+dropsWord = spoils 2 0
+
+-- a walk as if word 1 were another, which is then put back
+withWord : ℕ → List ℕ → List ℕ
+withWord w cursor = take 2 cursor ++ (w ∷ 0 ∷ drop 4 cursor)
+
+asNamed : (ℕ → ℕ) → Walk
+asNamed f l =
+    let word = ruleWord (l .cursor) in
+    let there = walkOf (record { plan = l .plan; work = l .work; cursor = withWord (f word) (l .cursor); letters = l .letters; answers = l .answers }) in
+    other there (there .answers) (withWord word (there .cursor))
+
+-- one that walks the start rule whatever the word: `answered`
+pub ignoresWord : Walk
+ignoresWord = asNamed (λ w. 0)
+
+-- one that takes the word for the rule's number, without minus one: `answered`
+pub takesNext : Walk
+takesNext = asNamed (λ w. w + 1)
 
 -- a form of cells for the sample plan's nodes, each of m cells with its label
 pub alikeCells : ℕ → Forest Placed
@@ -97,10 +122,27 @@ call = record { work = replicate 512 0; letters = 97 ∷ 102 ∷ []; answers = r
 first : List ℕ
 first = replicate 288 0
 
--- what demand 3 says of that call
-said : (w : Walk) → Demand3 w → Meets 8 (forest (rulesOf sample) 7) (placedForest (rulesOf sample) 7) (turnedDown 8 first) (call ∷ []) (lefts w sample first (call ∷ [])) first (cursorAfterCalls w sample first (call ∷ [])) (fingerPath (forest (rulesOf sample) 7) (turnedDown 8 first) (call ∷ []) [])
-unfolding Demand3 Above cellAt number first
-said w d = d sample 8 7 first (call ∷ []) (starred .accepted) refl
+-- above the forest of rule 2, the entry b alone, by its number plus one
+one-rule : List ℕ
+one-rule = 0 ∷ 0 ∷ 3 ∷ replicate 285 0
+
+-- what demand 3 says of that call from above a rule's forest
+Said : Walk → ℕ → List ℕ → Type 0
+Said w r cursor =
+    Meets 8 (forest (rulesOf sample) r) (placedForest (rulesOf sample) r) (turnedDown 8 cursor) (call ∷ []) (lefts w sample cursor (call ∷ [])) cursor
+    (cursorAfterCalls w sample cursor (call ∷ [])) (fingerPath (forest (rulesOf sample) r) (turnedDown 8 cursor) (call ∷ []) [])
+
+said : (w : Walk) → Demand3 w → Said w 7 first
+unfolding Demand3 Said checked rulesOf closed kindIn usedCells ruleWord ruleNamed walkedRule cellAt number highLength mostLabel first
+said w d =
+    d sample 8 7 first (call ∷ []) (starred .accepted)
+    (record { none-used = refl; in-order = record { names = record { below = omega arith; closed-kind = tt }; zeros = refl } })
+
+said-by-number : (w : Walk) → Demand3 w → Said w 2 one-rule
+unfolding Demand3 Said checked rulesOf closed kindIn usedCells ruleWord ruleNamed walkedRule cellAt number highLength mostLabel one-rule
+said-by-number w d =
+    d sample 8 7 one-rule (call ∷ []) (starred .accepted)
+    (record { none-used = refl; in-order = record { names = record { below = omega arith; closed-kind = tt }; zeros = refl } })
 
 -- what demand 3 would say of another form of cells, with no call made
 pub Formed : Forest Placed → Type 0
@@ -132,13 +174,16 @@ pub record Worthless : Type 0 where
   pub wrong-cell : Demand3 wrongCell → ⊥
   pub junk-past : Demand3 junkPast → ⊥
   pub later-word : Demand3 laterWord → ⊥
+  pub word-dropped : Demand3 dropsWord → ⊥
+  pub word-ignored : Demand3 ignoresWord → ⊥
+  pub next-taken : Demand3 takesNext → ⊥
   -- forms of 25 cells, which n = 8 rules don't allow: `small`; forms of 17 that all change with a letter: `local`
   pub long-form : Formed (alikeCells 25) → ⊥
   pub moving-form : Formed (alikeCells 17) → ⊥
   pub room-first : roomFirst ≢ spread
 
 pub worthless : Worthless
-unfolding Formed alikeCells relabel firstCells isRoot SameButSixteen repeats ownCount stays says refuses spoils wrongCell junkPast laterWord roomFirst weigh text workJudged textRoomed spreadFrom spread someAccepted ClearPast laterWords cursorAfterCalls other alike firstOnly call first walkOf lent lefts fingerPath fingerAnswers walkAnswers answerWords isRefused turnedDown isNone checked highLength mostLabel lowestCycle cycleFrom reaches within anyNamed cycleJudged rulesOf number bytes inFront forest placedForest letterOf labelAt answers pathAfter enoughWork cursorWords enoughLent andLetters lettersOf otherAt firstOther cellAt cellsIn usedCells headed sameCell sameCells firstOf nodeWith pathOf stored placeJudged lettersJudged begunFrom begun walked cellsOf placeAt cellBytes cellsBytes padded storedCursor cursorAfter answerWord answersBytes answersAfter walkedWork
+unfolding dropsWord ignoresWord takesNext asNamed withWord one-rule Said closed kindIn ruleWord ruleNamed walkedRule isClosed placeIn Formed alikeCells relabel firstCells isRoot SameButSixteen repeats ownCount stays says refuses spoils wrongCell junkPast laterWord roomFirst weigh text workJudged textRoomed spreadFrom spread someAccepted ClearPast laterWords cursorAfterCalls other alike firstOnly call first walkOf lent lefts fingerPath fingerAnswers walkAnswers answerWords isRefused turnedDown isNone checked highLength mostLabel lowestCycle cycleFrom reaches within anyNamed cycleJudged rulesOf number bytes inFront forest placedForest letterOf labelAt answers pathAfter enoughWork cursorWords enoughLent andLetters lettersOf otherAt firstOther cellAt cellsIn usedCells headed sameCell sameCells firstOf nodeWith pathOf stored placeJudged lettersJudged begunFrom begun walked cellsOf placeAt cellBytes cellsBytes padded storedCursor cursorAfter answerWord answersBytes answersAfter walkedWork
 worthless =
     record {
       first-repeated = λ d. let e : _≡_ {A = ℕ} 99 97 = ap (λ (l : List ℕ). getD l 1 0) (said repeats d .answered) in omega arith;
@@ -150,7 +195,10 @@ worthless =
       always-refused = λ d. absurd (true≢false (ap (firstBool) (said refuses d .refused)));
       wrong-cell = λ d. let e : _≡_ {A = ℕ} 8 7 = ap (λ (l : Cells). (firstCell l) .2) (said wrongCell d .stored) in omega arith;
       junk-past = λ d. let e : _≡_ {A = ℕ} 1 0 = ap (λ (l : List ℕ). getD l 223 0) (said junkPast d .clear refl) in omega arith;
-      later-word = λ d. let e : _≡_ {A = ℕ} 1 0 = ap (λ (x : ℕ × ℕ × ℕ). x .0) (said laterWord d .later) in omega arith;
+      later-word = λ d. let e : _≡_ {A = ℕ} 1 0 = ap (λ (x : ℕ × ℕ × ℕ). x .1) (said laterWord d .later) in omega arith;
+      word-dropped = λ d. let e : _≡_ {A = ℕ} 0 3 = ap (λ (x : ℕ × ℕ × ℕ). x .0) (said-by-number dropsWord d .later) in omega arith;
+      word-ignored = λ d. let e : _≡_ {A = ℕ} 99 98 = ap (λ (l : List ℕ). getD l 0 0) (said-by-number ignoresWord d .answered) in omega arith;
+      next-taken = λ d. let e : _≡_ {A = ℕ} 97 98 = ap (λ (l : List ℕ). getD l 0 0) (said-by-number takesNext d .answered) in omega arith;
       long-form = λ m. let e : 25 ≤ 24 = m .small (Letter.root Side.left ∷ []) in omega arith;
       moving-form = λ m. let e : _≡_ {A = ℕ} 99 97 = ap (λ (l : Cells). (firstCell l) .0) (m .local (Letter.root Side.left ∷ []) (Letter.child Side.left) refl) in omega arith;
       room-first = λ e. let h : _≡_ {A = ℕ} 0 33 = ap (λ (f : List ℕ → List ℕ → List ℕ → Written). lengthGiven (f sample (replicate 512 0) (replicate 33 0))) e in omega arith;

@@ -7,6 +7,8 @@ use mathlib.Core.List.{List, [], _∷_, _++_, map}
 use mathlib.Core.Option.{Option, none, some}
 use lib.ListN.{length, take, drop, replicate}
 use Rattle.words.specs.Number.{number}
+use Rattle.rule.specs.declared.Rule.{Rule}
+use Rattle.rule.specs.Sound.{Closed}
 use Rattle.plan.specs.declared.Checked.{Checked}
 use Rattle.record.specs.Record.{wordLength}
 use Rattle.plan.specs.Check.{checked, rulesOf}
@@ -15,7 +17,7 @@ use Rattle.forest.specs.Forest.{Forest, forest}
 use Rattle.forest.specs.Place.{Cells, Placed, placedForest, firstCells}
 use Rattle.forest.specs.Letter.{Letter, isRoot}
 use Rattle.forest.specs.Reference.{Path, moved, answers, pathAfter}
-use Rattle.forest.specs.Walk.{answerLength, cellLength, cursorWords, enoughLent, firstOther, lettersOf, cellAt, cellsIn, usedCells, placeAt, answerWord}
+use Rattle.forest.specs.Walk.{answerLength, cellLength, cursorWords, enoughLent, firstOther, lettersOf, cellAt, cellsIn, usedCells, ruleWord, walkedRule, placeAt, answerWord}
 use Rattle.demand.specs.Calls.{Walk, Call, Left, lefts, cursorAfterCalls}
 
 unfoldable pub isNone : Option ℕ → Bool
@@ -57,10 +59,20 @@ walkAnswers [] ls = []
 walkAnswers (c ∷ cs) [] = []
 walkAnswers (c ∷ cs) (l ∷ ls) = cond (isRefused (l .answer)) (walkAnswers cs ls) (answerWords (length (c .letters)) (l .answers) 0 ++ walkAnswers cs ls)
 
+-- a cell 0 that 10 doesn't refuse: word 1 names a rule to walk, and "words 2 and 3 must still be 0" (document 02, Note 10)
+pub record InOrder (R : List Rule) (start : ℕ) (cursor : List ℕ) : Type 0 where
+  pub names : Closed R (walkedRule start cursor)
+  pub zeros : cellAt cursor 0 ≡ (usedCells cursor, ruleWord cursor, 0, 0)
+
 -- "Above the forest means k = 0 in a cell 0 that 10 doesn't refuse."
-unfoldable pub Above : List ℕ → Type 0
+pub record Above (R : List Rule) (start : ℕ) (cursor : List ℕ) : Type 0 where
+  pub none-used : usedCells cursor ≡ 0
+  pub in-order : InOrder R start cursor
+
+-- above the start rule's forest with word 1 zero, as a cursor of zeros is
+unfoldable pub AboveStart : List ℕ → Type 0
 unfolding cellAt
-Above cursor = cellAt cursor 0 ≡ (0, 0, 0, 0)
+AboveStart cursor = cellAt cursor 0 ≡ (0, 0, 0, 0)
 
 -- "if any call was accepted"
 unfoldable pub someAccepted : List Left → Bool
@@ -94,7 +106,7 @@ pub record Meets (n : ℕ) (g : Forest ℕ) (G : Forest Placed) (down : Call →
   -- "After the list, k and cells 1 to k are those of the node at the finger's path, k being 0 for the empty path"
   pub used : usedCells end ≡ length (placeAt G p)
   pub stored : cellsIn end (usedCells end) ≡ placeAt G p
-  -- "Cell 0 holds the number k of used cells, then three zeros": the later words are those of the first cursor
+  -- "The word stays through every walk; words 2 and 3 must still be 0" (document 02, Note 10): the later words are those of the first cursor
   pub later : laterWords end ≡ laterWords first
   -- "if any call was accepted, cells past k, up to 16 × (n + 1) words, are zero"
   pub clear : someAccepted ls ≡ true → ClearPast n (usedCells end) end
@@ -104,15 +116,16 @@ pub record Meets (n : ℕ) (g : Forest ℕ) (G : Forest Placed) (down : Call →
   -- "For a single letter other than a or z .. cells 1 to m − 16 are then the same before and after."
   pub local : (cs : List Letter) (c : Letter) → isRoot c ≡ false → SameButSixteen (placeAt G (pathAfter g cs p)) (placeAt G (moved g c (pathAfter g cs p)))
 
--- Demand 3: over every list of calls on an accepted plan, the first cursor above the forest
+-- Demand 3: over every list of calls on an accepted plan, the first cursor above the forest. "From then on the forest walked, also by
+-- the finger of demand 3, and the places reachable, are those of that rule" (document 02, Note 10)
 unfoldable pub Demand3 : Walk → Type 0
-unfolding Above turnedDown fingerPath lefts cursorAfterCalls forest placedForest
+unfolding walkedRule turnedDown fingerPath lefts cursorAfterCalls forest placedForest
 Demand3 w =
     (plan : List ℕ) (n start : ℕ) (cursor : List ℕ) (calls : List Call)
     → checked plan ≡ Checked.Accepted n start
-    → Above cursor
-    → Meets n (forest (rulesOf plan) start) (placedForest (rulesOf plan) start) (turnedDown n cursor) calls
+    → Above (rulesOf plan) start cursor
+    → Meets n (forest (rulesOf plan) (walkedRule start cursor)) (placedForest (rulesOf plan) (walkedRule start cursor)) (turnedDown n cursor) calls
     (lefts w plan cursor calls)
     cursor
     (cursorAfterCalls w plan cursor calls)
-    (fingerPath (forest (rulesOf plan) start) (turnedDown n cursor) calls [])
+    (fingerPath (forest (rulesOf plan) (walkedRule start cursor)) (turnedDown n cursor) calls [])

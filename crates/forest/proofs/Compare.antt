@@ -18,12 +18,13 @@ use Rattle.forest.specs.declared.Compared.{Compared}
 use Rattle.forest.specs.Forest.{Forest, forest, weigh, one}
 use Rattle.forest.specs.Place.{Cells, Placed, placedForest}
 use Rattle.forest.specs.Reference.{Path, top, nodeAt, labelAt}
-use Rattle.forest.specs.Walk.{Begun, refused, at, cellsIn, usedCells, headed, pathOf, stored, placeAt, cellsOf, placeJudged}
+use Rattle.forest.specs.Walk.{Begun, refused, at, cellsIn, usedCells, pathOf, placeAt, cellsOf, placeJudged}
 use Rattle.forest.specs.Compare.{listed, sameNode, Found, found, firstTree, subtreeAt, pairsFound, within, nodeJudged, comparedAt, enoughCompared, comparedFrom, compare}
 use Rattle.forest.proofs.Cases.{by-bool}
 use Rattle.forest.proofs.Forget.{label, placedForest-forgets}
 use Rattle.forest.proofs.Relabel.{labelAt-relabel}
 use Rattle.forest.proofs.Search.{path-cells}
+use Rattle.forest.proofs.WalkedRule.{judged-holds}
 
 -- a same or a differ
 unfoldable pub settled : Compared → Bool
@@ -124,21 +125,21 @@ module _ (s work first second : List ℕ) (b c : ℕ) (l : b ≤ c) where
   unfolding compare
   larger h = larger-from (checked s) h
 
--- a plan that is accepted, with enough lent, and two cursors that stand at the nodes at p and q
-pub record Comparable (s work first second : List ℕ) (n r : ℕ) (p q : Path) : Type 0 where
-  pub accepted : checked s ≡ Checked.Accepted n r
+-- a plan that is accepted, with enough lent, and two cursors that stand at the nodes at p of rule r's forest and at q of rule t's
+pub record Comparable (s work first second : List ℕ) (n start r t : ℕ) (p q : Path) : Type 0 where
+  pub accepted : checked s ≡ Checked.Accepted n start
   pub lent : enoughCompared work first second n ≡ true
-  pub one : nodeJudged (placeJudged (rulesOf s) n r first) ≡ at n r p
-  pub two : nodeJudged (placeJudged (rulesOf s) n r second) ≡ at n r q
+  pub one : nodeJudged (placeJudged (rulesOf s) n start first) ≡ at n r p
+  pub two : nodeJudged (placeJudged (rulesOf s) n start second) ≡ at n t q
 
-module _ {s work first second : List ℕ} {n r : ℕ} {p q : Path} (h : Comparable s work first second n r p q) (b : ℕ) where
+module _ {s work first second : List ℕ} {n start r t : ℕ} {p q : Path} (h : Comparable s work first second n start r t p q) (b : ℕ) where
   -- then the answer is the budget's
-  pub compares : compare s work first second b ≡ within b (pairsFound (subtreeAt (forest (rulesOf s) r) p) (subtreeAt (forest (rulesOf s) r) q))
+  pub compares : compare s work first second b ≡ within b (pairsFound (subtreeAt (forest (rulesOf s) r) p) (subtreeAt (forest (rulesOf s) t) q))
   unfolding compare comparedFrom comparedAt
   compares = rw (h .accepted, h .lent, h .one, h .two)
 
-  pub spent-exactly : (compare s work first second b ≡ Compared.Spent b) ↔ (b < (pairsFound (subtreeAt (forest (rulesOf s) r) p) (subtreeAt (forest (rulesOf s) r) q)) .1)
-  spent-exactly = rw compares (within-spent-exactly b (pairsFound (subtreeAt (forest (rulesOf s) r) p) (subtreeAt (forest (rulesOf s) r) q)))
+  pub spent-exactly : (compare s work first second b ≡ Compared.Spent b) ↔ (b < (pairsFound (subtreeAt (forest (rulesOf s) r) p) (subtreeAt (forest (rulesOf s) t) q)) .1)
+  spent-exactly = rw compares (within-spent-exactly b (pairsFound (subtreeAt (forest (rulesOf s) r) p) (subtreeAt (forest (rulesOf s) t) q)))
 
 -- a path that is judged is that of a node of the forest
 judged-at : (x : Begun) (n r : ℕ) (p : Path) → nodeJudged x ≡ at n r p → (x ≡ at n r p) × (p ≡ [] → ⊥)
@@ -146,16 +147,6 @@ unfolding nodeJudged
 judged-at (refused x) n r p e = (cc, λ q. let z : _≡_ {A = ℕ} 0 1 = cc in omega arith)
 judged-at (at m t []) n r p e = (cc, λ q. let z : _≡_ {A = ℕ} 0 1 = cc in omega arith)
 judged-at (at m t (i ∷ o)) n r p e = (e, λ q. let z : _≡_ {A = ℕ} 0 1 = cc in omega arith)
-
-judged-path : (R : List Rule) (n r : ℕ) (cursor : List ℕ) (p : Path) → placeJudged R n r cursor ≡ at n r p
-    → pathOf (placedForest R r) (cellsIn cursor (usedCells cursor)) ≡ some p
-unfolding placeJudged stored
-judged-path R n r cursor p e = go (headed n cursor) (pathOf (placedForest R r) (cellsIn cursor (usedCells cursor))) e
-  where
-    go : (t : Bool) (x : Option Path) → cond t (stored n r x) (refused Refusal.Place) ≡ at n r p → x ≡ some p
-    go true none g = cc
-    go true (some q) g = cc
-    go false x g = cc
 
 path-node : (G : Forest Placed) (cs : Cells) (p : Path) → pathOf G cs ≡ some p → (p ≡ [] → ⊥) → (a : Placed) × (labelAt G p ≡ some a)
 unfolding pathOf placeAt cellsOf
@@ -166,11 +157,11 @@ path-node G (c ∷ cs) p e f = go (labelAt G p) refl (path-cells G (c ∷ cs) p 
     go none u g = absurd (let h : [] ≡ c ∷ cs = sym (ap cellsOf u) ∙ g in let z : _≡_ {A = ℕ} 0 1 = cc in omega arith)
     go (some a) u g = (a, u)
 
-pub judged-node : (R : List Rule) (n r : ℕ) (cursor : List ℕ) (p : Path) → nodeJudged (placeJudged R n r cursor) ≡ at n r p
+pub judged-node : (R : List Rule) (n start r : ℕ) (cursor : List ℕ) (p : Path) → nodeJudged (placeJudged R n start cursor) ≡ at n r p
     → (a : ℕ) × (labelAt (forest R r) p ≡ some a)
-judged-node R n r cursor p e =
-    let j = judged-at (placeJudged R n r cursor) n r p e in
-    let x = path-node (placedForest R r) (cellsIn cursor (usedCells cursor)) p (judged-path R n r cursor p (j .0)) (j .1) in (
+judged-node R n start r cursor p e =
+    let j = judged-at (placeJudged R n start cursor) n r p e in
+    let x = path-node (placedForest R r) (cellsIn cursor (usedCells cursor)) p (judged-holds R n start n r cursor p (j .0) .leads) (j .1) in (
       (x .0) .0,
       ap (λ (g : Forest ℕ). labelAt g p) (sym (placedForest-forgets R r))
           ∙ labelAt-relabel label (placedForest R r) p
@@ -198,11 +189,11 @@ pairs-least g f p a e =
     rw (h .1) (found-least (a, 0) (h .0) (listed 0 f))
 
 -- a budget of 0 is always spent
-pub spent-zero : {s work first second : List ℕ} {n r : ℕ} {p q : Path} → Comparable s work first second n r p q
+pub spent-zero : {s work first second : List ℕ} {n start r t : ℕ} {p q : Path} → Comparable s work first second n start r t p q
     → compare s work first second 0 ≡ Compared.Spent 0
-spent-zero {s} {first = first} {n = n} {r = r} {p = p} {q = q} h =
-    let a = judged-node (rulesOf s) n r first p (h .one) in
-    spent-exactly h 0 .1 (pairs-least (forest (rulesOf s) r) (subtreeAt (forest (rulesOf s) r) q) p (a .0) (a .1))
+spent-zero {s} {first = first} {n = n} {start = start} {r = r} {t = t} {p = p} {q = q} h =
+    let a = judged-node (rulesOf s) n start r first p (h .one) in
+    spent-exactly h 0 .1 (pairs-least (forest (rulesOf s) r) (subtreeAt (forest (rulesOf s) t) q) p (a .0) (a .1))
 
 -- a list agrees with itself, to its end
 node-same : (x : ℕ × ℕ) → sameNode x x ≡ true
@@ -215,7 +206,7 @@ found-same [] = refl
 found-same (x ∷ xs) = rw (node-same x, found-same xs)
 
 -- the same place twice is the same, or spent
-pub compares-same : {s work cursor : List ℕ} {n r : ℕ} {p : Path} → Comparable s work cursor cursor n r p p → (b : ℕ)
+pub compares-same : {s work cursor : List ℕ} {n start r : ℕ} {p : Path} → Comparable s work cursor cursor n start r r p p → (b : ℕ)
     → (compare s work cursor cursor b ≡ Compared.Same (length (listed 0 (subtreeAt (forest (rulesOf s) r) p)))) ⊎ (compare s work cursor cursor b ≡ Compared.Spent b)
 unfolding pairsFound
 compares-same {s} {r = r} {p = p} h b =

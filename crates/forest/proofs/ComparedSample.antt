@@ -10,7 +10,8 @@ use Rattle.words.specs.Front.{inFront}
 use Rattle.record.specs.declared.Format.{Format}
 use Rattle.record.specs.Format.{highLength, mostLabel}
 use Rattle.rule.specs.declared.Rule.{Rule}
-use Rattle.rule.specs.Rule.{encode}
+use Rattle.rule.specs.Rule.{encode, closed}
+use Rattle.rule.specs.Sound.{kindIn}
 use Rattle.refusal.specs.declared.Refusal.{Refusal}
 use Rattle.reach.specs.Reaches.{lowestCycle, cycleFrom, reaches, within as within-steps, anyNamed}
 use Rattle.judge.specs.Judge.{cycleJudged}
@@ -21,7 +22,7 @@ use Rattle.forest.specs.Place.{placedForest}
 use Rattle.forest.specs.Reference.{Path, nodeAt, labelAt}
 use Rattle.forest.specs.Sample.{sample}
 use Rattle.forest.specs.Outcome.{enoughWork}
-use Rattle.forest.specs.Walk.{cursorWords, cellAt, cellsIn, usedCells, headed, sameCell, sameCells, firstOf, nodeWith, pathOf, stored, placeJudged, cellsOf, placeAt, cellBytes, cellsBytes, padded, storedCursor}
+use Rattle.forest.specs.Walk.{cursorWords, cellAt, cellsIn, usedCells, ruleWord, ruleNamed, walkedRule, isClosed, headed, sameCell, sameCells, firstOf, nodeWith, pathOf, stored, placeIn, placeJudged, cellsOf, placeAt, cellBytes, cellsBytes, padded, storedCursor}
 use Rattle.forest.specs.Compare.{listed, sameNode, found, firstTree, subtreeAt, pairsFound, within, nodeJudged, comparedAt, enoughCompared, comparedFrom, compare}
 use Rattle.forest.proofs.Compare.{Comparable}
 
@@ -33,7 +34,7 @@ abbrev above : List ℕ
 above = replicate 288 0
 
 abbrev cursor : List ℕ → ℕ → Path → List ℕ
-cursor s r p = storedCursor 8 (placeAt (placedForest (rulesOf s) r) p) above
+cursor s r p = storedCursor 8 0 (placeAt (placedForest (rulesOf s) r) p) above
 
 -- the first c, the c below it, the last of its entries b, and the root b
 abbrev root : List ℕ
@@ -47,6 +48,10 @@ last-below = cursor sample 7 (4 ∷ 1 ∷ [])
 
 abbrev last-root : List ℕ
 last-root = cursor sample 7 (3 ∷ [])
+
+-- the entries a and b of rule 3, walked by its number
+abbrev by-number : Path → List ℕ
+by-number p = storedCursor 8 4 (placeAt (placedForest (rulesOf sample) 3) p) above
 
 -- a(a): an entry over one like it
 abbrev nested : List ℕ
@@ -78,6 +83,10 @@ pub record ComparedSample : Type 0 where
   pub same-spent : compare sample work root root 8 ≡ Compared.Spent 8
   -- two places that carry the same
   pub same-elsewhere : compare sample work last-below last-root 1 ≡ Compared.Same 1
+  -- document 02, Note 10: each cursor has its own word 1, here b and a of rule 3 with b of the start rule
+  pub same-by-number : compare sample work (by-number (2 ∷ [])) last-root 1 ≡ Compared.Same 1
+  pub differ-by-number : compare sample work (by-number (1 ∷ [])) last-root 1 ≡ Compared.Differ 1
+  pub second-by-number : compare sample work last-root (by-number (1 ∷ [])) 1 ≡ Compared.Differ 1
   -- c a b c .. against c a b a ..: the fourth pair differs
   pub differ : compare sample work root inner 4 ≡ Compared.Differ 4
   pub differ-spent : compare sample work root inner 3 ≡ Compared.Spent 3
@@ -93,16 +102,20 @@ pub record ComparedSample : Type 0 where
   pub short-second : compare sample work root (take 287 root) 9 ≡ Compared.Refused Refusal.Lent
   pub short-before-above : compare sample work above (take 287 root) 9 ≡ Compared.Refused Refusal.Lent
   -- what the theorems on compare ask
-  pub comparable : Comparable sample work root inner 8 7 (1 ∷ []) (3 ∷ 1 ∷ [])
-  pub comparable-same : Comparable sample work root root 8 7 (1 ∷ []) (1 ∷ [])
+  pub comparable : Comparable sample work root inner 8 7 7 7 (1 ∷ []) (3 ∷ 1 ∷ [])
+  pub comparable-rules : Comparable sample work (by-number (2 ∷ [])) last-root 8 7 3 7 (2 ∷ []) (3 ∷ [])
+  pub comparable-same : Comparable sample work root root 8 7 7 7 (1 ∷ []) (1 ∷ [])
 
 pub compared-sample : ComparedSample
-unfolding planBytes encode highLength mostLabel rulesOf checked lowestCycle cycleFrom reaches within-steps anyNamed cycleJudged bytes number enoughWork inFront labelAt nodeAt placedForest forest cursorWords cellAt cellsIn usedCells headed sameCell sameCells firstOf nodeWith pathOf stored placeJudged cellsOf placeAt cellBytes cellsBytes padded storedCursor listed sameNode found firstTree subtreeAt pairsFound within nodeJudged comparedAt enoughCompared comparedFrom compare
+unfolding planBytes encode highLength mostLabel rulesOf checked lowestCycle cycleFrom reaches within-steps anyNamed cycleJudged bytes number enoughWork inFront labelAt nodeAt placedForest forest cursorWords cellAt cellsIn usedCells closed kindIn ruleWord ruleNamed walkedRule isClosed headed sameCell sameCells firstOf nodeWith pathOf stored placeIn placeJudged cellsOf placeAt cellBytes cellsBytes padded storedCursor listed sameNode found firstTree subtreeAt pairsFound within nodeJudged comparedAt enoughCompared comparedFrom compare
 compared-sample =
     record {
       same = refl;
       same-spent = refl;
       same-elsewhere = refl;
+      same-by-number = refl;
+      differ-by-number = refl;
+      second-by-number = refl;
       differ = refl;
       differ-spent = refl;
       level-differs = refl;
@@ -113,5 +126,6 @@ compared-sample =
       short-second = refl;
       short-before-above = refl;
       comparable = record { accepted = refl; lent = refl; one = refl; two = refl };
+      comparable-rules = record { accepted = refl; lent = refl; one = refl; two = refl };
       comparable-same = record { accepted = refl; lent = refl; one = refl; two = refl };
     }

@@ -117,12 +117,12 @@ forests-same-exactly f g k =
 
 -- so at two nodes: same exactly if their subtrees are equal, with the number of their nodes; differ exactly at the place of the first pair
 -- that differs; and both only up to the budget
-module _ {s work first second : List ℕ} {n r : ℕ} {p q : Path} (h : Comparable s work first second n r p q) (b k : ℕ) where
+module _ {s work first second : List ℕ} {n start r t : ℕ} {p q : Path} (h : Comparable s work first second n start r t p q) (b k : ℕ) where
   abbrev one-tree : Forest ℕ
   one-tree = subtreeAt (forest (rulesOf s) r) p
 
   abbrev two-tree : Forest ℕ
-  two-tree = subtreeAt (forest (rulesOf s) r) q
+  two-tree = subtreeAt (forest (rulesOf s) t) q
 
   pub compares-same-exactly : (compare s work first second b ≡ Compared.Same k) ↔ ((one-tree ≡ two-tree) × (k ≡ weigh one one-tree) × (k ≤ b))
   compares-same-exactly =

@@ -27,6 +27,7 @@ pub mod Covered
 pub mod Subtrees
 pub mod Reasons
 pub mod Search
+pub mod WalkedRule
 pub mod Listed
 pub mod Compare
 pub mod Found

@@ -6,6 +6,7 @@ use mathlib.Core.Path.{_≡_, refl}
 use mathlib.Core.Logic.{_≢_}
 use mathlib.Core.List.{List}
 use mathlib.Core.Option.{Option, none, some}
+use lib.ListN.{length}
 use Rattle.rule.specs.Rule.{largestLabel}
 use Rattle.plan.specs.declared.Checked.{Checked}
 use Rattle.plan.specs.Check.{checked, rulesOf}
@@ -27,18 +28,19 @@ unfolding answerWord
 word-label none h e = refl
 word-label (some a) h e = absurd (let b = h a refl in omega arith)
 
-module _ (s : List ℕ) (n start : ℕ) (accepted : checked s ≡ Checked.Accepted n start) where
-  pub label-below : (p : Path) (a : ℕ) → labelAt (forest (rulesOf s) start) p ≡ some a → a < nowhere
+-- in the forest of any rule of the plan
+module _ (s : List ℕ) (n start : ℕ) (accepted : checked s ≡ Checked.Accepted n start) (r : ℕ) (below : r < length (rulesOf s)) where
+  pub label-below : (p : Path) (a : ℕ) → labelAt (forest (rulesOf s) r) p ≡ some a → a < nowhere
   label-below p a e =
       let P = checked-plan s n start accepted in
-      let most = each-labelAt (λ (x : ℕ). x ≤ largestLabel) (forest (rulesOf s) start) p a (forest-labels (P .sound) start (P .ends .below)) e in
+      let most = each-labelAt (λ (x : ℕ). x ≤ largestLabel) (forest (rulesOf s) r) p a (forest-labels (P .sound) r below) e in
       below-nowhere a (omega arith)
 
-  pub label-not-nowhere : (p : Path) → labelAt (forest (rulesOf s) start) p ≢ some nowhere
+  pub label-not-nowhere : (p : Path) → labelAt (forest (rulesOf s) r) p ≢ some nowhere
   label-not-nowhere p e = let b = label-below p nowhere e in omega arith
 
   -- the word that a letter is answered with is that for nowhere only where it leads nowhere
-  pub word-nowhere : (c : Letter) (p : Path) → answerWord (answer (forest (rulesOf s) start) c p) ≡ nowhere → answer (forest (rulesOf s) start) c p ≡ none
+  pub word-nowhere : (c : Letter) (p : Path) → answerWord (answer (forest (rulesOf s) r) c p) ≡ nowhere → answer (forest (rulesOf s) r) c p ≡ none
   word-nowhere c p =
-      word-label (answer (forest (rulesOf s) start) c p)
-      (λ a e. label-below (moved (forest (rulesOf s) start) c p) a (answer-label (forest (rulesOf s) start) c p e))
+      word-label (answer (forest (rulesOf s) r) c p)
+      (λ a e. label-below (moved (forest (rulesOf s) r) c p) a (answer-label (forest (rulesOf s) r) c p e))

@@ -18,7 +18,7 @@ use Rattle.forest.specs.declared.Walked.{Walked}
 use Rattle.forest.specs.Place.{placedForest}
 use Rattle.forest.specs.Reference.{Path}
 use Rattle.forest.specs.Outcome.{enoughWork}
-use Rattle.forest.specs.Walk.{enoughCursor, enoughAnswers, answerCount, enoughLent, firstOther, lettersJudged, Begun, refused, at, begunFrom, begun, walked, cellsIn, usedCells, headed, pathOf, stored, placeJudged}
+use Rattle.forest.specs.Walk.{enoughCursor, enoughAnswers, answerCount, enoughLent, firstOther, lettersJudged, Begun, refused, at, begunFrom, begun, walked, cellsIn, usedCells, walkedRule, isClosed, headed, pathOf, stored, placeIn, placeJudged}
 use Rattle.forest.specs.Compare.{nodeJudged, comparedAt, enoughCompared, comparedFrom, compare}
 
 -- a walk of no letters asks for no answers, and a place is never refused with 8
@@ -32,10 +32,13 @@ begun-none s work cursor given n r =
     rest true = le-leb 0 (answerCount given) (omega arith)
     rest false = refl
 
-place-not-lent : (R : List Rule) (n r : ℕ) (cursor : List ℕ) → placeJudged R n r cursor ≡ refused Refusal.Lent → ⊥
-unfolding placeJudged stored
-place-not-lent R n r cursor e = go (headed n cursor) (pathOf (placedForest R r) (cellsIn cursor (usedCells cursor))) e
+place-not-lent : (R : List Rule) (n start : ℕ) (cursor : List ℕ) → placeJudged R n start cursor ≡ refused Refusal.Lent → ⊥
+unfolding placeJudged placeIn stored
+place-not-lent R n start cursor e = go (isClosed R r && headed n cursor) (pathOf (placedForest R r) (cellsIn cursor (usedCells cursor))) e
   where
+    r : ℕ
+    r = walkedRule start cursor
+
     go : (t : Bool) (x : Option Path) → cond t (stored n r x) (refused Refusal.Place) ≡ refused Refusal.Lent → ⊥
     go true none q = let z : _≡_ {A = ℕ} 0 1 = cc in omega arith
     go true (some p) q = let z : _≡_ {A = ℕ} 0 1 = cc in omega arith

@@ -1,11 +1,11 @@
--- The starred cases of document 01, "One sample plan", as rows of one theorem on the outcome definitions, from the plan's bytes on.
--- Further rows tell a merged run from two runs and a one-sided pair from a step; each is worked out by hand from "The stored
+-- The starred cases of document 01, "One sample plan", as rows of one theorem on the outcome definitions, from the plan's bytes on, and
+-- those of document 02, Note 10, on the same plan. Further rows tell a merged run from two runs and a one-sided pair from a step; each is worked out by hand from "The stored
 -- place". All hold by computation.
 -- Assumes nothing.
 use Prim.Native.Nat.{ℕ, _*_}
 use mathlib.Core.Path.{_≡_, refl}
-use mathlib.Core.List.{List, [], _∷_, map, reverse}
-use lib.ListN.{length, replicate, take}
+use mathlib.Core.List.{List, [], _∷_, _++_, map, reverse}
+use lib.ListN.{length, replicate, take, drop}
 use Rattle.words.specs.Number.{number, bytes}
 use Rattle.record.specs.declared.Format.{Format}
 use Rattle.record.specs.Format.{highLength, mostLabel}
@@ -13,20 +13,22 @@ use Rattle.rule.specs.declared.Rule.{Rule}
 use Rattle.refusal.specs.declared.Refusal.{Refusal}
 use Rattle.plan.specs.declared.Checked.{Checked}
 use Rattle.plan.specs.declared.Written.{Written}
-use Rattle.rule.specs.Rule.{encode}
+use Rattle.rule.specs.Rule.{encode, closed}
+use Rattle.rule.specs.Sound.{kindIn}
 use Rattle.refusal.specs.Refusal.{numberOf, positionOf}
 use Rattle.reach.specs.Reaches.{lowestCycle, cycleFrom, reaches, within, anyNamed}
 use Rattle.judge.specs.Judge.{cycleJudged}
 use Rattle.plan.specs.Check.{checked, rulesOf, planBytes}
 use Rattle.words.specs.Front.{inFront}
 use Rattle.forest.specs.declared.Measured.{Measured}
+use Rattle.forest.specs.declared.Walked.{Walked}
 use Rattle.forest.specs.Place.{Cells, placedForest}
 use Rattle.forest.specs.Forest.{forest}
 use Rattle.forest.specs.Sample.{sample}
 use Rattle.forest.specs.Reference.{labelAt, answers, pathAfter}
 use Rattle.forest.specs.Outcome.{measured, spread, spreadOutput, enoughWork}
 use Rattle.forest.specs.Letter.{letterOf}
-use Rattle.forest.specs.Walk.{answerLength, nowhere, cursorWords, enoughLent, andLetters, lettersOf, otherAt, firstOther, cellAt, cellsIn, usedCells, headed, sameCell, sameCells, firstOf, nodeWith, pathOf, stored, placeJudged, lettersJudged, begunFrom, begun, walked, cellsOf, placeAt, cellBytes, cellsBytes, padded, storedCursor, cursorAfter, answerWord, answersBytes, answersAfter, walkedWork}
+use Rattle.forest.specs.Walk.{answerLength, nowhere, cursorWords, enoughLent, andLetters, lettersOf, otherAt, firstOther, cellAt, cellsIn, usedCells, ruleWord, ruleNamed, walkedRule, isClosed, headed, sameCell, sameCells, firstOf, nodeWith, pathOf, stored, placeIn, placeJudged, lettersJudged, begunFrom, begun, walked, cellsOf, placeAt, cellBytes, cellsBytes, padded, storedCursor, cursorAfter, answerWord, answersBytes, answersAfter, walkedWork}
 
 -- a plan's bytes from its rules and start
 abbrev plan : List Rule → ℕ → List ℕ
@@ -42,15 +44,28 @@ above = replicate 288 0
 abbrev given : List ℕ
 given = replicate 128 5
 
--- the walk's answers to some letters, and its cells after them, the first cell first
+-- above the forest of the rule that word 1 names
+abbrev aboveOf : ℕ → List ℕ
+aboveOf w = 0 ∷ 0 ∷ w ∷ 0 ∷ replicate 284 0
+
+-- the walk's answers to some letters, from a cursor and from above the start rule's forest, and its cells after them, the first cell first
+abbrev answeredFrom : List ℕ → List ℕ → List ℕ → List ℕ
+answeredFrom cursor s letters = take (answerLength * length letters) (answersAfter (rulesOf s) (begun s work cursor letters given) letters given)
+
 abbrev answered : List ℕ → List ℕ → List ℕ
-answered s letters = take (answerLength * length letters) (answersAfter (rulesOf s) (begun s work above letters given) letters given)
+answered = answeredFrom above
+
+abbrev cursorFrom : List ℕ → List ℕ → List ℕ → List ℕ
+cursorFrom cursor s letters = cursorAfter (rulesOf s) (begun s work cursor letters given) letters cursor
 
 abbrev cursorOf : List ℕ → List ℕ → List ℕ
-cursorOf s letters = cursorAfter (rulesOf s) (begun s work above letters given) letters above
+cursorOf = cursorFrom above
+
+abbrev cellsOfCursor : List ℕ → Cells
+cellsOfCursor cursor = reverse (cellsIn cursor (usedCells cursor))
 
 abbrev cellsAfter : List ℕ → List ℕ → Cells
-cellsAfter s letters = reverse (cellsIn (cursorOf s letters) (usedCells (cursorOf s letters)))
+cellsAfter s letters = cellsOfCursor (cursorOf s letters)
 
 -- the letters' bytes
 abbrev first : ℕ
@@ -135,11 +150,27 @@ pub record Starred : Type 0 where
   pub hole-cells : cellsAfter (chain 3) (first ∷ child ∷ []) ≡ (1, 0, 3, 0) ∷ (2, 3, 0, 0) ∷ (2, 1, 0, 0) ∷ []
   -- a chain of kind 3 rules: each C opens a spine of its own
   pub chained : cellsAfter (chain 4) (first ∷ child ∷ child ∷ []) ≡ (1, 0, 4, 0) ∷ (2, 4, 0, 0) ∷ (2, 3, 0, 0) ∷ (2, 1, 0, 0) ∷ []
+  -- document 02, Note 10: rule 3 of the sample, a and b side by side, by its number plus one; what is left in cell 0 and in the cells after a
+  pub rule-answers : answeredFrom (aboveOf 4) sample (first ∷ next ∷ next ∷ up ∷ []) ≡ answersBytes (97 ∷ 98 ∷ nowhere ∷ nowhere ∷ [])
+  pub rule-head : cellAt (cursorFrom (aboveOf 4) sample (first ∷ [])) 0 ≡ (3, 4, 0, 0)
+  pub rule-cells : cellsOfCursor (cursorFrom (aboveOf 4) sample (first ∷ [])) ≡ (1, 0, 3, 0) ∷ (3, 3, 1, 0) ∷ (2, 1, 0, 0) ∷ []
+  -- "The start rule may also be named by number and gives the same answers": and the same cursor but for the word
+  pub start-answers : answeredFrom (aboveOf 8) sample seven ≡ answered sample seven
+  pub start-cursor : cursorFrom (aboveOf 8) sample seven ≡ take 2 (cursorOf sample seven) ++ (8 ∷ drop 3 (cursorOf sample seven))
+  -- "A number beyond the rules or of a holed rule is refused with 10": beyond, a part, a join
+  pub rule-beyond : walked (begun sample work (aboveOf 9) [] given) ≡ Walked.Refused Refusal.Place
+  pub rule-part : walked (begun sample work (aboveOf 5) [] given) ≡ Walked.Refused Refusal.Place
+  pub rule-join : walked (begun sample work (aboveOf 6) [] given) ≡ Walked.Refused Refusal.Place
+  -- "words 2 and 3 must still be 0"
+  pub later-word : walked (begun sample work (0 ∷ 0 ∷ 4 ∷ 0 ∷ 1 ∷ 0 ∷ replicate 282 0) [] given) ≡ Walked.Refused Refusal.Place
+  -- an empty rule's forest
+  pub rule-empty : answeredFrom (aboveOf 1) sample (first ∷ last ∷ []) ≡ answersBytes (nowhere ∷ nowhere ∷ [])
+  pub place-number : numberOf Refusal.Place ≡ 10
   -- the last hole of a spine continues in C
   pub continued : cellsAfter (chain 6) (first ∷ child ∷ child ∷ []) ≡ (1, 0, 6, 0) ∷ (2, 6, 0, 0) ∷ (4, 5, 2, 0) ∷ (2, 4, 0, 0) ∷ []
 
 pub starred : Starred
-unfolding planBytes encode highLength mostLabel rulesOf checked lowestCycle cycleFrom reaches within anyNamed cycleJudged bytes number spread spreadOutput measured enoughWork inFront letterOf labelAt answers pathAfter placedForest forest cursorWords enoughLent andLetters lettersOf otherAt firstOther cellAt cellsIn usedCells headed sameCell sameCells firstOf nodeWith pathOf stored placeJudged lettersJudged begunFrom begun walked cellsOf placeAt cellBytes cellsBytes padded storedCursor cursorAfter answerWord answersBytes answersAfter walkedWork
+unfolding planBytes encode highLength mostLabel rulesOf checked lowestCycle cycleFrom reaches within anyNamed cycleJudged bytes number spread spreadOutput measured enoughWork inFront letterOf labelAt answers pathAfter placedForest forest cursorWords enoughLent andLetters lettersOf otherAt firstOther cellAt cellsIn usedCells closed kindIn ruleWord ruleNamed walkedRule isClosed headed sameCell sameCells firstOf nodeWith pathOf stored placeIn placeJudged lettersJudged begunFrom begun walked cellsOf placeAt cellBytes cellsBytes padded storedCursor cursorAfter answerWord answersBytes answersAfter walkedWork
 starred =
     record {
       answers = refl;
@@ -165,5 +196,16 @@ starred =
       hole-only = refl;
       hole-cells = refl;
       chained = refl;
+      rule-answers = refl;
+      rule-head = refl;
+      rule-cells = refl;
+      start-answers = refl;
+      start-cursor = refl;
+      rule-beyond = refl;
+      rule-part = refl;
+      rule-join = refl;
+      later-word = refl;
+      rule-empty = refl;
+      place-number = refl;
       continued = refl;
     }

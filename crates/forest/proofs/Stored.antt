@@ -1,5 +1,5 @@
--- A stored cursor reads back: its cell 0 holds the number of cells, cells 1 to k are those stored, the rest of the required words
--- are zeros, and what lies behind them is as it was. A cell's bytes stand where cellAt reads them, one cell after the other; and
+-- A stored cursor reads back: its cell 0 holds the number of cells and word 1, cells 1 to k are those stored, the rest of the required
+-- words are zeros, and what lies behind them is as it was. A cell's bytes stand where cellAt reads them, one cell after the other; and
 -- cells that are read have the bytes that they were read from, as a plan's records have.
 -- Assumes nothing.
 use Prim.Native.Nat.{ℕ, zero, suc, _+_, _-_, _*_, _≤_, _<_}
@@ -87,48 +87,48 @@ cells-bytes s (suc k) b fits =
     ap₂ (λ (x y : List ℕ). x ++ y) (cells-bytes s k b (omega arith)) (cell-bytes s (suc k) b (omega arith) ∙ ap (λ (m : ℕ). take cellLength (drop m s)) from)
     ∙ (rw (more, take-add (cellLength * k) cellLength (drop cellLength s), drop-drop (cellLength * k) cellLength s))
 
--- ---- the stored cursor
+-- ---- the stored cursor, with w in word 1 of cell 0
 
 -- how many zeros follow k cells
 abbrev pub gap : ℕ → ℕ → ℕ
 gap n k = wordLength * cursorWords n - cellLength * (k + 1)
 
-module _ (n : ℕ) (cs : Cells) (cursor : List ℕ) (room : cellLength * (length cs + 1) ≤ wordLength * cursorWords n) where
-  length-front : length (cellBytes (length cs, 0, 0, 0) ++ cellsBytes cs) ≡ cellLength * (length cs + 1)
-  length-front = length-append (cellBytes (length cs, 0, 0, 0)) (cellsBytes cs) ∙ omega (arith, length-cell (length cs, 0, 0, 0), length-cells cs)
+module _ (n w : ℕ) (cs : Cells) (cursor : List ℕ) (room : cellLength * (length cs + 1) ≤ wordLength * cursorWords n) where
+  length-front : length (cellBytes (length cs, w, 0, 0) ++ cellsBytes cs) ≡ cellLength * (length cs + 1)
+  length-front = length-append (cellBytes (length cs, w, 0, 0)) (cellsBytes cs) ∙ omega (arith, length-cell (length cs, w, 0, 0), length-cells cs)
 
-  length-padded : length (padded (wordLength * cursorWords n) (cellBytes (length cs, 0, 0, 0) ++ cellsBytes cs)) ≡ wordLength * cursorWords n
+  length-padded : length (padded (wordLength * cursorWords n) (cellBytes (length cs, w, 0, 0) ++ cellsBytes cs)) ≡ wordLength * cursorWords n
   unfolding padded
-  length-padded = length-append (cellBytes (length cs, 0, 0, 0) ++ cellsBytes cs) _ ∙ (rw (length-front, length-replicate {A = ℕ} (gap n (length cs)) 0) (omega arith))
+  length-padded = length-append (cellBytes (length cs, w, 0, 0) ++ cellsBytes cs) _ ∙ (rw (length-front, length-replicate {A = ℕ} (gap n (length cs)) 0) (omega arith))
 
-  padded-parts : (rest : List ℕ) → padded (wordLength * cursorWords n) (cellBytes (length cs, 0, 0, 0) ++ cellsBytes cs) ++ rest ≡ cellBytes (length cs, 0, 0, 0) ++ (cellsBytes cs ++ (replicate (gap n (length cs)) 0 ++ rest))
+  padded-parts : (rest : List ℕ) → padded (wordLength * cursorWords n) (cellBytes (length cs, w, 0, 0) ++ cellsBytes cs) ++ rest ≡ cellBytes (length cs, w, 0, 0) ++ (cellsBytes cs ++ (replicate (gap n (length cs)) 0 ++ rest))
   unfolding padded
   padded-parts rest = rw length-front (simp append-assoc)
 
   -- cell 0 and the cells, the zeros, and what lies behind
-  pub stored-parts : storedCursor n cs cursor ≡ cellBytes (length cs, 0, 0, 0) ++ (cellsBytes cs ++ (replicate (gap n (length cs)) 0 ++ drop (wordLength * cursorWords n) cursor))
+  pub stored-parts : storedCursor n w cs cursor ≡ cellBytes (length cs, w, 0, 0) ++ (cellsBytes cs ++ (replicate (gap n (length cs)) 0 ++ drop (wordLength * cursorWords n) cursor))
   unfolding storedCursor inFront
   stored-parts =
-      ap (λ (m : ℕ). padded (wordLength * cursorWords n) (cellBytes (length cs, 0, 0, 0) ++ cellsBytes cs) ++ drop m cursor) length-padded
+      ap (λ (m : ℕ). padded (wordLength * cursorWords n) (cellBytes (length cs, w, 0, 0) ++ cellsBytes cs) ++ drop m cursor) length-padded
       ∙ padded-parts (drop (wordLength * cursorWords n) cursor)
 
-  pub stored-length : wordLength * cursorWords n ≤ length cursor → length (storedCursor n cs cursor) ≡ length cursor
+  pub stored-length : wordLength * cursorWords n ≤ length cursor → length (storedCursor n w cs cursor) ≡ length cursor
   stored-length enough =
       ap length stored-parts
       ∙ simp (length-append, length-replicate, length-drop, length-cell, length-cells) (omega arith)
 
-  pub stored-head : length cs < 65536 → cellAt (storedCursor n cs cursor) 0 ≡ (length cs, 0, 0, 0)
-  stored-head small =
+  pub stored-head : length cs < 65536 → w < 65536 → cellAt (storedCursor n w cs cursor) 0 ≡ (length cs, w, 0, 0)
+  stored-head small word =
       ap (λ (l : List ℕ). cellAt l 0) stored-parts
-      ∙ cell-back (length cs, 0, 0, 0) [] (cellsBytes cs ++ (replicate (gap n (length cs)) 0 ++ drop (wordLength * cursorWords n) cursor)) 0 refl (record { kind = small; one = omega arith; two = omega arith; three = omega arith })
+      ∙ cell-back (length cs, w, 0, 0) [] (cellsBytes cs ++ (replicate (gap n (length cs)) 0 ++ drop (wordLength * cursorWords n) cursor)) 0 refl (record { kind = small; one = word; two = omega arith; three = omega arith })
 
-  pub stored-cells : AllFitting cs → cellsIn (storedCursor n cs cursor) (length cs) ≡ cs
+  pub stored-cells : AllFitting cs → cellsIn (storedCursor n w cs cursor) (length cs) ≡ cs
   stored-cells f =
       ap (λ (l : List ℕ). cellsIn l (length cs)) stored-parts
-      ∙ cells-back cs (cellBytes (length cs, 0, 0, 0)) (replicate (gap n (length cs)) 0 ++ drop (wordLength * cursorWords n) cursor) (length-cell (length cs, 0, 0, 0)) f
+      ∙ cells-back cs (cellBytes (length cs, w, 0, 0)) (replicate (gap n (length cs)) 0 ++ drop (wordLength * cursorWords n) cursor) (length-cell (length cs, w, 0, 0)) f
 
-  pub stored-clear : take (gap n (length cs)) (drop (cellLength * (length cs + 1)) (storedCursor n cs cursor)) ≡ replicate (gap n (length cs)) 0
+  pub stored-clear : take (gap n (length cs)) (drop (cellLength * (length cs + 1)) (storedCursor n w cs cursor)) ≡ replicate (gap n (length cs)) 0
   stored-clear =
-      ap (λ (l : List ℕ). take (gap n (length cs)) (drop (cellLength * (length cs + 1)) l)) (stored-parts ∙ sym (append-assoc (cellBytes (length cs, 0, 0, 0)) (cellsBytes cs) _))
-      ∙ ap (take (gap n (length cs))) (drop-at (cellBytes (length cs, 0, 0, 0) ++ cellsBytes cs) _ (cellLength * (length cs + 1)) length-front)
+      ap (λ (l : List ℕ). take (gap n (length cs)) (drop (cellLength * (length cs + 1)) l)) (stored-parts ∙ sym (append-assoc (cellBytes (length cs, w, 0, 0)) (cellsBytes cs) _))
+      ∙ ap (take (gap n (length cs))) (drop-at (cellBytes (length cs, w, 0, 0) ++ cellsBytes cs) _ (cellLength * (length cs + 1)) length-front)
       ∙ take-at (replicate (gap n (length cs)) 0) (drop (wordLength * cursorWords n) cursor) (gap n (length cs)) (length-replicate (gap n (length cs)) 0)

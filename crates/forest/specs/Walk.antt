@@ -4,9 +4,11 @@ use mathlib.Core.Bool.{Bool, true, false, cond, _&&_}
 use mathlib.Core.List.{List, [], _∷_, _++_, map}
 use mathlib.Core.Option.{Option, none, some}
 use lib.ListN.{length, replicate}
-use lib.Dec.{leb, eqb}
+use lib.Dec.{ltb, leb, eqb}
 use Rattle.words.specs.Number.{number, bytes, wordCount}
 use Rattle.rule.specs.declared.Rule.{Rule}
+use Rattle.rule.specs.Rule.{closed}
+use Rattle.rule.specs.Sound.{kindIn}
 use Rattle.refusal.specs.declared.Refusal.{Refusal}
 use Rattle.plan.specs.declared.Checked.{Checked}
 use Rattle.record.specs.Record.{wordLength}
@@ -78,14 +80,29 @@ unfoldable pub cellsIn : List ℕ → ℕ → Cells
 cellsIn s zero = []
 cellsIn s (suc k) = cellAt s (suc k) ∷ cellsIn s k
 
--- "Cell 0 holds the number k of used cells, then three zeros."
+-- "Cell 0 holds the number k of used cells"
 unfoldable pub usedCells : List ℕ → ℕ
 usedCells s = (cellAt s 0) .0
 
--- cell 0 is in order, and cells 1 to k lie in the words that n rules need, as those of every node do (demand/proofs/ByLetters)
+-- "Word 1 of cell 0 holds 0 for the start rule, or a rule number plus one." (document 02, Note 10)
+unfoldable pub ruleWord : List ℕ → ℕ
+ruleWord s = (cellAt s 0) .1
+
+unfoldable pub ruleNamed : ℕ → ℕ → ℕ
+ruleNamed start zero = start
+ruleNamed start (suc r) = r
+
+-- the walked rule: "the forest walked .. and the places reachable, are those of that rule"
+unfoldable pub walkedRule : ℕ → List ℕ → ℕ
+walkedRule start s = ruleNamed start (ruleWord s)
+
+-- "A number beyond the rules or of a holed rule is refused with 10."
+unfoldable pub isClosed : List Rule → ℕ → Bool
+isClosed R r = ltb r (length R) && closed (kindIn R r)
+
+-- "words 2 and 3 must still be 0"; and cells 1 to k lie in the words that n rules need, as those of every node do (demand/proofs/ByLetters)
 unfoldable pub headed : ℕ → List ℕ → Bool
-headed n s =
-    eqb ((cellAt s 0) .1) 0 && (eqb ((cellAt s 0) .2) 0 && (eqb ((cellAt s 0) .3) 0 && leb (cellWords * (usedCells s + 1)) (cursorWords n)))
+headed n s = eqb ((cellAt s 0) .2) 0 && (eqb ((cellAt s 0) .3) 0 && leb (cellWords * (usedCells s + 1)) (cursorWords n))
 
 unfoldable pub sameCell : Cell → Cell → Bool
 sameCell c d = eqb (c .0) (d .0) && (eqb (c .1) (d .1) && (eqb (c .2) (d .2) && eqb (c .3) (d .3)))
@@ -117,14 +134,19 @@ pub data Begun : Type 0 where
   refused : Refusal → Begun
   at : ℕ → ℕ → Path → Begun
 
--- "10: no letters lead from a place above this forest to these used cells, or cell 0 has a nonzero later word"
+-- "10: no letters lead from a place above this forest to these used cells", or cell 0 isn't in order
 unfoldable pub stored : ℕ → ℕ → Option Path → Begun
 stored n r none = refused Refusal.Place
 stored n r (some p) = at n r p
 
+-- the place that a cursor holds in rule r's forest
+unfoldable pub placeIn : List Rule → ℕ → ℕ → List ℕ → Begun
+placeIn R n r cursor =
+    cond (isClosed R r && headed n cursor) (stored n r (pathOf (placedForest R r) (cellsIn cursor (usedCells cursor)))) (refused Refusal.Place)
+
+-- .. and in the walked rule's
 unfoldable pub placeJudged : List Rule → ℕ → ℕ → List ℕ → Begun
-placeJudged R n r cursor =
-    cond (headed n cursor) (stored n r (pathOf (placedForest R r) (cellsIn cursor (usedCells cursor)))) (refused Refusal.Place)
+placeJudged R n start cursor = placeIn R n (walkedRule start cursor) cursor
 
 -- "9: the first byte outside a z f l n p u s"
 unfoldable pub lettersJudged : Option ℕ → Begun → Begun
@@ -166,12 +188,15 @@ cellsBytes (c ∷ cs) = cellsBytes cs ++ cellBytes c
 unfoldable pub padded : ℕ → List ℕ → List ℕ
 padded m bs = bs ++ replicate (m - length bs) 0
 
-unfoldable pub storedCursor : ℕ → Cells → List ℕ → List ℕ
-storedCursor n cs cursor = inFront (padded (wordLength * cursorWords n) (cellBytes (length cs, 0, 0, 0) ++ cellsBytes cs)) cursor
+-- .. with w in word 1 of cell 0
+unfoldable pub storedCursor : ℕ → ℕ → Cells → List ℕ → List ℕ
+storedCursor n w cs cursor = inFront (padded (wordLength * cursorWords n) (cellBytes (length cs, w, 0, 0) ++ cellsBytes cs)) cursor
 
+-- "The word stays through every walk" (document 02, Note 10)
 unfoldable pub cursorAfter : List Rule → Begun → List ℕ → List ℕ → List ℕ
 cursorAfter R (refused r) letters cursor = cursor
-cursorAfter R (at n r p) letters cursor = storedCursor n (placeAt (placedForest R r) (pathAfter (forest R r) (lettersOf letters) p)) cursor
+cursorAfter R (at n r p) letters cursor =
+    storedCursor n (ruleWord cursor) (placeAt (placedForest R r) (pathAfter (forest R r) (lettersOf letters) p)) cursor
 
 -- "nowhere becomes 4,294,967,295, since 65,535 is now a food" (document 02, Note 2): document 01's word for it was 65,535
 abbrev pub nowhere : ℕ

@@ -14,11 +14,12 @@ use Rattle.forest.specs.Place.{Cells, Side, cellRow, cellSpine, cellRun, rowOfN
 use Rattle.forest.specs.Sides.{pick}
 use Rattle.forest.specs.Good.{Sort}
 use Rattle.forest.specs.Position.{Position, At, Where, cells, continues}
+use Rattle.forest.proofs.Cases.{is-true}
 use Rattle.model.specs.Facts.{Facts}
 use Rattle.model.specs.Model.{along, outer, innerOf}
 use Rattle.model.specs.Stored as S
 use Rattle.model.specs.Stored.{State, formOf, next, stateAfter, rowIn, rowUnder, afterRow, afterRun, reaches, keptBy, spineIn, spineAt, isThat, isNode, endsWell, accepts}
-use Rattle.model.proofs.Cells.{Steps, Top, Grows, begins, grows, top-grows, topKind, topKind-step, step-begins, step-grows, is-true, eqb-same}
+use Rattle.model.proofs.Cells.{Steps, Top, Grows, begins, grows, top-grows, topKind, topKind-step, step-begins, step-grows, eqb-same}
 use Rattle.model.proofs.Fit.{Fit, Tells, tells, shape, picked, pick-map, pair-steps, join-steps, node-outer, fill-outer}
 use Rattle.model.proofs.Standing.{Here, whole, says, pair-says, pair-itself}
 

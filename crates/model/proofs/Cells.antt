@@ -11,13 +11,9 @@ use mathlib.Core.Option.{some}
 use lib.Dec.{T, eqb, leb, leb→le, le→leb, eqb→eq, eqb-refl}
 use Rattle.forest.specs.Place.{Cells, Side, cellRow, cellSpine, cellRun, step}
 use Rattle.forest.specs.Sides.{other}
-use Rattle.forest.proofs.Cases.{by-bool}
+use Rattle.forest.proofs.Cases.{by-bool, is-true}
 use Rattle.model.specs.Facts.{Facts}
 use Rattle.model.specs.Model.{along, oneAbove, outer, standing, popRun, run, shrunk, turned, besideTop, belowRow}
-
-pub is-true : (b : Bool) → T b → b ≡ true
-is-true true t = refl
-is-true false t = absurd t
 
 pub is-false : (b : Bool) → (T b → ⊥) → b ≡ false
 is-false true f = absurd (f tt)

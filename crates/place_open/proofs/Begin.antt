@@ -14,9 +14,10 @@ use Rattle.forest.specs.Forest.{Forest, forest}
 use Rattle.forest.specs.Relabel.{relabel}
 use Rattle.forest.specs.Place.{Cells, placedOf, placedForest}
 use Rattle.forest.specs.Reference.{Path, labelAt, answers, pathAfter}
-use Rattle.forest.specs.Walk.{cellAt, cellsIn, usedCells, headed, pathOf, Begun, stored, placeJudged, lettersOf, placeAt, storedCursor, cursorAfter, answerWord, answersBytes, answersAfter}
+use Rattle.forest.specs.Walk.{cellAt, cellsIn, usedCells, ruleWord, headed, pathOf, Begun, stored, placeIn, lettersOf, placeAt, storedCursor, cursorAfter, answerWord, answersBytes, answersAfter}
 use Rattle.forest.proofs.Unfold.{ruleNumber-expression}
 use Rattle.forest.proofs.Forget.{label, placedForest-forgets}
+use Rattle.forest.proofs.WalkedRule.{closed-walked}
 use Rattle.forest.specs.Position.{locatedOf, Named}
 use Rattle.model.specs.Facts.{factsOf}
 use Rattle.model.specs.Model.{Node, standing}
@@ -34,13 +35,9 @@ module _ {R : List Rule} {rank : ℕ → ℕ} (S : Sound R rank) {r : ℕ} (C : 
   stood-valid p n s = record { position = labelAt (locatedOf (expression R r)) p; same = s .same }
 
   -- refusal 10
-  pub place-not-headed : (n : ℕ) (cursor : List ℕ) → headed n cursor ≡ false → placeJudged R n r cursor ≡ Begun.refused Refusal.Place
-  unfolding placeJudged
-  place-not-headed n cursor h = rw h
-
-  place-above : (n : ℕ) (cursor : List ℕ) → headed n cursor ≡ true → usedCells cursor ≡ 0 → placeJudged R n r cursor ≡ Begun.at n r []
-  unfolding placeJudged stored cellsIn pathOf
-  place-above n cursor h u = rw (h, u)
+  place-above : (n : ℕ) (cursor : List ℕ) → headed n cursor ≡ true → usedCells cursor ≡ 0 → placeIn R n r cursor ≡ Begun.at n r []
+  unfolding placeIn stored cellsIn pathOf
+  place-above n cursor h u = rw (closed-walked R r C, h, u)
 
   stood-above : (p : ℕ) → Stood R r [] (p, [])
   unfolding labelAt
@@ -50,32 +47,32 @@ module _ {R : List Rule} {rank : ℕ → ℕ} (S : Sound R rank) {r : ℕ} (C : 
   numbered = ruleNumber-expression R r
 
   place-accepted : (n : ℕ) (cursor : List ℕ) (k : ℕ) → headed n cursor ≡ true → usedCells cursor ≡ suc k → accepts (factsOf R) r (cellsIn cursor (suc k)) ≡ true
-      → (p : Path) × Stood R r p (standing (factsOf R) (cellsIn cursor (suc k)), cellsIn cursor (suc k)) × (placeJudged R n r cursor ≡ Begun.at n r p)
-  unfolding placeJudged stored placedForest
+      → (p : Path) × Stood R r p (standing (factsOf R) (cellsIn cursor (suc k)), cellsIn cursor (suc k)) × (placeIn R n r cursor ≡ Begun.at n r p)
+  unfolding placeIn stored placedForest
   place-accepted n cursor k h u q =
       let f : Found (expression R r) (good S C (factsOf R) (λ k l. facts-agree R k)) (factsOf R) (fit S C (factsOf R) (λ k l. facts-agree R k)) (cellsIn cursor (suc k)) =
       accepted-path (expression R r) (good S C (factsOf R) (λ k l. facts-agree R k)) (factsOf R) (fit S C (factsOf R) (λ k l. facts-agree R k)) (cellsIn cursor (suc k)) (rw numbered q) in
-      (f .path, record { named = f .named; same = f .same }, rw (h, u, f .found))
+      (f .path, record { named = f .named; same = f .same }, rw (closed-walked R r C, h, u, f .found))
 
   place-refused : (n : ℕ) (cursor : List ℕ) (k : ℕ) → headed n cursor ≡ true → usedCells cursor ≡ suc k → accepts (factsOf R) r (cellsIn cursor (suc k)) ≡ false
-      → placeJudged R n r cursor ≡ Begun.refused Refusal.Place
-  unfolding placeJudged stored placedForest cellsIn
+      → placeIn R n r cursor ≡ Begun.refused Refusal.Place
+  unfolding placeIn stored placedForest cellsIn
   place-refused n cursor k h u q =
-      rw (h, u, refused-path (expression R r) (good S C (factsOf R) (λ k l. facts-agree R k)) (factsOf R) (fit S C (factsOf R) (λ k l. facts-agree R k)) (cellAt cursor (suc k)) (cellsIn cursor k) (rw numbered q))
+      rw (closed-walked R r C, h, u, refused-path (expression R r) (good S C (factsOf R) (λ k l. facts-agree R k)) (factsOf R) (fit S C (factsOf R) (λ k l. facts-agree R k)) (cellAt cursor (suc k)) (cellsIn cursor k) (rw numbered q))
 
   -- both by the test of the stored cells, above the forest or at a node
   begins-at : (n : ℕ) (cursor : List ℕ) (k : ℕ) → headed n cursor ≡ true → usedCells cursor ≡ k → placed (factsOf R) r (cellsIn cursor k) ≡ true
-      → (p : Path) × Stood R r p (standing (factsOf R) (cellsIn cursor k), cellsIn cursor k) × (placeJudged R n r cursor ≡ Begun.at n r p)
+      → (p : Path) × Stood R r p (standing (factsOf R) (cellsIn cursor k), cellsIn cursor k) × (placeIn R n r cursor ≡ Begun.at n r p)
   unfolding placed cellsIn
   begins-at n cursor zero h u q = ([], stood-above (standing (factsOf R) []), place-above n cursor h u)
   begins-at n cursor (suc k) h u q = place-accepted n cursor k h u q
 
   pub begins : (n : ℕ) (cursor : List ℕ) (k : ℕ) → headed n cursor ≡ true → k ≡ usedCells cursor → placed (factsOf R) r (cellsIn cursor k) ≡ true
-      → (p : Path) × Stood R r p (standing (factsOf R) (cellsIn cursor k), cellsIn cursor k) × (placeJudged R n r cursor ≡ Begun.at n r p)
+      → (p : Path) × Stood R r p (standing (factsOf R) (cellsIn cursor k), cellsIn cursor k) × (placeIn R n r cursor ≡ Begun.at n r p)
   begins n cursor k h u q = begins-at n cursor k h (sym u) q
 
   pub begins-not : (n : ℕ) (cursor : List ℕ) (k : ℕ) → headed n cursor ≡ true → k ≡ usedCells cursor → placed (factsOf R) r (cellsIn cursor k) ≡ false
-      → placeJudged R n r cursor ≡ Begun.refused Refusal.Place
+      → placeIn R n r cursor ≡ Begun.refused Refusal.Place
   unfolding placed cellsIn
   begins-not n cursor zero h u q = absurd (true≢false q)
   begins-not n cursor (suc k) h u q = place-refused n cursor k h (sym u) q
@@ -95,10 +92,10 @@ module _ {R : List Rule} {rank : ℕ → ℕ} (S : Sound R rank) {r : ℕ} (C : 
       ∙ ap (λ (k : ℕ). model.answers (factsOf R) k (lettersOf letters) x) numbered)
 
   pub cursor-left : (n : ℕ) (p : Path) (x : Node) → Stood R r p x → (letters cursor : List ℕ)
-      → cursorAfter R (Begun.at n r p) letters cursor ≡ storedCursor n ((model.after (factsOf R) r (lettersOf letters) x) .1) cursor
+      → cursorAfter R (Begun.at n r p) letters cursor ≡ storedCursor n (ruleWord cursor) ((model.after (factsOf R) r (lettersOf letters) x) .1) cursor
   unfolding cursorAfter placedForest
   cursor-left n p x s letters cursor =
-      ap (λ (cs : Cells). storedCursor n cs cursor)
+      ap (λ (cs : Cells). storedCursor n (ruleWord cursor) cs cursor)
       (ap (λ (g : Forest ℕ). placeAt (placedOf (expression R r)) (pathAfter g (lettersOf letters) p)) (sym labels-forest)
       ∙ call-cells (expression R r) (good S C (factsOf R) (λ k l. facts-agree R k)) (factsOf R) (fit S C (factsOf R) (λ k l. facts-agree R k)) (lettersOf letters) p x (s .named) (s .same)
       ∙ ap (λ (k : ℕ). (model.after (factsOf R) k (lettersOf letters) x) .1) numbered)

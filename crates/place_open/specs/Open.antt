@@ -1,10 +1,12 @@
 -- A stored place opened: what is asked of the rows and the cursor, and what the answer says of the place.
 use Prim.Native.Nat.{ℕ, _≤_}
 use mathlib.Core.Path.{_≡_}
-use mathlib.Core.Bool.{Bool, true}
+use mathlib.Core.Bool.{Bool, true, _&&_}
 use mathlib.Core.List.{List, [], _∷_}
 use lib.ListN.{length}
+use lib.Dec.{ltb}
 use Rattle.rule.specs.declared.Rule.{Rule}
+use Rattle.rule.specs.Rule.{encode, closed}
 use Rattle.refusal.specs.declared.Refusal.{Refusal}
 use Rattle.forest.specs.Expression.{expression}
 use Rattle.forest.specs.Place.{Cells}
@@ -25,6 +27,10 @@ use Rattle.place_open.specs.declared.Opened.{Opened}
 unfoldable pub placed : Facts → ℕ → Cells → Bool
 placed F r [] = true
 placed F r (c ∷ cs) = accepts F r (c ∷ cs)
+
+-- a rule can be walked: one of n, and closed
+unfoldable pub closedIn : Facts → ℕ → ℕ → Bool
+closedIn F n r = ltb r n && closed ((encode (F .rule r)) .kind)
 
 -- the rows of n rules, with enough of the cursor
 pub record Openable (r n : ℕ) (t cursor : List ℕ) : Type 0 where

@@ -53,18 +53,18 @@ drop-past p s a m long past =
     let f : a + (m - a) ≡ m = omega arith in
     ap (λ (j : ℕ). drop j (p ++ drop a s)) e ∙ drop-append-add p (drop a s) (m - a) ∙ drop-drop (m - a) a s ∙ ap (λ (j : ℕ). drop j s) f
 
--- the number of cells in cell 0, and zeros past them
-module _ (s : List ℕ) (k n : ℕ) (b : Bytes s) (fits : cellLength * (k + 1) ≤ cursorLength n) (room : cursorLength n ≤ length s) where
+-- the number of cells in cell 0 with word 1, and zeros past them
+module _ (s : List ℕ) (k n w : ℕ) (b : Bytes s) (fits : cellLength * (k + 1) ≤ cursorLength n) (room : cursorLength n ≤ length s) where
   head : List ℕ
-  head = cellBytes (k, 0, 0, 0)
+  head = cellBytes (k, w, 0, 0)
 
   head-length : length head ≡ cellLength
   unfolding head
-  head-length = length-cell (k, 0, 0, 0)
+  head-length = length-cell (k, w, 0, 0)
 
-  with-head : putCell s 0 (cell (k % 65536, 0, 0, 0)) ≡ head ++ drop cellLength s
+  with-head : putCell s 0 (cell (k % 65536, w, 0, 0)) ≡ head ++ drop cellLength s
   unfolding head cellBytes
-  with-head = put-first s (cell (k % 65536, 0, 0, 0)) (omega arith) ∙ rw (low-bytes k)
+  with-head = put-first s (cell (k % 65536, w, 0, 0)) (omega arith) ∙ rw (low-bytes k)
 
   head-take : take (cellLength * (k + 1)) (head ++ drop cellLength s) ≡ head ++ cellsBytes (cellsIn s k)
   head-take =
@@ -73,14 +73,14 @@ module _ (s : List ℕ) (k n : ℕ) (b : Bytes s) (fits : cellLength * (k + 1) �
       ∙ take-append-add head (drop cellLength s) (cellLength * k)
       ∙ ap (λ (l : List ℕ). head ++ l) (sym (cells-bytes s k b (omega arith)))
 
-  stored-here : storedCursor n (cellsIn s k) s ≡ head ++ (cellsBytes (cellsIn s k) ++ (replicate (gap n k) 0 ++ drop (cursorLength n) s))
+  stored-here : storedCursor n w (cellsIn s k) s ≡ head ++ (cellsBytes (cellsIn s k) ++ (replicate (gap n k) 0 ++ drop (cursorLength n) s))
   unfolding head
   stored-here =
       let long : length (cellsIn s k) ≡ k = length-cells s k in
-      stored-parts n (cellsIn s k) s (omega arith)
-      ∙ ap (λ (m : ℕ). cellBytes (m, 0, 0, 0) ++ (cellsBytes (cellsIn s k) ++ (replicate (gap n m) 0 ++ drop (cursorLength n) s))) long
+      stored-parts n w (cellsIn s k) s (omega arith)
+      ∙ ap (λ (m : ℕ). cellBytes (m, w, 0, 0) ++ (cellsBytes (cellsIn s k) ++ (replicate (gap n m) 0 ++ drop (cursorLength n) s))) long
 
-  pub stored-whole : clearedPast k n (putCell s 0 (cell (k % 65536, 0, 0, 0))) ≡ storedCursor n (cellsIn s k) s
+  pub stored-whole : clearedPast k n (putCell s 0 (cell (k % 65536, w, 0, 0))) ≡ storedCursor n w (cellsIn s k) s
   unfolding clearedPast
   stored-whole =
       ap (clearedPast k n) with-head

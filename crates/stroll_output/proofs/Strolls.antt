@@ -21,7 +21,7 @@ use Rattle.forest.specs.Walk.{answerLength, lettersOf, firstOther}
 use Rattle.forest.proofs.Cases.{by-option}
 use Rattle.forest.proofs.WorkWords.{few-words}
 use Rattle.demand.specs.Calls.{Left, walkOf, lends, leaves}
-use Rattle.demand.specs.Demand.{Above, answerWords}
+use Rattle.demand.specs.Demand.{AboveStart, answerWords}
 use Rattle.demand.proofs.FromAbove.{zeros-above, above-accepted, above-refused, above-answers}
 use Rattle.stroll_line.specs.Lines.{lineLength, lines, refusedLine}
 use Rattle.stroll_output.specs.Stroll.{mostPlan, mostLetters, mostStrolled, walkPrinted, checkPrinted, strollOutput}
@@ -55,7 +55,7 @@ too-many plan letters A h = rw (A .accepted, lt-leb (length letters) mostLetters
 pub record Lends (letters work cursor given : List ℕ) : Type 0 where
   pub work-length : 65536 ≡ length work
   pub cursor-length : 32800 ≡ length cursor
-  pub above : Above cursor
+  pub above : AboveStart cursor
   pub answerable : answerLength * length letters ≤ length given
 
 pub zeros-lent : {letters given : List ℕ} → answerLength * length letters ≤ length given → Lends letters (replicate 65536 0) (replicate 32800 0) given

@@ -1,8 +1,8 @@
 -- A call on the rows of a plan's rules: the stored place is turned down, or the letters are taken from it and the place that they
--- lead to is stored. Assumes nothing.
+-- lead to is stored, with the word that names the walked rule. Assumes nothing.
 use Prim.Native.Nat.{ℕ, _+_, _*_, _≤_}
 use native.Mathlib.Omega.{arith}
-use mathlib.Core.Path.{_≡_, sym, ap, subst, _∙_}
+use mathlib.Core.Path.{_≡_, sym, ap, ap₂, subst, _∙_}
 use mathlib.Core.List.{List, map}
 use lib.ListN.{length, drop}
 use Rattle.rule.specs.declared.Rule.{Rule}
@@ -10,7 +10,7 @@ use Rattle.refusal.specs.declared.Refusal.{Refusal}
 use Rattle.words.specs.Front.{inFront}
 use Rattle.forest.specs.declared.Walked.{Walked}
 use Rattle.forest.specs.Place.{Cells}
-use Rattle.forest.specs.Walk.{cellLength, cursorWords, cellsIn, Begun, placeJudged, walked, storedCursor, cursorAfter, answersAfter, lettersOf, answerWord, answersBytes}
+use Rattle.forest.specs.Walk.{cellLength, cursorWords, cellAt, cellsIn, ruleWord, Begun, placeJudged, walked, storedCursor, cursorAfter, answersAfter, lettersOf, answerWord, answersBytes}
 use Rattle.forest.proofs.Stored.{stored-parts}
 use Rattle.model.specs.Facts.{Facts, factsOf}
 use Rattle.model.specs.Walk.{answers, after}
@@ -20,6 +20,8 @@ use Rattle.row_links.specs.Links.{Linkable, Linked, Relinked}
 use Rattle.row_links.proofs.Linking.{linkable-fewer, linkable-kept}
 use Rattle.place_cells.specs.Cells.{cursorLength, mostCells}
 use Rattle.place_cells.proofs.Writes.{length-cells}
+use Rattle.place_store.specs.declared.Head.{Head}
+use Rattle.place_store.specs.Head.{headOf}
 use Rattle.letter_arrival.specs.declared.Standing.{Standing}
 use Rattle.letter_moves.specs.Standing.{Valid, rulesKept, Stands}
 use Rattle.letter_moves.proofs.Stands.{stands-few}
@@ -34,9 +36,9 @@ unfolding walked cursorAfter answersAfter
 refused-walks R why letters cursor given e = record { answer = rw e; cursor-left = rw e; answers-left = rw e }
 
 -- what lies past the words that n rules need is all that a stored cursor keeps
-stored-same : (n : ℕ) (cs : Cells) (s s′ : List ℕ) → cellLength * (length cs + 1) ≤ cursorLength n → drop (cursorLength n) s′ ≡ drop (cursorLength n) s
-    → storedCursor n cs s′ ≡ storedCursor n cs s
-stored-same n cs s s′ room e = stored-parts n cs s′ room ∙ rw e (sym (stored-parts n cs s room))
+stored-same : (n w : ℕ) (cs : Cells) (s s′ : List ℕ) → cellLength * (length cs + 1) ≤ cursorLength n → drop (cursorLength n) s′ ≡ drop (cursorLength n) s
+    → storedCursor n w cs s′ ≡ storedCursor n w cs s
+stored-same n w cs s s′ room e = stored-parts n w cs s′ room ∙ rw e (sym (stored-parts n w cs s room))
 
 module _ {start n : ℕ} {t s letters given : List ℕ} (J : Travels start n t s letters given) {r : ℕ} {h : Standing} (O : OpensAt t n start s r h) where
   -- there is room for the links of every place, and so for those of this one
@@ -93,10 +95,11 @@ module _ {start n : ℕ} {t s letters given : List ℕ} (J : Travels start n t s
     unfolding walked
     judged-accepted = rw (O .begun)
 
-    pub arrived : {s′ s″ given′ : List ℕ} {end : ℕ} → Ran r t letters h s₁ s′ given given′ end → s″ ≡ storedCursor n (cellsIn s′ end) s′
+    pub arrived : {s′ s″ given′ : List ℕ} {end : ℕ} {x : Head} → Ran r t letters h s₁ s′ given given′ end → x ≡ headOf (cellAt s 0)
+        → s″ ≡ storedCursor n (x .word) (cellsIn s′ end) s′
         → Walks (rulesKept t) (placeJudged (rulesKept t) n start s) letters s s″ given given′ Walked.Accepted
-    unfolding cursorWords
-    arrived {s′} {s″} {given′} {end} x e =
+    unfolding cursorWords ruleWord
+    arrived {s′} {s″} {given′} {end} x read e =
         let many = J .place .count in
         let lies = arrived-lies x in
         let T = O .place .rows in
@@ -112,8 +115,9 @@ module _ {start n : ℕ} {t s letters given : List ℕ} (J : Travels start n t s
         record {
           answer = judged-accepted;
           cursor-left =
-              e ∙ ap (λ (l : Cells). storedCursor n l s′) ends
-              ∙ stored-same n cs s s′ few (wide .same-after)
+              e
+              ∙ ap₂ (λ (y : Head) (l : Cells). storedCursor n (y .word) l s′) read ends
+              ∙ stored-same n (ruleWord s) cs s s′ few (wide .same-after)
               ∙ sym (cursor-left (T .sound) (T .closed) n (O .path) (h .rule, cellsIn s (h .used)) (O .stood) letters s)
               ∙ ap (λ (b : Begun). cursorAfter (rulesKept t) b letters s) (sym (O .begun));
           answers-left =

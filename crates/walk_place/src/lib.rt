@@ -1,6 +1,7 @@
 // Letters from the stored place, on the rows of the rules: the place is judged, the letters run, and the new place is stored.
 use forest::Walked;
 use place_open::Opened;
+use place_store::Head;
 ghost use Rattle.forest.specs.Walk.{placeJudged};
 ghost use Rattle.letter_moves.specs.Standing.{rulesKept};
 ghost use Rattle.walk_place.specs.Travel.{Travels, Walks};
@@ -26,9 +27,10 @@ pub fn travel(
 {
     match place_open::open(rows, cursor, n, start) {
         Opened::At { walked, at } => {
+            let head = Head::read(cursor);
             row_links::fill(rows, cursor, at.used);
             let used = letter_run::run(rows, cursor, letters, answers, walked, at);
-            place_store::store(cursor, used, n);
+            place_store::store(cursor, used, n, head.word);
             Walked::Accepted
         }
         Opened::Refused(refusal) => Walked::Refused(refusal),

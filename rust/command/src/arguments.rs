@@ -70,7 +70,12 @@ impl Arguments {
 
     /// An option's number, or what it is where the option isn't given.
     pub fn number<N: FromStr>(&self, name: &str, absent: N) -> Result<N, Trouble> {
-        self.value(name).map_or(Ok(absent), |text| number(name, text))
+        Ok(self.given(name)?.unwrap_or(absent))
+    }
+
+    /// An option's number, where the option is given.
+    pub fn given<N: FromStr>(&self, name: &str) -> Result<Option<N>, Trouble> {
+        self.value(name).map(|text| number(name, text)).transpose()
     }
 }
 
@@ -103,6 +108,7 @@ mod tests {
         assert!(matches!(of(&["--decimal"]).unwrap().first_word(), Err(Trouble::Usage(_))));
         assert_eq!(arguments.number("--depth", 9_u64).unwrap(), 4);
         assert_eq!(arguments.number("-o", 9_u64).unwrap(), 9);
+        assert_eq!((arguments.given("--depth").unwrap(), arguments.given::<u64>("-o").unwrap()), (Some(4_u64), None));
         assert!(arguments.has("--decimal") && !arguments.has("--other"));
         assert_eq!(arguments.value("-o"), None);
     }

@@ -63,28 +63,32 @@ const COMMANDS: [Command; 12] = [
     },
     Command {
         name: "show",
-        words: "[--depth N] [--lines N] [--at KEYS] PLAN",
-        options: Options { valued: &["--depth", "--lines", "--at"], flags: &[] },
+        words: "[--rule R] [--depth N] [--lines N] [--at KEYS] PLAN",
+        options: Options { valued: &["--rule", "--depth", "--lines", "--at"], flags: &[] },
         summary: "shows the forest as an indented tree, of any plan however large",
-        help: "  --depth N  the most levels; all if not given. Behind a node that has more below it stands ...\n  \
+        help: "  --rule R   the forest of this rule alone; of the start if not given\n  \
+               --depth N  the most levels; all if not given. Behind a node that has more below it stands ...\n  \
                --lines N  the most lines; 200 if not given\n  \
                --at KEYS  only the node that these keys lead to from above the forest, and what is below it\n",
         run: operations::show,
     },
     Command {
         name: "walk",
-        words: "PLAN KEYS",
-        options: Options::NONE,
+        words: "[--rule R] PLAN KEYS",
+        options: Options { valued: &["--rule"], flags: &[] },
         summary: "walks by keys from above the forest: a line for each, with its label, or - for nowhere",
-        help: "Keys: a, z first, last root; f, l first, last child; n, p next, previous sibling; u parent; s stay.\n",
+        help: "  --rule R  the forest of this rule alone; of the start if not given. A rule that isn't closed is refused with 10\n\
+               Keys: a, z first, last root; f, l first, last child; n, p next, previous sibling; u parent; s stay.\n",
         run: operations::walk,
     },
     Command {
         name: "compare",
-        words: "[--budget N] PLAN KEYS KEYS",
-        options: Options { valued: &["--budget"], flags: &[] },
+        words: "[--rule R] [--with-rule R] [--budget N] PLAN KEYS KEYS",
+        options: Options { valued: &["--rule", "--with-rule", "--budget"], flags: &[] },
         summary: "compares the subtrees at two places, each told by keys from above the forest",
-        help: "  --budget N  the most pairs of nodes; 10000000 if not given\n\
+        help: "  --rule R       the rule in whose forest both places are; the start if not given\n  \
+               --with-rule R  another one for the second place\n  \
+               --budget N     the most pairs of nodes; 10000000 if not given\n\
                It says 'same' with the number of nodes, 'differ' with the place, from 1, of the first pair that does, or 'spent' with\n\
                the budget. A place above the forest is refused with 10.\n",
         run: operations::compare,
@@ -118,8 +122,8 @@ const COMMANDS: [Command; 12] = [
     },
     Command {
         name: "read",
-        words: "PLAN",
-        options: Options::NONE,
+        words: "[--rule R] PLAN",
+        options: Options { valued: &["--rule"], flags: &[] },
         summary: "a reader to try, in the terminal",
         help: read::HELP,
         run: read::run,
@@ -196,7 +200,18 @@ mod tests {
     #[test]
     fn what_is_called_wrongly_is_told() {
         let words = |text: &str| text.split(' ').map(str::to_owned).collect::<Vec<String>>();
-        for text in ["mend x", "check", "check a b", "walk a", "check --deep a", "show --depth x a", "help mend"] {
+        for text in [
+            "mend x",
+            "check",
+            "check a b",
+            "walk a",
+            "check --deep a",
+            "show --depth x a",
+            "walk --rule x a a",
+            "walk --rule 65536 a a",
+            "measure --rule 3 a",
+            "help mend",
+        ] {
             assert!(matches!(run(&words(text)), Err(Trouble::Usage(_))), "{text}");
         }
         assert!(matches!(run(&[]), Err(Trouble::Usage(_))));

@@ -19,6 +19,11 @@ fn checked<'a>(name: &str, bytes: &'a [u8]) -> Result<Plan<'a>, Trouble> {
     during("checking", || Plan::new(bytes)).map_err(Trouble::refused(name))
 }
 
+/// A walker above a plan's forest, or above that of a rule.
+pub fn walker_of<'a>(plan: Plan<'a>, rule: Option<u16>) -> Result<Walker<'a>, Trouble> {
+    rule.map_or(Ok(plan.walker()), |rule| plan.walker_of(rule).map_err(Trouble::refused(&format!("rule {rule}"))))
+}
+
 pub fn check(arguments: &Arguments) -> Outcome {
     let [name] = arguments.words()?;
     let bytes = files::read(name)?;
@@ -87,8 +92,9 @@ pub fn show(arguments: &Arguments) -> Outcome {
     let [name] = arguments.words()?;
     let shown =
         Shown { depth: arguments.number("--depth", u64::MAX)?, lines: arguments.number("--lines", MOST_LINES)? };
+    let rule = arguments.given("--rule")?;
     let bytes = files::read(name)?;
-    let mut walker = checked(name, &bytes)?.walker();
+    let mut walker = walker_of(checked(name, &bytes)?, rule)?;
     if let Some(keys) = arguments.value("--at") {
         press(&mut walker, keys)?;
         if walker.label().is_none() {
@@ -106,8 +112,9 @@ fn press(walker: &mut Walker, keys: &str) -> Result<Vec<Option<Label>>, Trouble>
 
 pub fn walk(arguments: &Arguments) -> Outcome {
     let [name, keys] = arguments.words()?;
+    let rule = arguments.given("--rule")?;
     let bytes = files::read(name)?;
-    let mut walker = checked(name, &bytes)?.walker();
+    let mut walker = walker_of(checked(name, &bytes)?, rule)?;
     let mut text = String::new();
     for (key, label) in keys.chars().zip(press(&mut walker, keys)?) {
         // A string takes all.
@@ -122,9 +129,11 @@ pub fn walk(arguments: &Arguments) -> Outcome {
 pub fn compare(arguments: &Arguments) -> Outcome {
     let [name, first, second] = arguments.words()?;
     let budget = arguments.number("--budget", BUDGET)?;
+    let rule = arguments.given("--rule")?;
+    let with_rule = arguments.given("--with-rule")?.or(rule);
     let bytes = files::read(name)?;
     let plan = checked(name, &bytes)?;
-    let (mut walker, mut other) = (plan.walker(), plan.walker());
+    let (mut walker, mut other) = (walker_of(plan, rule)?, walker_of(plan, with_rule)?);
     press(&mut walker, first)?;
     press(&mut other, second)?;
     let compared = during("comparing", || walker.compare(&other.place(), budget)).map_err(Trouble::refused(name))?;

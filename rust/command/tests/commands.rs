@@ -127,6 +127,33 @@ fn show() {
 }
 
 #[test]
+fn one_rule_alone() {
+    let plan = sample("plan.bin");
+    assert_eq!(prints(&["walk", "--rule", "3", &plan, "annu"]), "a 97\nn 98\nn -\nu -\n");
+    assert_eq!(prints(&["walk", "--rule=0", &plan, "az"]), "a -\nz -\n");
+    assert_eq!(prints(&["walk", "--rule", "7", &plan, "afnn"]), prints(&["walk", &plan, "afnn"]));
+    assert_eq!(prints(&["show", "--rule", "3", &plan]), "97 a\n98 b\n");
+    assert_eq!(prints(&["show", "--rule", "6", "--depth", "1", &plan]), "99 c ...\n");
+    assert_eq!(prints(&["show", "--rule", "6", "--at", "afn", &sample("wide.bin")]), "66051\n");
+    assert_eq!(prints(&["show", "--rule", "0", &plan]), "");
+    assert_eq!(prints(&["compare", "--rule", "6", "--with-rule", "7", &plan, "a", "a"]), "same 9\n");
+    assert_eq!(prints(&["compare", "--rule", "6", &plan, "a", "afnn"]), "differ 4\n");
+    assert_eq!(prints(&["compare", "--with-rule", "3", &plan, "an", "a"]), "same 1\n");
+    assert_eq!(prints(&["compare", "--with-rule", "3", &plan, "an", "an"]), "differ 1\n");
+    for rule in ["4", "5", "8", "65535"] {
+        let refused = format!("mealplan: rule {rule}: refused 10 at 0: ");
+        assert!(says(&["walk", "--rule", rule, &plan, "a"], 1).starts_with(&refused));
+        assert!(says(&["show", "--rule", rule, &plan], 1).starts_with(&refused));
+        assert!(says(&["compare", "--rule", rule, &plan, "a", "a"], 1).starts_with(&refused));
+        assert!(says(&["compare", "--with-rule", rule, &plan, "a", "a"], 1).starts_with(&refused));
+    }
+    assert!(says(&["walk", "--rule", "3", &plan, "ax"], 1).contains("keys ax: refused 9 at 1: "));
+    assert!(says(&["show", "--rule", "0", "--at", "a", &plan], 1).contains("keys a: refused 10 at 0: "));
+    assert!(says(&["walk", "--rule", "65536", &plan, "a"], 2).contains("--rule: '65536' is no number, or too large"));
+    assert!(says(&["walk", "--rule", "3"], 2).contains("usage: mealplan walk [--rule R] PLAN KEYS"));
+}
+
+#[test]
 fn a_forest_that_nobody_unfolds() {
     let doubled: String = (1..=900).map(|row| format!("{} = pair {row} {row}\n", row + 1)).collect();
     let text = file("large.txt", format!("0 = empty\n1 = node 97 0\n{doubled}902 = node 98 901\n").as_bytes());

@@ -1,8 +1,9 @@
 //! The meal plan walker for Rust, over the proved C interface (include/mealplan.h).
 //!
 //! A plan's bytes are checked once, as a [`Plan`]. A [`Walker`] stands above its forest or at a node of it and moves by methods; a [`Place`] is where
-//! it stands, to be kept and gone back to. [`Plan::measure`] counts, [`Plan::spread`] writes out; by a list of [`Classes`], [`Plan::copy`] makes a
-//! client's copy and [`Plan::grams`] weighs. What is turned down is [`Refused`], with its number, its position and a sentence.
+//! it stands, to be kept and gone back to. One of [`Plan::walker_of`] walks the forest of one rule alone. [`Plan::measure`] counts, [`Plan::spread`]
+//! writes out; by a list of [`Classes`], [`Plan::copy`] makes a client's copy and [`Plan::grams`] weighs. What is turned down is [`Refused`], with its
+//! number, its position and a sentence.
 //!
 //! ```
 //! use mealplan::{Format, Plan, Rule, seal_rules};
@@ -35,7 +36,8 @@
 //! [`walk`], [`compare`], [`class`], [`copy`] and [`grams`]. Each answers `Ok` with the values that documents 01 and 02 give, or `Err` with the
 //! refusal. Slices of 16-bit words are bytes, two to a word, low first; an odd last byte isn't counted. Answers are 32-bit words, four bytes to each
 //! ([`labels`] reads them). How long each slice must be is told by [`work_bytes`], [`cursor_bytes`], [`answers_bytes`], [`plan_bytes`],
-//! [`words_bytes`], [`text_bytes`] and [`copy_bytes`].
+//! [`words_bytes`], [`text_bytes`] and [`copy_bytes`]. A cursor of zeros stands above the start rule's forest; [`stand_above`] puts one above that of
+//! any closed rule.
 //!
 //! ```
 //! // The same letters on buffers of one's own.
@@ -64,6 +66,7 @@ mod answers;
 #[allow(unsafe_code)]
 pub mod c;
 mod classes;
+mod cursor;
 mod format;
 mod limits;
 #[cfg(feature = "alloc")]
@@ -78,6 +81,7 @@ mod walker;
 pub use answers::{DIVIDER, Label, NOWHERE, labels};
 pub use c::calls::{check, class, compare, copy, grams, measure, seal, spread, unseal, walk};
 pub use classes::{Classes, LabelRow};
+pub use cursor::{rule_word, stand_above};
 pub use format::Format;
 pub use limits::*;
 #[cfg(feature = "alloc")]

@@ -1,12 +1,14 @@
-//! A place that is kept: the used cells of a cursor, and no more.
+//! A place that is kept: cell 0 and the used cells of a cursor, and no more.
+use crate::cursor::{self, rule_word, stand_above};
 use alloc::{vec, vec::Vec};
 use core::fmt;
 
 /// Bytes of a cell: four words of 16 bits.
 const CELL: usize = 8;
 
-/// Where a walker stands, kept apart from it: it can be stored as bytes, restored and compared. Each node has one place, so of one plan two places
-/// are equal where the nodes are.
+/// Where a walker stands, kept apart from it: it can be stored as bytes, restored and compared. A place has the word that names the rule walked, and in a
+/// rule's forest each node has one place: of one plan two places are equal where words and nodes are. The start by number is another word than the
+/// start as such.
 ///
 /// Bytes that are read back are judged by [`Walker::go_to`](crate::Walker::go_to) alone, against the plan.
 ///
@@ -22,6 +24,11 @@ const CELL: usize = 8;
 /// assert_eq!(later.go_to(&Place::from_bytes(&stored))?, Some(99));
 /// assert_eq!(later.place(), walker.place());
 /// assert_eq!(later.place().to_string(), "(1, 0, 7, 0) (3, 7, 6, 0) (2, 6, 0, 0) (3, 5, 4, 0)");
+///
+/// let mut day = plan.walker_of(3)?;
+/// day.first_root();
+/// assert_eq!(day.place().to_string(), "rule 3: (1, 0, 3, 0) (3, 3, 1, 0) (2, 1, 0, 0)");
+/// assert_eq!((day.place().rule(), walker.place().rule()), (Some(3), None));
 /// # Ok::<(), mealplan::Refused>(())
 /// ```
 #[derive(Clone, PartialEq, Eq, Hash, Debug)]
@@ -31,14 +38,22 @@ pub struct Place {
 }
 
 impl Place {
-    /// The place above a forest.
+    /// The place above the start rule's forest.
     pub fn above() -> Place {
         Place { bytes: vec![0; CELL] }
     }
 
+    /// The place above the forest of a rule by number, which may also be the start's. [`Walker::go_to`](crate::Walker::go_to) judges whether it can be
+    /// walked.
+    pub fn above_rule(rule: u16) -> Place {
+        let mut above = Place::above();
+        stand_above(&mut above.bytes, rule_word(rule));
+        above
+    }
+
     /// The place that these bytes hold: cell 0, the used cells, and whatever stands behind them, which isn't looked at.
     pub fn from_bytes(bytes: &[u8]) -> Place {
-        let used = CELL * (cells(bytes) + 1);
+        let used = CELL * (cursor::cells(bytes) + 1);
         Place { bytes: bytes.get(..used).unwrap_or(bytes).to_vec() }
     }
 
@@ -52,9 +67,14 @@ impl Place {
         self.bytes.clone()
     }
 
+    /// The rule whose forest it is a place of, by number; none for the start rule where it isn't named so.
+    pub fn rule(&self) -> Option<u16> {
+        cursor::word(&self.bytes).checked_sub(1)
+    }
+
     /// How many cells are used; none above the forest.
     pub fn len(&self) -> usize {
-        cells(&self.bytes)
+        cursor::cells(&self.bytes)
     }
 
     /// Whether no cell is used: the place above the forest.
@@ -75,23 +95,18 @@ impl Place {
     }
 }
 
-/// The number of used cells that a cursor's front tells.
-pub(crate) fn cells(cursor: &[u8]) -> usize {
-    match cursor {
-        [low, high, ..] => u16::from_le_bytes([*low, *high]).into(),
-        _ => 0,
-    }
-}
-
 impl Default for Place {
     fn default() -> Place {
         Place::above()
     }
 }
 
-/// The used cells as document 01 writes them; nothing above the forest.
+/// The used cells as document 01 writes them, nothing above the forest; before them the rule, where it is named by number.
 impl fmt::Display for Place {
     fn fmt(&self, f: &mut fmt::Formatter) -> fmt::Result {
+        if let Some(rule) = self.rule() {
+            write!(f, "rule {rule}{}", if self.is_empty() { "" } else { ": " })?;
+        }
         for (i, [kind, a, b, c]) in self.cells().enumerate() {
             let blank = if i == 0 { "" } else { " " };
             write!(f, "{blank}({kind}, {a}, {b}, {c})")?;

@@ -198,4 +198,23 @@ impl<'a> Plan<'a> {
     pub fn walker(self) -> Walker<'a> {
         Walker::new(self)
     }
+
+    /// A walker above the forest of one closed rule, say one day of the plan: the roots are then that rule's. Any closed rule can be walked, an empty one
+    /// and one that the start doesn't reach, too. Refused with 10 where the plan has no such rule or it is holed.
+    ///
+    /// ```
+    /// # let bytes = std::fs::read(concat!(env!("CARGO_MANIFEST_DIR"), "/../../samples/plan.bin")).unwrap();
+    /// let plan = mealplan::Plan::new(&bytes)?;
+    /// // Rule 3 is the pair of two leaves.
+    /// let mut walker = plan.walker_of(3)?;
+    /// assert_eq!(walker.walk(b"annu")?, [Some(97), Some(98), None, None]);
+    /// assert_eq!((walker.rule(), plan.walker().rule()), (3, 7));
+    /// // Rule 4 has a hole, and there is no rule 8.
+    /// assert_eq!(plan.walker_of(4).unwrap_err().number, 10);
+    /// assert_eq!(plan.walker_of(8).unwrap_err().number, 10);
+    /// # Ok::<(), mealplan::Refused>(())
+    /// ```
+    pub fn walker_of(self, rule: u16) -> Result<Walker<'a>, Refused> {
+        Walker::of_rule(self, rule)
+    }
 }

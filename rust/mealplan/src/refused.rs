@@ -43,7 +43,7 @@ pub enum Refusal {
     Lent = 8,
     /// A byte outside a z f l n p u s.
     Letter = 9,
-    /// The cells are no place of this forest; where places are compared, one above it.
+    /// The cells are no place of the forest walked, or cell 0 names no closed rule; where places are compared, one above the forest.
     Place = 10,
     /// Output too short; over 2^64 − 1 nodes, or grams.
     Room = 11,
@@ -136,7 +136,7 @@ impl fmt::Display for Refused {
             Refusal::Letter => write!(f, "byte {at}, counted from 0, is outside a z f l n p u s"),
             Refusal::Place => write!(
                 f,
-                "no letters lead from above this forest to this place, or it is above the forest where a node is asked for"
+                "no letters lead from above this forest to this place, its rule isn't there or isn't closed, or it is above the forest where a node is asked for"
             ),
             Refusal::Room => write!(f, "the output is too short, or there are over 2^64 - 1 nodes or grams"),
             Refusal::Cycle => write!(f, "rule {at} reaches itself through the rules it names"),

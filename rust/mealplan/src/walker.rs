@@ -1,11 +1,13 @@
 //! A walker that owns its buffers.
-use crate::place::{self, Place};
-use crate::{Compared, Label, Plan, Refusal, Refused, answers_bytes, compare, cursor_bytes, labels, walk, work_bytes};
+use crate::cursor::{self, rule_word, stand_above};
+use crate::{
+    Compared, Label, Place, Plan, Refusal, Refused, answers_bytes, compare, cursor_bytes, labels, walk, work_bytes,
+};
 use alloc::{vec, vec::Vec};
 use core::fmt;
 
-/// A walker over a plan's forest. It begins above the forest, from where only the roots lead. A move gives the label of the node arrived at; one
-/// that leads nowhere gives none and keeps the place.
+/// A walker over a plan's forest, or over that of one of its rules. It begins above the forest, from where only the roots lead. A move gives the label of
+/// the node arrived at; one that leads nowhere gives none and keeps the place.
 ///
 /// Every move reads the plan anew, in time that goes by its rules, as nothing is kept between the library's calls. [`Walker::walk`] takes many
 /// letters in one call.
@@ -39,9 +41,22 @@ impl<'a> Walker<'a> {
         Walker { plan, work: vec![0; work_bytes(n)], cursor: vec![0; cursor_bytes(n)], label: None }
     }
 
+    /// A walker above the forest of one closed rule, which the start needn't reach. Refused with 10 where the plan has no such rule or it is holed.
+    pub fn of_rule(plan: Plan<'a>, rule: u16) -> Result<Walker<'a>, Refused> {
+        let mut walker = Walker::new(plan);
+        stand_above(&mut walker.cursor, rule_word(rule));
+        walker.walk(b"")?;
+        Ok(walker)
+    }
+
     /// The plan that is walked.
     pub fn plan(&self) -> Plan<'a> {
         self.plan
+    }
+
+    /// The rule whose forest is walked: the start, unless the walker was made for another or went to a place of another.
+    pub fn rule(&self) -> u16 {
+        cursor::word(&self.cursor).checked_sub(1).unwrap_or(self.plan.start())
     }
 
     /// The label of the node where the walker stands; none above the forest.
@@ -51,7 +66,7 @@ impl<'a> Walker<'a> {
 
     /// How many cells the place has; none above the forest.
     pub fn cell_count(&self) -> usize {
-        place::cells(&self.cursor)
+        cursor::cells(&self.cursor)
     }
 
     /// To the root of the first tree.
@@ -118,13 +133,13 @@ impl<'a> Walker<'a> {
         Ok(answers)
     }
 
-    /// The place, to be kept.
+    /// The place, to be kept, with the rule that is walked.
     pub fn place(&self) -> Place {
         Place::from_bytes(&self.cursor)
     }
 
-    /// To a place that was kept; gives the label there, none above the forest. Refused with 10 where it is no place of this plan's forest, and then
-    /// the walker stays.
+    /// To a place that was kept, of whichever rule; gives the label there, none above the forest. From then on that rule's forest is walked. Refused
+    /// with 10 where it is no place of this plan, and then the walker stays.
     ///
     /// ```
     /// use mealplan::Place;
@@ -136,6 +151,8 @@ impl<'a> Walker<'a> {
     /// assert_eq!(walker.go_to(&kept)?, Some(98));
     /// assert_eq!(walker.go_to(&Place::from_bytes(&[9; 80])).unwrap_err().number, 10);
     /// assert_eq!(walker.place(), kept);
+    /// walker.go_to(&Place::above_rule(3))?;
+    /// assert_eq!((walker.rule(), walker.walk(b"ann")?), (3, vec![Some(97), Some(98), None]));
     /// # Ok::<(), mealplan::Refused>(())
     /// ```
     pub fn go_to(&mut self, place: &Place) -> Result<Option<Label>, Refused> {
@@ -147,14 +164,17 @@ impl<'a> Walker<'a> {
         Ok(self.label)
     }
 
-    /// Back above the forest.
+    /// Back above the forest of the same rule.
     pub fn leave(&mut self) {
+        let word = cursor::word(&self.cursor);
         self.cursor.fill(0);
+        stand_above(&mut self.cursor, word);
         self.label = None;
     }
 
     /// Compares the subtree here with the one at a place that was kept, as lists of their nodes in reading order with label and level, pair by pair
-    /// up to a budget. Refused with 10 where either is above the forest, or the place is none of this plan's forest. Nothing moves.
+    /// up to a budget. Each may be a place of another rule. Refused with 10 where either is above the forest, or the place is none of this plan. Nothing
+    /// moves.
     ///
     /// ```
     /// use mealplan::Compared;
@@ -166,6 +186,11 @@ impl<'a> Walker<'a> {
     /// walker.walk(b"fnn")?;
     /// assert_eq!(walker.compare(&whole, 100)?, Compared::Differ(4));
     /// assert_eq!(walker.compare(&whole, 3)?, Compared::Spent(3));
+    ///
+    /// // The first tree again, as that of its own rule.
+    /// let mut tree = walker.plan().walker_of(6)?;
+    /// tree.first_root();
+    /// assert_eq!(tree.compare(&whole, 100)?, Compared::Same(9));
     /// # Ok::<(), mealplan::Refused>(())
     /// ```
     pub fn compare(&mut self, other: &Place, budget: u32) -> Result<Compared, Refused> {

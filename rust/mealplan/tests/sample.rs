@@ -152,7 +152,7 @@ fn a_place_that_is_none_moves_nothing() {
     let kept = walker.place();
     let refused = Refusal::Place.at(0);
     let mut damaged =
-        vec![vec![], vec![1], vec![0; 7], vec![1, 0], vec![255; 8], vec![255; 700_000], vec![0, 0, 1, 0, 0, 0, 0, 0]];
+        vec![vec![], vec![1], vec![0; 7], vec![1, 0], vec![255; 8], vec![255; 700_000], vec![0, 0, 0, 0, 1, 0, 0, 0]];
     for byte in 0..kept.as_bytes().len() {
         damaged.push(kept.to_bytes());
         damaged.last_mut().expect("one was pushed")[byte] ^= 1;
@@ -171,6 +171,55 @@ fn a_place_that_is_none_moves_nothing() {
     assert_eq!(walker.compare(&kept, 9), Err(refused));
     // A place of one plan is one of another where the rules are the same but for labels.
     assert_eq!(Plan::new(&wide).expect("the sample").walker().go_to(&kept), Ok(Some(66_051)));
+}
+
+#[test]
+fn one_rule_alone() {
+    for (bytes, _, rules) in samples() {
+        let [a, b, c] = [1, 2, 4].map(|rule: usize| rules[rule].label());
+        let plan = Plan::new(&bytes).expect("the sample");
+        let refused = Refusal::Place.at(0);
+        for (rule, answers) in
+            [(0, [None; 4]), (1, [a, None, None, None]), (3, [a, b, None, None]), (6, [c, None, None, a])]
+        {
+            let mut walker = plan.walker_of(rule).expect("a closed rule");
+            assert_eq!((walker.rule(), walker.label(), walker.cell_count()), (rule, None, 0));
+            assert_eq!(walker.walk(b"annf"), Ok(answers.to_vec()), "rule {rule}");
+            assert_eq!((walker.rule(), walker.walk(b"x")), (rule, Err(Refusal::Letter.at(0))));
+            walker.leave();
+            assert_eq!((walker.rule(), walker.label(), walker.place()), (rule, None, Place::above_rule(rule)));
+            assert_eq!(walker.first_root(), answers[0], "above the same rule's forest");
+            assert_eq!(walker.place().rule(), Some(rule));
+        }
+        for rule in [4, 5, 8, 9, 65_534, 65_535] {
+            assert_eq!(plan.walker_of(rule).map(|walker| walker.rule()), Err(refused), "rule {rule}");
+            assert_eq!(plan.walker().go_to(&Place::above_rule(rule)), Err(refused));
+        }
+        // The start by number: the same answers and cells, and another word.
+        let (mut start, mut named) = (plan.walker(), plan.walker_of(7).expect("the start is closed"));
+        assert_eq!((start.rule(), start.place().rule(), named.rule(), named.place().rule()), (7, None, 7, Some(7)));
+        assert_eq!(start.walk(b"afnnfnn"), named.walk(b"afnnfnn"));
+        assert!(start.place().cells().eq(named.place().cells()) && start.place() != named.place());
+        assert_eq!(named.compare(&start.place(), 9), Ok(Compared::Same(1)));
+        // A walker goes to a place of any rule, and walks on there.
+        let mut day = plan.walker_of(3).expect("a closed rule");
+        day.walk(b"an").expect("letters");
+        assert_eq!((start.go_to(&day.place()), start.rule()), (Ok(b), 3));
+        assert_eq!(
+            (start.next_sibling(), start.previous_sibling(), start.place()),
+            (None, a, {
+                day.previous_sibling();
+                day.place()
+            })
+        );
+        assert_eq!(start.compare(&named.place(), 9), Ok(Compared::Same(1)), "a leaf of rule 3 and one of the start");
+        assert_eq!((start.go_to(&Place::above()), start.rule(), start.first_root()), (Ok(None), 7, c));
+        // A place of one rule isn't one of another.
+        let mut other = day.place().to_bytes();
+        other[2] = 0;
+        assert_eq!((start.go_to(&Place::from_bytes(&other)), start.rule()), (Err(refused), 7));
+        assert_eq!(format!("{day:?}"), format!("Walker {{ place: {}, label: {a:?} }}", day.place()));
+    }
 }
 
 #[test]

@@ -41,6 +41,25 @@ fn places_of_any_bytes() {
 }
 
 #[test]
+fn words_that_name_rules() {
+    assert_eq!([0, 3, 16_383, 65_534, 65_535].map(rule_word), [1, 4, 16_384, 65_535, 65_535]);
+    for length in 0..=10 {
+        let mut cursor = [7; 10];
+        stand_above(&mut cursor[..length], 0x0102);
+        assert_eq!(cursor[..length], [0, 0, 2, 1, 0, 0, 0, 0, 7, 7][..length]);
+        assert!(cursor[length..].iter().all(|byte| *byte == 7));
+    }
+    let (above, day) = (Place::above(), Place::above_rule(3));
+    assert_eq!((above.rule(), day.rule(), Place::from_bytes(&[]).rule()), (None, Some(3), None));
+    assert_eq!((above.to_string(), day.to_string()), (String::new(), "rule 3".into()));
+    assert!(above != day && day.is_empty() && day.as_bytes() == [0, 0, 4, 0, 0, 0, 0, 0]);
+    assert_eq!(
+        Place::from_bytes(&[1, 0, 4, 0, 0, 0, 0, 0, 2, 0, 1, 0, 0, 0, 0, 0]).to_string(),
+        "rule 3: (2, 1, 0, 0)"
+    );
+}
+
+#[test]
 fn answers_and_words() {
     assert!(labels(&[]).next().is_none());
     assert!(labels(&[1, 2, 3, 0, 255, 255, 255, 255, 1, 2, 3]).eq([Some(197_121), None]));

@@ -5,7 +5,7 @@ use crate::{Side, Why};
 /// Which forest a row is over.
 #[derive(Clone, Copy, PartialEq, Eq, Debug)]
 pub enum Over {
-    /// The start forest, or what a node of kind 2 is over.
+    /// The forest walked, or what a node of kind 2 is over.
     All = 0,
     /// The forest left of a part's hole.
     Left = 1,
@@ -65,18 +65,25 @@ impl Cell {
     }
 }
 
-/// The used cells of a cursor that has all the words it needs, cell 0 not counted; refusal 10 if cell 0 can't be right.
+/// Word 1 of a cursor's cell 0, which names the rule walked.
+pub fn word(cursor: &[u8]) -> u16 {
+    words::get(cursor, 1)
+}
+
+/// The used cells of a cursor that has all the words it needs, cell 0 not counted; refusal 10 if cell 0 can't be right whatever its word 1 names.
 pub fn used(cursor: &[u8]) -> Result<Vec<Cell>, crate::Refused> {
     let mut cells = cursor.as_chunks().0.iter().map(|bytes| Cell(words::unpack(*bytes)));
-    let Some(Cell([k, 0, 0, 0])) = cells.next() else { return Err(Why::Place.here()) };
+    let Some(Cell([k, _, 0, 0])) = cells.next() else { return Err(Why::Place.here()) };
     let used: Vec<Cell> = cells.take(k.into()).collect();
     if used.len() < k.into() { Err(Why::Place.here()) } else { Ok(used) }
 }
 
-/// Writes a place over the whole cursor: the number of cells, the cells, zeros.
+/// Writes a place over the whole cursor: the number of cells, the cells, zeros. Word 1 of cell 0 stays.
 pub fn store(cells: &[Cell], cursor: &mut [u8]) {
+    let word = word(cursor);
     cursor.fill(0);
     words::put(cursor, 0, cells.len() as u16);
+    words::put(cursor, 1, word);
     for (cell, room) in cells.iter().zip(cursor.as_chunks_mut().0.iter_mut().skip(1)) {
         *room = words::pack(cell.0);
     }

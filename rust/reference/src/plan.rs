@@ -172,6 +172,11 @@ impl<'a> Rules<'a> {
         }
     }
 
+    /// Whether there is a rule of this number, and it is closed.
+    fn has_closed(self, rule: u16) -> bool {
+        usize::from(rule) < self.count() && Sort::CLOSED.has(self.kind(rule))
+    }
+
     /// A rule of an accepted plan.
     pub fn get(self, rule: u16) -> Rule {
         Rule::of(self.words(rule.into()))
@@ -199,7 +204,7 @@ impl<'a> Rules<'a> {
             lower &= self.judge_rule(number).map_err(|why| why.at(number))?;
         }
         let order = if lower { None } else { Some(reach::order(self).map_err(|lowest| Why::Cycle.at(lowest))?) };
-        if usize::from(start) >= self.count() || !Sort::CLOSED.has(self.kind(start)) {
+        if !self.has_closed(start) {
             return Err(Why::Start.here());
         }
         Ok(order)
@@ -220,6 +225,13 @@ impl Plan<'_> {
 
     pub fn format(&self) -> Format {
         self.rules.format()
+    }
+
+    /// The rule whose forest is walked by a cursor with this word 1 in its cell 0: the start for 0, else the one whose number plus one it is. None
+    /// for a number beyond the rules or of a holed rule (document 02, Note 10).
+    pub fn walked(&self, word: u16) -> Option<u16> {
+        let rule = word.checked_sub(1).unwrap_or(self.start);
+        self.rules.has_closed(rule).then_some(rule)
     }
 
     /// All rules, each after those that it names.

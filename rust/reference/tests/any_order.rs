@@ -232,7 +232,7 @@ fn as_the_sample(number: &[u16]) {
             let mut out = vec![0; answers::LENGTH * letters.len()];
             let walked = match by_rules {
                 true => rules::walk(&plan, &mut work, &mut cursor, letters.as_bytes(), &mut out),
-                false => unfolded.walk(&mut work, &mut cursor, letters.as_bytes(), &mut out),
+                false => unfolded.walk(&mut work, &mut cursor, letters.as_bytes(), &mut out).expect("eleven nodes"),
             };
             let answers: Vec<u32> = (0..letters.len()).map(|index| answers::get(&out, index)).collect();
             let cells: Vec<Cell> = cells.iter().map(|cell| Cell(*cell).renumbered(number)).collect();

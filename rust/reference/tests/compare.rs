@@ -49,7 +49,7 @@ impl Desk {
         assert!(needed.iter().all(|byte| *byte == 0) && past == [9; 3], "past 8 work is zeros");
         if let Some(unfolded) = Unfolded::of(&self.plan, 3_000) {
             work.fill(9);
-            assert_eq!(unfolded.compare(&mut work, first, second, budget), compared, "the references agree");
+            assert_eq!(unfolded.compare(&mut work, first, second, budget), Some(compared), "the references agree");
             let (needed, past) = work.split_at(work_bytes(self.n));
             assert!(needed.iter().all(|byte| *byte == 0) && past == [9; 3], "past 8 work is zeros");
         }
@@ -267,7 +267,7 @@ fn refusals_in_their_order() {
                 let cleared = if why == Some(Why::Lent) { 0 } else { needed };
                 assert!(work[..cleared].iter().all(|byte| *byte == 0) && work[cleared..].iter().all(|byte| *byte == 9));
                 assert_eq!(compared.err(), why.map(Why::here));
-                assert_eq!(unfolded.compare(&mut work, first, second, budget), compared);
+                assert_eq!(unfolded.compare(&mut work, first, second, budget), Some(compared));
             }
         };
         comes(needed, &node, &node, None);

@@ -140,7 +140,7 @@ fn walked(plan: &[u8], unfolded: Option<&Unfolded>, label: u32) {
             let (mut cursor, mut out) = (vec![0; cursor_bytes(4)], vec![9; answers::LENGTH * answered + rest]);
             let walked = match unfolded {
                 None => rules::walk(plan, &mut work, &mut cursor, b"afnn", &mut out),
-                Some(unfolded) => unfolded.walk(&mut work, &mut cursor, b"afnn", &mut out),
+                Some(unfolded) => unfolded.walk(&mut work, &mut cursor, b"afnn", &mut out).expect("three nodes"),
             };
             if answered < 4 {
                 assert_eq!((walked, out), (Err(Why::Lent.here()), vec![9; 12 + rest]));

@@ -182,7 +182,8 @@ fn the_finger_on_more_rules() {
             for letters in [&b"aff"[..], &[b'f'; 700], &[b'n'; 900], b"ufplnpsz", &[b'p'; 1_100], b"uuu", b"zlll"] {
                 let [by_rules, by_finger] = &mut cursors;
                 let mut out = vec![9; answers::LENGTH * letters.len()];
-                unfolded.walk(&mut vec![5; work_bytes(n)], by_finger, letters, &mut out).expect("from above");
+                let walked = unfolded.walk(&mut vec![5; work_bytes(n)], by_finger, letters, &mut out);
+                assert_eq!(walked, Some(Ok(())), "from above");
                 let labels = (0..letters.len()).map(|index| answers::get(&out, index)).collect();
                 assert_eq!(walk(&plan, n, by_rules, letters), Ok(labels));
                 assert!(by_rules == by_finger, "the same place");

@@ -3,7 +3,8 @@ use crate::draft::Draft;
 use mealplan::LabelRow;
 use reference::copy::{Client, copy_bytes};
 use reference::rows::{LAST_LABEL, Row};
-use reference::{Checked, Compared, Format, Measured, Refused, Unsealed, answers, rules, unfolded::Unfolded};
+use reference::unfolded::{Unfolded, forest::Forest};
+use reference::{Checked, Compared, Format, Measured, Refused, Unsealed, answers, rules, words};
 use reference::{plan, plan::cursor_bytes, plan::work_bytes};
 
 #[derive(Clone, Copy, PartialEq, Eq, PartialOrd, Ord, Debug)]
@@ -136,6 +137,12 @@ impl Call {
         Client { rows: taken(&self.rows), class: self.class }
     }
 
+    /// The same call with a cursor whose word 1 of cell 0 is this one.
+    pub fn with_word(mut self, word: u16) -> Call {
+        words::put(&mut self.cursor, 1, word);
+        self
+    }
+
     /// The comparison of two stored places of a plan.
     pub fn compare(draft: &Draft, cursor: Vec<u8>, second: Vec<u8>, budget: u32) -> Call {
         Call { cursor, second, budget, ..Call::new(Operation::Compare, draft.plan(), draft.n()) }
@@ -254,6 +261,11 @@ impl OnForest {
         }
         self.unfolded.as_ref()
     }
+
+    /// The forest of the rule that word 1 of a cursor's cell 0 names, unless it or the plan's own is too large.
+    pub fn walked(&mut self, plan: &[u8], word: u16) -> Option<&Forest> {
+        self.unfold(plan)?.walked(word).ok()?
+    }
 }
 
 impl Implementation for OnForest {
@@ -270,10 +282,10 @@ impl Implementation for OnForest {
             Operation::Measure => unfolded.measure(lent.work).map(Values::Measured),
             Operation::Spread => unfolded.spread(lent.work, lent.out).map(Values::Length),
             Operation::Compare => {
-                unfolded.compare(lent.work, lent.cursor, lent.second, lent.budget).map(Values::Compared)
+                unfolded.compare(lent.work, lent.cursor, lent.second, lent.budget)?.map(Values::Compared)
             }
             Operation::Grams => unfolded.grams(&taken(lent.rows), lent.work).map(Values::Grams),
-            _ => unfolded.walk(lent.work, lent.cursor, lent.letters, lent.answers).map(|()| Values::Walked),
+            _ => unfolded.walk(lent.work, lent.cursor, lent.letters, lent.answers)?.map(|()| Values::Walked),
         })
     }
 }

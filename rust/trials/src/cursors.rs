@@ -17,6 +17,12 @@ impl Stored {
         Stored { head: [place.len() as u16, 0, 0, 0], cells: place.to_vec() }
     }
 
+    /// The place of a rule that this word names.
+    pub fn with_word(mut self, word: u16) -> Stored {
+        self.head[1] = word;
+        self
+    }
+
     /// Writes the cells over a cursor, as far as it goes; what is past them stays.
     pub fn write(&self, cursor: &mut [u8]) {
         let cells = std::iter::once(self.head).chain(self.cells.iter().map(|cell| cell.0));
@@ -101,16 +107,39 @@ pub fn all() -> Vec<Damage> {
     all
 }
 
-/// Cell 0: its later words, and a k that the needed words don't hold.
+/// Cell 0: a word 1 that names no closed rule, or another than the place is of; words 2 and 3; and a k that the needed words don't hold.
 fn in_head() -> Vec<Damage> {
     let mut all = Vec::new();
-    for word in 1..4 {
+    for (sort, closed) in [("a holed rule", false), ("another rule", true)] {
+        all.push(damage(&format!("word 1 of cell 0 names {sort}"), move |stored, known, random| {
+            let rules = known.rule_numbers(|rule| Sort::CLOSED.has(known.draft.kind(rule.into())) == closed);
+            stored.head[1] = if rules.is_empty() { return None } else { random.pick(&rules) + 1 };
+            Some(())
+        }));
+    }
+    all.push(damage("word 1 of cell 0 names a holed rule, above the forest", |stored, known, random| {
+        let rules = known.rule_numbers(|rule| Sort::HOLED.has(known.draft.kind(rule.into())));
+        stored.head = [0, if rules.is_empty() { return None } else { random.pick(&rules) + 1 }, 0, 0];
+        Some(())
+    }));
+    for (way, above) in [("", false), (", above the forest", true)] {
+        all.push(damage(&format!("word 1 of cell 0 is beyond the rules{way}"), move |stored, known, random| {
+            let n = known.draft.n();
+            let far = random.between(n + 1, 65_535);
+            stored.head[1] = random.pick(&[n + 1, n + 2, far, 65_535]) as u16;
+            if above {
+                stored.head[0] = 0;
+            }
+            Some(())
+        }));
+    }
+    for word in 2..4 {
         all.push(damage(&format!("word {word} of cell 0"), move |stored, _, random| {
             stored.head[word] = random.pick(&[1, 255, 256, 65_535]);
             Some(())
         }));
         all.push(damage(&format!("word {word} of cell 0 above the forest"), move |stored, _, random| {
-            stored.head = [0; 4];
+            stored.head[0] = 0;
             stored.head[word] = random.pick(&[1, 256, 65_535]);
             Some(())
         }));

@@ -56,11 +56,15 @@ fn ask_front(before: &[u8], outcome: &Outcome, after: &[u8]) {
 }
 
 fn ask_walk(before: &Call, outcome: &Outcome, after: &Call, n: usize) {
+    let head = |cursor: &[u8]| cursor.get(2..8).map(<[u8]>::to_vec);
+    assert_eq!(head(&before.cursor), head(&after.cursor), "word 1 stays through every walk, and so do words 2 and 3");
     if outcome.is_err() {
         assert!(before.cursor == after.cursor, "refused, the cursor is untouched");
         assert!(before.answers == after.answers, "refused, answers are untouched");
         return;
     }
+    assert!(after.cursor[4..8] == [0; 4], "words 2 and 3 must be 0");
+    assert!(usize::from(words::get(&after.cursor, 1)) <= n, "word 1 names no rule beyond them");
     let (needed, answered) = (cursor_bytes(n), answers::LENGTH * before.letters.len());
     let (k, k_before) = (cells(&after.cursor), cells(&before.cursor));
     assert!(k <= 3 * n, "k is at most 3 × n");

@@ -32,6 +32,7 @@ pub fn try_all(trial: &mut Trial, effort: usize) {
     rounds::orders::agree(trial, 10 * effort);
     rounds::formats::agree(trial, 10 * effort);
     rounds::compares::agree(trial, 12 * effort);
+    rounds::days::agree(trial, 12 * effort);
     rounds::wards::agree(trial, effort.div_ceil(5));
     rounds::rows::agree(trial, 2 * effort);
     rounds::copies::refuse(trial, effort);

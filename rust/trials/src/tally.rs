@@ -42,6 +42,11 @@ pub const LEAST_PARTED: [u64; 2] = [5_000, 200];
 pub const LEAST_BEYOND: u64 = 300;
 /// How many forests must have been measured with dividers among other nodes, and of dividers alone.
 pub const LEAST_DIVIDED: [u64; 2] = [300, 50];
+/// How many rules must have been walked by number beside the plan started there: the start, others that it reaches, and those that it doesn't; how many
+/// empty ones; how many letters there; and how often places of two words must have been compared.
+pub const LEAST_DAYS: [u64; 4] = [200; 4];
+pub const LEAST_LETTERS_OF_DAYS: u64 = 50_000;
+pub const LEAST_WORDS_COMPARED: u64 = 1_000;
 /// The last refusal.
 const LAST: u32 = Why::TooMany as u32;
 
@@ -87,6 +92,11 @@ pub struct Tally {
     pub beyond: u64,
     /// Forests that were measured with dividers among other nodes, and of dividers alone.
     divided: [u64; 2],
+    /// Rules that were walked by number: the start, those that it reaches, those that it doesn't, and empty ones; letters there and on the plan started
+    /// there; and comparisons of places of two words.
+    pub days: [u64; 4],
+    pub letters_of_days: u64,
+    pub words_compared: u64,
     /// How often a refusal came up: by its number, the way to it, and the operation's name.
     ways: BTreeMap<(u32, String, String), u64>,
 }
@@ -209,6 +219,13 @@ impl Tally {
         if self.divided.iter().zip(LEAST_DIVIDED).any(|(count, least)| *count < least) {
             missing.push(format!("dividers among other nodes and alone: {:?} forests", self.divided));
         }
+        if self.days.iter().zip(LEAST_DAYS).any(|(count, least)| *count < least)
+            || self.letters_of_days < LEAST_LETTERS_OF_DAYS
+            || self.words_compared < LEAST_WORDS_COMPARED
+        {
+            let Tally { days, letters_of_days, words_compared, .. } = self;
+            missing.push(format!("rules by number {days:?}, {letters_of_days} letters, {words_compared} compared"));
+        }
         if 3 * self.moves < self.letters {
             missing.push(format!("{} moves of {} letters", self.moves, self.letters));
         }
@@ -274,6 +291,13 @@ impl fmt::Display for Tally {
             "grams: {} calls weighed more than nothing, {} forests of more than 2^64 - 1 nodes; copies beside what was taken out: {listed} with that \
              listed, {by_rules} of forests that aren't unfolded",
             self.weighed, self.beyond
+        )?;
+        let [start, reached, others, empty] = self.days;
+        writeln!(
+            f,
+            "rules by number beside the plan started there: {start} starts, {reached} that it reaches, {others} that it doesn't, {empty} empty; {} \
+             letters on both; {} comparisons of places of two words",
+            self.letters_of_days, self.words_compared
         )?;
         for number in 1..=LAST {
             let of_number = self.ways.iter().filter(|(key, _)| key.0 == number);

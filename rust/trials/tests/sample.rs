@@ -64,6 +64,41 @@ fn cells_of_the_sample_plan() {
 }
 
 #[test]
+fn days_of_the_sample_plan() {
+    for draft in [families::sample(), wide_sample()] {
+        let [a, b] = [1, 2].map(|rule| draft.rule(rule).label());
+        let above = |word: u16| {
+            let mut reader = Reader::new(&draft);
+            mealplan::stand_above(&mut reader.cursor, word);
+            reader
+        };
+        let mut day = above(mealplan::rule_word(3));
+        assert_eq!(day.walk("a"), Ok(vec![a]));
+        assert_eq!(day.cells(), [[1, 0, 3, 0], [3, 3, 1, 0], [2, 1, 0, 0]]);
+        assert_eq!(day.cursor[..8], [3, 0, 4, 0, 0, 0, 0, 0]);
+        assert_eq!(day.walk("nnu"), Ok(vec![b, None, None]));
+        assert_eq!(day.cells(), [[1, 0, 3, 0], [4, 3, 2, 0], [2, 2, 0, 0]]);
+        assert_eq!(day.walk("ux"), Err(refused(9, 1)));
+        assert_eq!(day.cursor[..8], [3, 0, 4, 0, 0, 0, 0, 0], "the word stays");
+        let (mut start, mut named) = (above(0), above(8));
+        assert_eq!(named.walk("afnnfnn"), start.walk("afnnfnn"));
+        named.cursor[2] = 0;
+        assert_eq!(named.cursor, start.cursor, "they differ in the word alone");
+        assert_eq!(above(1).walk("az"), Ok(vec![None; 2]), "the empty rule");
+        for word in [5, 6, 9, 10, 256, 65_535] {
+            assert_eq!(above(word).walk("a"), Err(refused(10, 0)), "word {word}");
+        }
+        start.walk("z").expect("from a place");
+        let (plan, mut work) = (draft.plan(), vec![9; mealplan::work_bytes(8)]);
+        let mut compare =
+            |one: &Reader, other: &Reader| mealplan::compare(&plan, &mut work, &one.cursor, &other.cursor, 9);
+        assert_eq!(compare(&day, &start), Ok(Compared::Same(1)), "98 of rule 3 and 98 of the start rule");
+        start.walk("p").expect("from a place");
+        assert_eq!(compare(&start, &day), Ok(Compared::Differ(1)));
+    }
+}
+
+#[test]
 fn sizes_of_the_sample_plan() {
     let draft = families::sample();
     let (plan, mut work) = (draft.plan(), vec![9; mealplan::work_bytes(draft.n())]);

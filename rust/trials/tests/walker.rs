@@ -22,9 +22,10 @@ fn moved(walker: &mut Walker, letter: u8) -> Option<u32> {
     }
 }
 
-/// The reference's answers and the place that it ends at.
-fn reference(draft: &Draft, letters: &[u8]) -> (Vec<Option<u32>>, Vec<u8>) {
+/// The reference's answers and the place that it ends at, in the forest of the rule that a word names.
+fn reference(draft: &Draft, word: u16, letters: &[u8]) -> (Vec<Option<u32>>, Vec<u8>) {
     let (mut work, mut cursor) = (vec![0; work_bytes(draft.n())], vec![0; cursor_bytes(draft.n())]);
+    reference::words::put(&mut cursor, 1, word);
     let mut answers = vec![0; 4 * letters.len()];
     reference::rules::walk(&draft.plan(), &mut work, &mut cursor, letters, &mut answers).expect("an accepted plan");
     (mealplan::labels(&answers).collect(), cursor)
@@ -33,7 +34,7 @@ fn reference(draft: &Draft, letters: &[u8]) -> (Vec<Option<u32>>, Vec<u8>) {
 #[test]
 fn methods_answer_as_the_reference_does() {
     let mut random = Random::new(Random::seed());
-    let mut moves = 0;
+    let (mut moves, mut days, mut holed) = (0, 0, 0);
     for round in 0..300 {
         let draft = if round % 2 == 0 { families::any(&mut random, 60) } else { random_plans::any(&mut random, 40) };
         let draft = if round % 3 == 0 { random_plans::widened(&draft, &mut random) } else { draft };
@@ -52,9 +53,21 @@ fn methods_answer_as_the_reference_does() {
             assert_eq!(plan.spread(text.len()).as_ref(), Ok(&text));
         }
 
+        // Every third walker is one of a rule by number, which may be holed.
+        let rule = (round % 3 == 1).then(|| random.below(draft.n()) as u16);
+        let made = |rule: Option<u16>| rule.map_or(Ok(plan.walker()), |rule| plan.walker_of(rule));
+        let Ok(mut walker) = made(rule) else {
+            assert!(
+                rule.and_then(|rule| plan.rule(rule)).is_some_and(mealplan::Rule::is_holed),
+                "only a holed rule isn't walked"
+            );
+            holed += 1;
+            continue;
+        };
+        days += usize::from(rule.is_some());
+        assert_eq!((walker.rule(), walker.place().rule()), (rule.unwrap_or(draft.start), rule));
         let letters: Vec<u8> = (0..40).map(|_| random.pick(LETTERS)).collect();
-        let (expected, cursor) = reference(&draft, &letters);
-        let mut walker = plan.walker();
+        let (expected, cursor) = reference(&draft, rule.map_or(0, mealplan::rule_word), &letters);
         let mut kept = Vec::new();
         let answers: Vec<Option<u32>> = letters
             .iter()
@@ -66,7 +79,7 @@ fn methods_answer_as_the_reference_does() {
             .collect();
         assert_eq!(answers, expected);
         assert_eq!(walker.place(), Place::from_bytes(&cursor));
-        assert_eq!(plan.walker().walk(&letters), Ok(expected));
+        assert_eq!(made(rule).and_then(|mut walker| walker.walk(&letters)), Ok(expected));
         moves += answers.iter().flatten().count();
 
         // Every place that was kept is gone back to, and is the same as itself.
@@ -78,4 +91,5 @@ fn methods_answer_as_the_reference_does() {
         }
     }
     assert!(moves > 3_000, "only {moves} letters led to a node");
+    assert!(days > 30 && holed > 3, "only {days} rules were walked by number, and {holed} were holed");
 }

@@ -32,7 +32,9 @@ mul-result-3 c = search needs
 
 returns : tie.Need-returns
 unfolding headed usedCells cursorWords
-returns c = ap (λ (y : Head). eqb (y .one) 0 && (eqb (y .two) 0 && (eqb (y .three) 0 && leb (4 * (y .used + 1)) (16 * (c .before .before .before .before .before .before .args .n + 1))))) (c .before .before .before .before .read .ensures)
+returns c =
+    let past-read = c .before .before .before in
+    ap (λ (y : Head). eqb (y .two) 0 && (eqb (y .three) 0 && leb (4 * (y .used + 1)) (16 * (past-read .before .before .args .n + 1)))) (past-read .read .ensures)
 
 pub headed-spec : {M : Type 1} → statement M
 headed-spec =

@@ -19,10 +19,13 @@ same-length c = search needs
 
 returns : tie.Need-returns
 returns c =
-    let a = c .before .before .before .before .before .before .before .before .before .args in
+    let past-write = c .before .before .before .before .before .before in
+    let entry = past-write .before .before in
+    let start = entry .before in
+    let a = start .args in
     c .before .before .clear-past .ensures
-    ∙ ap (clearedPast (a .k) (a .n)) (c .before .before .before .before .before .before .write .ensures)
-    ∙ stored-whole (now (a .cursor)) (a .k) (a .n) (λ i. omega (arith, c .before .before .before .before .before .before .before .before .slice-known .given i)) (c .before .before .before .before .before .before .before .before .before .pre .0) (c .before .before .before .before .before .before .before .before .before .pre .1)
+    ∙ ap (clearedPast (a .k) (a .n)) (past-write .write .ensures)
+    ∙ stored-whole (now (a .cursor)) (a .k) (a .n) (a .word) (λ i. omega (arith, entry .slice-known .given i)) (start .pre .0) (start .pre .1)
 
 pub store-spec : {M : Type 1} → statement M
 store-spec = tie.close (tie.spec write-requires clear-past-requires same-length returns)

@@ -7,8 +7,8 @@ mod screen;
 mod terminal;
 
 use crate::arguments::Arguments;
-use crate::files;
 use crate::trouble::{Outcome, Trouble};
+use crate::{files, operations};
 use keys::{Key, Keys};
 use mealplan::Plan;
 use reader::Reader;
@@ -17,7 +17,8 @@ use std::io::{self, IsTerminal, Read, Write};
 use std::os::fd::AsFd;
 use terminal::Event;
 
-pub const HELP: &str = "Keys: a, z or Home, End first, last root; f or right first child; l last child; n, p or down, up next, previous\n\
+pub const HELP: &str = "  --rule R  the forest of this rule alone; of the start if not given\n\
+     Keys: a, z or Home, End first, last root; f or right first child; l last child; n, p or down, up next, previous\n\
      sibling; u or left parent; s stay; m remembers the place, g goes back there, = compares with it; q ends.\n\
      It shows the path (the place among the siblings at each level, from 1), the label and how many cells the place has.\n";
 
@@ -30,8 +31,10 @@ pub fn run(arguments: &Arguments) -> Outcome {
     if !io::stdin().is_terminal() || !io::stdout().is_terminal() {
         return Err(Trouble::Usage("a reader needs a terminal for its keys and its screen".into()));
     }
+    let rule = arguments.given("--rule")?;
     let bytes = files::read(name)?;
-    let mut reader = Reader::new(name, Plan::new(&bytes).map_err(Trouble::refused(name))?);
+    let plan = Plan::new(&bytes).map_err(Trouble::refused(name))?;
+    let mut reader = Reader::new(name, operations::walker_of(plan, rule)?);
     let trouble = |error| Trouble::File("the terminal".into(), error);
     let ended = {
         let raw = terminal::Raw::begin().map_err(trouble)?;

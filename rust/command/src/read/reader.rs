@@ -2,7 +2,7 @@
 use super::path::{Path, Step};
 use crate::labels::told;
 use crate::rules::format_name;
-use mealplan::{Compared, Label, Measured, Place, Plan, Walker};
+use mealplan::{Compared, Label, Measured, Place, Plan, Refused, Rule, Walker, seal_rules};
 
 /// Siblings that are counted, and letters in a call of that.
 const MOST_COUNTED: u64 = 200_000;
@@ -27,12 +27,12 @@ pub struct Around {
 }
 
 impl<'a> Reader<'a> {
-    pub fn new(name: &str, plan: Plan<'a>) -> Reader<'a> {
+    pub fn new(name: &str, walker: Walker<'a>) -> Reader<'a> {
         Reader {
             name: name.to_owned(),
-            walker: plan.walker(),
+            size: measured(&walker).ok(),
+            walker,
             path: Path::default(),
-            size: plan.measure().ok(),
             remembered: None,
             message: "above the forest: a or z leads in".into(),
         }
@@ -41,11 +41,15 @@ impl<'a> Reader<'a> {
     /// The plan in a line.
     pub fn title(&self) -> String {
         let plan = self.walker.plan();
+        let walked = match self.walker.place().rule() {
+            Some(rule) => format!("rule {rule}"),
+            None => format!("start {}", plan.start()),
+        };
         let size = match self.size {
             Some(Measured { trees, entries, levels }) => format!("{trees} trees, {entries} entries, {levels} levels"),
             None => "more than 2^64 - 1 nodes".into(),
         };
-        format!("{}: {} {} rules, start {}; {size}", self.name, plan.n(), format_name(plan.format()), plan.start())
+        format!("{}: {} {} rules, {walked}; {size}", self.name, plan.n(), format_name(plan.format()))
     }
 
     pub fn path(&self) -> &Path {
@@ -156,17 +160,32 @@ impl<'a> Reader<'a> {
     }
 }
 
+/// The size of the forest that is walked: the plan's, or that of the plan started at the rule.
+fn measured(walker: &Walker) -> Result<Measured, Refused> {
+    let plan = walker.plan();
+    if walker.rule() == plan.start() {
+        return plan.measure();
+    }
+    let rules: Vec<Rule> = plan.rules().collect();
+    let started = seal_rules(&rules, plan.format(), walker.rule())?;
+    Plan::new(&started)?.measure()
+}
+
 #[cfg(test)]
 mod tests {
     use super::*;
-    use mealplan::{Format, Rule, seal_rules};
+    use mealplan::Format;
 
     fn sample() -> Vec<u8> {
         std::fs::read(concat!(env!("CARGO_MANIFEST_DIR"), "/../../samples/plan.bin")).expect("the sample plan")
     }
 
     fn reading<'a>(bytes: &'a [u8], letters: &[u8]) -> Reader<'a> {
-        let mut reader = Reader::new("x", Plan::new(bytes).expect("a plan"));
+        pressed(Plan::new(bytes).expect("a plan").walker(), letters)
+    }
+
+    fn pressed<'a>(walker: Walker<'a>, letters: &[u8]) -> Reader<'a> {
+        let mut reader = Reader::new("x", walker);
         letters.iter().for_each(|letter| reader.go(*letter));
         reader
     }
@@ -186,6 +205,25 @@ mod tests {
         }
         assert_eq!(reading(&bytes, b"zn").message(), "n: nowhere");
         assert_eq!(reading(&bytes, b"").title(), "x: 8 narrow rules, start 7; 3 trees, 11 entries, 3 levels");
+    }
+
+    #[test]
+    fn one_rule_of_the_sample() {
+        let bytes = sample();
+        let plan = Plan::new(&bytes).expect("a plan");
+        let of = |rule: u16, letters: &[u8]| pressed(plan.walker_of(rule).expect("a closed rule"), letters);
+        assert_eq!(of(3, b"").title(), "x: 8 narrow rules, rule 3; 2 trees, 2 entries, 1 levels");
+        assert_eq!(of(7, b"").title(), "x: 8 narrow rules, rule 7; 3 trees, 11 entries, 3 levels");
+        assert_eq!(of(0, b"").title(), "x: 8 narrow rules, rule 0; 0 trees, 0 entries, 0 levels");
+        assert_eq!((of(3, b"zn").path().to_string(), of(3, b"zn").message()), ("2".into(), "n: nowhere"));
+        let around = of(6, b"afnn").around(9, 9, 9);
+        assert_eq!((around.before, around.after, around.children), (vec![98, 97], vec![98], vec![97, 98, 97, 98]));
+        let mut reader = of(3, b"a");
+        reader.remember();
+        reader.go(b'n');
+        reader.go_back();
+        reader.compare();
+        assert_eq!((reader.path().to_string(), reader.message()), ("1".into(), "the same as remembered, 1 in all"));
     }
 
     #[test]

@@ -87,7 +87,7 @@ mod tests {
     fn shown(letters: &[u8], size: Size) -> Vec<String> {
         let bytes =
             std::fs::read(concat!(env!("CARGO_MANIFEST_DIR"), "/../../samples/plan.bin")).expect("the sample plan");
-        let mut reader = Reader::new("x", Plan::new(&bytes).expect("a plan"));
+        let mut reader = Reader::new("x", Plan::new(&bytes).expect("a plan").walker());
         letters.iter().for_each(|letter| reader.go(*letter));
         let frame = frame(&reader, size);
         let text = frame.strip_prefix(HOME).and_then(|text| text.strip_suffix(CLEAR_BELOW)).expect("a whole frame");

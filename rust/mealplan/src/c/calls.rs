@@ -97,7 +97,8 @@ pub fn spread(plan: &[u8], work: &mut [u8], out: &mut [u8]) -> Result<u64, Refus
     answer(number, position, written)
 }
 
-/// Walks from the place stored in `cursor` by `letters`; each gives four bytes of `answers`: a label, or [`NOWHERE`](crate::NOWHERE).
+/// Walks from the place stored in `cursor` by `letters`; each gives four bytes of `answers`: a label, or [`NOWHERE`](crate::NOWHERE). The forest is
+/// that of the rule which word 1 of the cursor's cell 0 names: the start's for 0, else as [`rule_word`](crate::rule_word) has it. The word stays.
 pub fn walk(
     plan: &[u8],
     work: &mut [u8],
@@ -126,7 +127,7 @@ pub fn walk(
 }
 
 /// Compares the subtrees at the places stored in two cursors, as lists of their nodes in reading order with label and level. The count is
-/// never above the budget, and a larger budget changes no [`Compared::Same`] and no [`Compared::Differ`]. `work` needs
+/// never above the budget, and a larger budget changes no [`Compared::Same`] and no [`Compared::Differ`]. Each cursor names its own rule. `work` needs
 /// [`work_bytes`](crate::work_bytes).
 pub fn compare(plan: &[u8], work: &mut [u8], first: &[u8], second: &[u8], budget: u32) -> Result<Compared, Refused> {
     let (mut verdict, mut count, mut position) = (0, 0, 0);

@@ -1,14 +1,15 @@
 //! The moves, on the stack of cells: section 3 of Reh and Sieber's paper, with longest runs for the positions in rows and spines.
 use super::table::{NONE, Table};
-use crate::place::{Cell, Over};
+use crate::place::{self, Cell, Over};
 use crate::plan::{Plan, Rule};
 use crate::words;
 use crate::{NOWHERE, Side};
 
-/// A walker on a plan's forest: the cells of its place, and the rule that it stands on (kind 2 or 4).
+/// A walker on a rule's forest: the cells of its place, and the rule that it stands on (kind 2 or 4).
 pub struct Walker<'a> {
     pub(super) table: Table<'a>,
-    pub(super) start: u16,
+    /// The rule walked, which the cursor names.
+    pub(super) walked: u16,
     /// The cursor, cell 0 first.
     pub(super) cells: &'a mut [[u8; 8]],
     /// For each cell that opens a tree of a row: the cell that opens the row. For one that opens the C of a spine: 0. Past the rows of the
@@ -41,17 +42,18 @@ enum Above {
 }
 
 impl<'a> Walker<'a> {
-    /// A walker at the stored place, if it is one.
+    /// A walker at the stored place, if it is one of a rule that may be walked.
     pub fn at(plan: &Plan, work: &'a mut [u8], cursor: &'a mut [u8]) -> Option<Walker<'a>> {
+        let walked = plan.walked(place::word(cursor))?;
         let (table, rest) = Table::build(plan, work);
         let (cells, opened) = (cursor.as_chunks_mut().0, rest.as_chunks_mut().0);
-        let mut walker = Walker { table, start: plan.start, cells, opened, used: 0, here: plan.start };
+        let mut walker = Walker { table, walked, cells, opened, used: 0, here: walked };
         walker.accept_stored().then_some(walker)
     }
 
-    /// Leaves the place in the cursor: cell 0, and zeros past the used cells.
+    /// Leaves the place in the cursor: the number of used cells, and zeros past them. The rest of cell 0 is as it was.
     pub fn store(&mut self) {
-        self.cells[0] = words::pack([self.used as u16, 0, 0, 0]);
+        words::put(&mut self.cells[0], 0, self.used as u16);
         self.cells[self.used + 1..].as_flattened_mut().fill(0);
     }
 
@@ -76,11 +78,11 @@ impl<'a> Walker<'a> {
 
     /// The first or last tree of the forest.
     fn root(&mut self, end: Side) -> bool {
-        if self.table.representative(self.start) == NONE {
+        if self.table.representative(self.walked) == NONE {
             return false;
         }
         self.used = 0;
-        self.enter_row(Over::All, self.start, end);
+        self.enter_row(Over::All, self.walked, end);
         true
     }
 

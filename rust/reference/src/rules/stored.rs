@@ -30,7 +30,7 @@ struct Reading {
 impl Walker<'_> {
     /// Whether the stored cells are a place; if so, the walker stands there.
     pub(super) fn accept_stored(&mut self) -> bool {
-        let [k, 0, 0, 0] = words::unpack(self.cells[0]) else { return false };
+        let [k, _, 0, 0] = words::unpack(self.cells[0]) else { return false };
         let k = usize::from(k);
         if k == 0 {
             return true;
@@ -77,10 +77,10 @@ impl Walker<'_> {
         }
     }
 
-    /// Whether a row over this stand-in may open here: the start forest, or one that the node just reached is over.
+    /// Whether a row over this stand-in may open here: the forest walked, or one that the node just reached is over.
     fn row_fits(&self, reading: &Reading, over: u16, representative: u16) -> bool {
         let forest = match reading.opened {
-            Opened::Nothing if over == Over::All as u16 => self.start,
+            Opened::Nothing if over == Over::All as u16 => self.walked,
             Opened::Spine(_) => match self.table.rule(reading.at) {
                 Rule::Node(_, c) if over == Over::All as u16 => c,
                 Rule::Part(_, l, _) if over == Over::Left as u16 => l,

@@ -5,10 +5,10 @@ use crate::Side;
 use crate::place::{Cell, Over};
 use crate::plan::{Plan, Rule};
 
-/// The forest of an accepted plan, unless it has more nodes than `most`.
-pub fn unfold(plan: &Plan, most: usize) -> Option<Forest> {
+/// The forest of a closed rule of an accepted plan, unless it has more nodes than `most`.
+pub fn unfold(plan: &Plan, rule: u16, most: usize) -> Option<Forest> {
     let mut unfolding = Unfolding { plan, empty: empty_rules(plan), left: most };
-    Some(Forest::new(unfolding.row(Over::All, plan.start, &[])?))
+    Some(Forest::new(unfolding.row(Over::All, rule, &[])?))
 }
 
 struct Unfolding<'a> {

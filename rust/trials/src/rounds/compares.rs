@@ -43,11 +43,11 @@ fn at_budgets(trial: &mut Trial, call: &Call) -> Compared {
 }
 
 /// Two stored places in cursors that hold anything behind them, one or both longer than they need be.
-fn call_of(trial: &mut Trial, draft: &Draft, places: [&[Cell]; 2]) -> Call {
+fn call_of(trial: &mut Trial, draft: &Draft, places: [Stored; 2]) -> Call {
     let [cursor, second] = places.map(|place| {
         let longer = trial.random.below(3) * trial.random.below(20);
         let mut cursor = trial.random.leftovers(cursor_bytes(draft.n()) + longer);
-        Stored::of(place).write(&mut cursor);
+        place.write(&mut cursor);
         cursor
     });
     let mut call = Call::compare(draft, cursor, second, 0);
@@ -66,18 +66,24 @@ fn with_few_labels(trial: &mut Trial, draft: &Draft) -> Draft {
     draft.relabelled(|_| trial.random.pick(labels)).in_format(format)
 }
 
-/// Any two places of small forests, and any place with itself.
+/// Any two places of small forests, of one rule or of two, and any place with itself.
 fn small(trial: &mut Trial) {
     let draft = rounds::small(&mut trial.random, 40);
     let draft = with_few_labels(trial, &draft);
     let draft = rounds::in_any_order(&mut trial.random, draft);
-    let Some(places) = places::places_of(trial, &draft) else { return };
-    let nodes: Vec<Vec<Cell>> = places.into_iter().filter(|place| !place.is_empty()).collect();
+    let of = [(); 2].map(|()| places::places_of(trial, &draft));
+    let [Some((word, places)), Some((other, others))] = of else { return };
+    let nodes = |places: Vec<Vec<Cell>>| places.into_iter().filter(|place| !place.is_empty()).collect::<Vec<_>>();
+    let (nodes, others) = (nodes(places), nodes(others));
     for pair in 0..4 {
-        let first = trial.random.pick(&nodes);
-        let second = if pair == 0 { first.clone() } else { trial.random.pick(&nodes) };
-        let call = call_of(trial, &draft, [&first, &second]);
+        let first = Stored::of(&trial.random.pick(&nodes)).with_word(word);
+        let second = match pair {
+            0 => first.clone(),
+            _ => Stored::of(&trial.random.pick(&others)).with_word(other),
+        };
+        let call = call_of(trial, &draft, [first, second]);
         at_budgets(trial, &call);
+        trial.tally.words_compared += u64::from(pair > 0 && word != other);
     }
 }
 
@@ -145,7 +151,7 @@ fn twins(trial: &mut Trial, change: Option<(&str, Change)>) {
     let tops = starts.map(|start| both.add(Rule::Node(121, start)));
     both.add(Rule::Pair(tops[0], tops[1]));
     let both = rounds::in_any_order(&mut trial.random, both);
-    let [first, second] = [b"a", b"z"].map(|letters| at(&both, letters));
+    let [first, second] = [b"a", b"z"].map(|letters| at(&both, 0, letters));
     for (cursor, second) in [(&first, &second), (&second, &first)] {
         let found = at_budgets(trial, &Call::compare(&both, cursor.clone(), second.clone(), 0));
         let differ = matches!(found, Compared::Differ(_));
@@ -154,13 +160,13 @@ fn twins(trial: &mut Trial, change: Option<(&str, Change)>) {
     // Below them, by the same letters.
     for _ in 0..2 {
         let letters: Vec<u8> = (0..trial.random.between(1, 12)).map(|_| trial.random.pick(b"ffflnnnnpu")).collect();
-        let [cursor, second] = [b'a', b'z'].map(|top| at(&both, &[&[top, b'f'][..], &letters].concat()));
+        let [cursor, second] = [b'a', b'z'].map(|top| at(&both, 0, &[&[top, b'f'][..], &letters].concat()));
         at_budgets(trial, &Call::compare(&both, cursor, second, 0));
     }
 }
 
 /// The rules that the start reaches, and the start.
-fn reached(draft: &Draft) -> Vec<u16> {
+pub(super) fn reached(draft: &Draft) -> Vec<u16> {
     let mut seen = vec![false; draft.n()];
     let mut reached = vec![draft.start];
     let mut done = 0;
@@ -176,9 +182,9 @@ fn reached(draft: &Draft) -> Vec<u16> {
     reached
 }
 
-/// The cursor where letters lead to from above the forest.
-fn at(draft: &Draft, letters: &[u8]) -> Vec<u8> {
-    let mut call = Call::new(Operation::Walk, draft.plan(), draft.n()).with_letters(letters);
+/// The cursor where letters lead to from above the forest of the rule that a word names.
+fn at(draft: &Draft, word: u16, letters: &[u8]) -> Vec<u8> {
+    let mut call = Call::new(Operation::Walk, draft.plan(), draft.n()).with_word(word).with_letters(letters);
     rules::walk(&call.plan, &mut call.work, &mut call.cursor, letters, &mut call.answers).expect("from above");
     call.cursor
 }
@@ -196,14 +202,15 @@ fn large(trial: &mut Trial) {
     compare_far(trial, &draft);
 }
 
-/// Two places that letters at random lead to, at small budgets; also where one of them is above the forest.
+/// Two places that letters at random lead to, of one rule or of two, at small budgets; also where one of them is above the forest.
 pub(super) fn compare_far(trial: &mut Trial, draft: &Draft) {
-    let above = Call::new(Operation::Walk, draft.plan(), draft.n());
     let place = |trial: &mut Trial| {
+        let word = rounds::word(&mut trial.random, draft);
+        let above = Call::new(Operation::Walk, draft.plan(), draft.n()).with_word(word);
         let count = trial.random.between(1, 60);
         let letters = [b"a".to_vec(), rounds::letters(&mut trial.random, count)].concat();
         let letters = walks::mostly_moving(trial, &above, letters);
-        at(draft, &letters)
+        at(draft, word, &letters)
     };
     let (cursor, second) = (place(trial), place(trial));
     let most = trial.random.pick(&[1, 10, 100, 1_000]);
@@ -305,7 +312,10 @@ fn known(trial: &mut Trial) {
     for Known { way, draft, same, number } in all.into_iter().chain([over_row(trial, count + 1)]) {
         let draft = if trial.random.once_in(2) { draft.in_format(Format::Wide) } else { draft };
         let draft = rounds::in_any_order(&mut trial.random, draft);
-        let [first, last] = [b"a", b"z"].map(|letters| at(&draft, letters));
+        // The two are a pair, the start; each side of it may also be named by number.
+        let Rule::Pair(b, c) = draft.rule(draft.start) else { panic!("the start is a pair") };
+        let words = trial.random.pick(&[[0, 0], [0, draft.start + 1], [b + 1, c + 1], [b + 1, 0]]);
+        let [first, last] = [(words[0], b"a"), (words[1], b"z")].map(|(word, letters)| at(&draft, word, letters));
         let (cursor, second) = if trial.random.once_in(2) { (first, last) } else { (last, first) };
         let near = |by: i128| u32::try_from(number as i128 + by).unwrap_or(u32::MAX);
         for budget in [0, 1, near(-2), near(-1), near(0), near(1), any as u32, u32::MAX] {
@@ -320,14 +330,15 @@ fn known(trial: &mut Trial) {
     }
 }
 
-/// 10: a place above the forest, whichever it is, and whatever the other is.
+/// 10: a place above the forest of any rule, whichever it is, and whatever the other is.
 fn above(trial: &mut Trial) {
     let draft = families::sample();
     let draft = rounds::in_any_form(&mut trial.random, draft);
-    let node = at(&draft, b"afn");
-    let above = vec![0; node.len()];
+    let node = at(&draft, 0, b"afn");
+    let word = rounds::word(&mut trial.random, &draft);
+    let above = at(&draft, word, b"");
     let mut headed = node.clone();
-    headed[2 * trial.random.between(1, 3)] = 1;
+    headed[2 * trial.random.between(2, 3)] = 1;
     let ways = [
         ("the first above the forest", &above, &node),
         ("the second above the forest", &node, &above),

@@ -82,7 +82,8 @@ fn widened_text(text: &[u8], labels: &Labels) -> Vec<u8> {
 
 /// The same cells and, but for the labels, the same answers, in a few calls.
 fn same_walks(trial: &mut Trial, both: [&Draft; 2], labels: &Labels) {
-    let mut calls = both.map(|draft| Call::new(Operation::Walk, draft.plan(), draft.n()));
+    let word = rounds::word(&mut trial.random, both[0]);
+    let mut calls = both.map(|draft| Call::new(Operation::Walk, draft.plan(), draft.n()).with_word(word));
     for _ in 0..4 {
         let letters = rounds::letters(&mut trial.random, 100);
         let letters = walks::mostly_moving(trial, &calls[0], letters);

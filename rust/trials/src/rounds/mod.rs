@@ -1,6 +1,7 @@
 //! The rounds of a trial. Each tries one subject as often as it is told.
 pub mod compares;
 pub mod copies;
+pub mod days;
 pub mod formats;
 pub mod grams;
 pub mod orders;
@@ -17,6 +18,7 @@ use crate::draft::Draft;
 use crate::random::Random;
 use crate::{families, random_plans};
 use reference::LETTERS;
+use reference::plan::Sort;
 
 /// A valid narrow plan with a forest small enough to unfold.
 fn small(random: &mut Random, most_rules: usize) -> Draft {
@@ -50,6 +52,14 @@ fn in_any_order(random: &mut Random, draft: Draft) -> Draft {
 fn in_any_form(random: &mut Random, draft: Draft) -> Draft {
     let draft = in_any_format(random, draft);
     in_any_order(random, draft)
+}
+
+/// A word 1 of cell 0 that a walk takes: every other time 0, for the start, else the number plus one of a closed rule.
+fn word(random: &mut Random, draft: &Draft) -> u16 {
+    if random.once_in(2) {
+        return 0;
+    }
+    random.pick(&draft.of_sort(Sort::CLOSED, draft.n())) + 1
 }
 
 /// Letters at random: evenly, with a liking for some, or nearly all the same, so that long rows and deep spines are gone through.

@@ -43,7 +43,10 @@ fn same_sizes(trial: &mut Trial, both: [&Draft; 2]) {
 
 /// The same answers from the same places, in a few calls.
 fn same_walks(trial: &mut Trial, both: [&Draft; 2], number: &[u16]) {
-    let mut calls = both.map(|draft| Call::new(Operation::Walk, draft.plan(), draft.n()));
+    let word = rounds::word(&mut trial.random, both[0]);
+    let renumbered = word.checked_sub(1).map_or(0, |rule| number[usize::from(rule)] + 1);
+    let mut calls = [(both[0], word), (both[1], renumbered)]
+        .map(|(draft, word)| Call::new(Operation::Walk, draft.plan(), draft.n()).with_word(word));
     for _ in 0..4 {
         let letters = rounds::letters(&mut trial.random, 100);
         let letters = walks::mostly_moving(trial, &calls[0], letters);

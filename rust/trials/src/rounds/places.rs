@@ -14,14 +14,14 @@ pub fn refuse(trial: &mut Trial, rounds: usize) {
     for _ in 0..rounds {
         let draft = with_one_sided(rounds::small(&mut trial.random, 40));
         let draft = rounds::in_any_form(&mut trial.random, draft);
-        let Some(places) = places_of(trial, &draft) else { continue };
+        let Some((word, places)) = places_of(trial, &draft) else { continue };
         let known = Known::of(draft);
         for damage in &damages {
             let place = trial.random.pick(&places);
-            let mut stored = Stored::of(&place);
+            let mut stored = Stored::of(&place).with_word(word);
             let applied = (damage.apply)(&mut stored, &known, &mut trial.random).is_some();
             let walk = call_from(trial, &known.draft, &stored);
-            let other = trial.random.pick(&places);
+            let other = Stored::of(&trial.random.pick(&places)).with_word(word);
             for call in [compared_with(trial, &walk, &other), walk] {
                 if applied {
                     trial.perhaps_refused(&call, &damage.way, Why::Place as u32);
@@ -40,10 +40,10 @@ pub fn walk_from_every(trial: &mut Trial, forests: usize) {
         let mut draft = rounds::small(&mut trial.random, 14);
         crate::random_plans::start_within(&mut draft, 40, &mut trial.random);
         let draft = rounds::in_any_form(&mut trial.random, draft);
-        let Some(places) = places_of(trial, &draft) else { continue };
+        let Some((word, places)) = places_of(trial, &draft) else { continue };
         let mut call = Call::new(Operation::Walk, draft.plan(), draft.n());
         for place in &places {
-            let stored = Stored::of(place);
+            let stored = Stored::of(place).with_word(word);
             for letter in LETTERS {
                 call = from_place(call, &stored).with_letters(&[letter]);
                 trial.accepted(&call, "every node's place is accepted");
@@ -79,13 +79,18 @@ fn from_place(mut call: Call, stored: &Stored) -> Call {
     call
 }
 
-/// The places of a plan's nodes, and that above the forest; none if the forest is too large or has no node.
-pub(super) fn places_of(trial: &mut Trial, draft: &Draft) -> Option<Vec<Vec<Cell>>> {
-    let unfolded = trial.forest.unfold(&draft.plan())?;
-    let mut places: Vec<Vec<Cell>> = unfolded.forest.places().cloned().collect();
+/// The places of a rule's nodes, and that above its forest, with the word that names the rule; of the start where the forest of another is too large or
+/// has no node, and none where its own has.
+pub(super) fn places_of(trial: &mut Trial, draft: &Draft) -> Option<(u16, Vec<Vec<Cell>>)> {
+    let word = rounds::word(&mut trial.random, draft);
+    places_by(trial, draft, word).or_else(|| places_by(trial, draft, 0))
+}
+
+fn places_by(trial: &mut Trial, draft: &Draft, word: u16) -> Option<(u16, Vec<Vec<Cell>>)> {
+    let mut places: Vec<Vec<Cell>> = trial.forest.walked(&draft.plan(), word)?.places().cloned().collect();
     // A table's order isn't the same from run to run.
     places.sort_by_key(|place| place.iter().map(|cell| cell.0).collect::<Vec<_>>());
-    (places.len() > 1).then_some(places)
+    (places.len() > 1).then_some((word, places))
 }
 
 /// The same plan with a one-sided pair over every tenth rule or so, so that some rule stands in for another.
@@ -115,9 +120,9 @@ fn call_from(trial: &mut Trial, draft: &Draft, stored: &Stored) -> Call {
 }
 
 /// The place that a walk begins at compared with another, in either sequence.
-fn compared_with(trial: &mut Trial, walk: &Call, other: &[Cell]) -> Call {
+fn compared_with(trial: &mut Trial, walk: &Call, other: &Stored) -> Call {
     let mut second = walk.cursor.clone();
-    Stored::of(other).write(&mut second);
+    other.write(&mut second);
     let mut cursor = walk.cursor.clone();
     if trial.random.once_in(2) {
         std::mem::swap(&mut cursor, &mut second);
@@ -140,7 +145,7 @@ fn empty_forest(trial: &mut Trial) {
     ] {
         let call = call_from(trial, &draft, &Stored::of(&cells));
         trial.refused(&call, way, Why::Place.here());
-        let call = compared_with(trial, &call, &cells);
+        let call = compared_with(trial, &call, &Stored::of(&cells));
         trial.refused(&call, way, Why::Place.here());
     }
     let call = call_from(trial, &draft, &Stored::of(&[]));

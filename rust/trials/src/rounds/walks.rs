@@ -31,27 +31,29 @@ pub fn large(trial: &mut Trial, plans: usize, calls: usize) {
     }
 }
 
-/// One list of calls with one cursor, which begins above the forest. Some calls are refused (8 or 9) and leave the place. Beside it goes a
-/// finger that is fed the letters and lengths alone, where the forest can be unfolded.
+/// One list of calls with one cursor, which begins above the forest of the start or of another rule. Some calls are refused (8 or 9) and leave the
+/// place. Beside it goes a finger that is fed the letters and lengths alone, where the forest can be unfolded.
 pub(super) fn list(trial: &mut Trial, draft: &Draft, calls: usize) {
     let plan = draft.plan();
     let mut call = Call::new(Operation::Walk, plan.clone(), draft.n());
     let longer = trial.random.below(40);
     call.cursor = trial.random.leftovers(call.cursor.len() + longer);
     call.cursor[..8].fill(0);
+    let word = rounds::word(&mut trial.random, draft);
+    call = call.with_word(word);
     let mut finger = Finger::default();
-    let nodes = trial.forest.unfold(&plan).map_or(calls, |unfolded| unfolded.forest.places().count());
+    let nodes = trial.forest.walked(&plan, word).map_or(calls, |forest| forest.places().count());
     for _ in 0..calls.min(nodes) {
         call = next_call(trial, call, draft.n());
         let Judged { outcome, after } = trial.judge(&call);
         if outcome.is_ok()
-            && let Some(unfolded) = trial.forest.unfold(&plan)
+            && let Some(forest) = trial.forest.walked(&plan, word)
         {
             for (index, letter) in call.letters.iter().enumerate() {
-                let answer = finger.answer(&unfolded.forest, *letter);
+                let answer = finger.answer(forest, *letter);
                 assert_eq!(answers::get(&after.answers, index), answer, "demand 3: the finger's answers");
             }
-            let place = unfolded.forest.place_at(&finger.path);
+            let place = forest.place_at(&finger.path);
             assert_eq!(reference::place::used(&after.cursor).expect("cell 0"), place, "demand 3: the finger's cells");
         }
         call.cursor = after.cursor;

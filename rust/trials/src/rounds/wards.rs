@@ -115,7 +115,8 @@ fn works(trial: &mut Trial, draft: &Draft) {
 /// One letter for as long as it leads somewhere, so that the place has many cells; then every letter from there, and the place damaged.
 fn places(trial: &mut Trial, draft: &Draft) {
     let n = draft.n();
-    let mut call = Call::new(Operation::Walk, draft.plan(), n);
+    let word = rounds::word(&mut trial.random, draft);
+    let mut call = Call::new(Operation::Walk, draft.plan(), n).with_word(word);
     let (root, letter) = trial.random.pick(&[(b'a', b'f'), (b'z', b'l'), (b'a', b'n'), (b'z', b'p')]);
     // Of nodes over each other all, of a row the middle, which has most cells.
     let count = if b"fl".contains(&letter) { n } else { n / 2 };
@@ -131,7 +132,7 @@ fn places(trial: &mut Trial, draft: &Draft) {
     }
     let known = Known::of(draft.clone());
     for damage in trial.random.some(cursors::all(), 4) {
-        let mut stored = Stored::of(&cells);
+        let mut stored = Stored::of(&cells).with_word(word);
         if (damage.apply)(&mut stored, &known, &mut trial.random).is_some() {
             let mut call = call.clone().with_letters(b"s");
             stored.write(&mut call.cursor);
