@@ -2,10 +2,10 @@
 use Prim.Native.Nat.{ℕ, _<_, _≤_}
 use native.Mathlib.Omega.{arith}
 use mathlib.Core.Path.{_≡_, refl, _∙_}
-use mathlib.Core.Bool.{Bool, true, false, _&&_, _||_}
+use mathlib.Core.Bool.{Bool, true, false, _&&_, _||_, and-eq-true-iff}
 use mathlib.Core.List.{List, [], _∷_}
 use lib.Dec.{ltb, leb}
-use borrow.Author.Tests.{ltb-false, le-ltb, le-leb, lt-leb}
+use borrow.Author.Tests.{ltb-false, leb-true, le-ltb, le-leb, lt-leb}
 use Rattle.rule.specs.Rule.{largestLabel}
 use Rattle.label_rows.specs.declared.LabelRow.{LabelRow}
 use Rattle.label_rows.specs.Coverage.{invalid, largestClass}
@@ -48,6 +48,12 @@ module _ (r : LabelRow) (x : ℕ) where
       ends : (b : Bool) → (b && false) ≡ false
       ends true = refl
       ends false = refl
+
+  pub covers-bounds : covers r x ≡ true → (r .lowest ≤ x) × (x ≤ r .highest)
+  unfolding covers
+  covers-bounds e =
+      let both = and-eq-true-iff (leb (r .lowest) x) (leb x (r .highest)) .0 e in
+      (leb-true _ _ (both .0), leb-true _ _ (both .1))
 
 module _ (r : LabelRow) (rs : List LabelRow) (x : ℕ) where
   pub covering-first : covers r x ≡ true → covering (r ∷ rs) x ≡ r ∷ covering rs x

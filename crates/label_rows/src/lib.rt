@@ -3,10 +3,21 @@
 use record::Format;
 use refusal::Refusal;
 ghost use mathlib.Core.Path.{_≡_};
-ghost use Prim.Native.Nat.{_≤_};
+ghost use mathlib.Core.Bool.{cond};
+ghost use Prim.Native.Nat.{_+_, _<_, _≤_, _^_};
+ghost use lib.Dec.{ltb};
 ghost use Rattle.rule.specs.Rule.{largestLabel};
 ghost use Rattle.label_rows.specs.Coverage.{invalid, extended, ended, coverage};
-ghost use Rattle.label_rows.specs.Class.{rowOf, labelJudged, classed};
+ghost use Rattle.label_rows.specs.Class.{covers, rowOf, labelJudged, classed};
+
+// The number of labels.
+const LABELS: usize = 16777216;
+
+// The most rows of which one is guessed, 2^40: the product of their number and a label fits.
+const MOST_GUESSED: usize = 1099511627776;
+
+// 2^33, more than a number of 32 bits: whether one is below another is a quotient by it.
+const BEYOND: usize = 8589934592;
 
 // A row of the list: the labels from the lowest to the highest have the class, and an entry with one of them weighs so many grams.
 #[repr(C)]
@@ -51,6 +62,14 @@ impl LabelRow {
     {
         (self.highest < self.lowest)
             | ((Format::WIDE_LABEL < self.highest) | (LabelRow::LARGEST_CLASS < self.class))
+    }
+
+    // Whether a row covers a label, by one comparison: a label below the lowest wraps to a number above all widths.
+    fn covers(self, label: u32) -> bool
+        requires { ⌜ self .lowest ≤ self .highest ⌝ }
+        ensures { λ b. ⌜ b ≡ covers self label ⌝ }
+    {
+        std::num::wrapping_sub_u32(label, self.lowest) <= self.highest - self.lowest
     }
 }
 
@@ -134,20 +153,81 @@ pub fn check(rows: &[LabelRow]) -> Coverage
     front.end(i)
 }
 
-// The row of a label in a sound list, by binary search: of the rows from low to high, the first whose highest label isn't below it.
+// Of how many of n rows one is guessed.
+fn guessed_among(n: usize) -> usize
+    requires { ⌜ 0 < n ⌝ }
+    ensures { λ m. ⌜ (0 < m) × ((m ≤ n) × (m ≤ 2 ^ 40)) ⌝ }
+{
+    if n <= MOST_GUESSED {
+        return n;
+    }
+    MOST_GUESSED
+}
+
+// A row of a list of n rows: that of a label, if all have as many labels.
+fn guess(label: u32, n: usize) -> usize
+    requires { ⌜ (label ≤ largestLabel) × (0 < n) ⌝ }
+    ensures { λ k. ⌜ k < n ⌝ }
+{
+    if n <= 1 {
+        return 0;
+    }
+    (label as usize) * guessed_among(n) / LABELS
+}
+
+// The row where a search begins: the one guessed, if it covers the label, and else the first.
+fn first_row(guessed: usize, row: LabelRow, label: u32) -> usize
+    requires { ⌜ row .lowest ≤ row .highest ⌝ }
+    ensures { λ k. ⌜ k ≡ cond (covers row label) guessed 0 ⌝ }
+{
+    if row.covers(label) {
+        return guessed;
+    }
+    0
+}
+
+// How many rows are searched from there on: one, or all.
+fn rows_left(row: LabelRow, label: u32, n: usize) -> usize
+    requires { ⌜ row .lowest ≤ row .highest ⌝ }
+    ensures { λ m. ⌜ m ≡ cond (covers row label) 1 n ⌝ }
+{
+    if row.covers(label) {
+        return 1;
+    }
+    n
+}
+
+// 1 if a row's highest label is below a label, and else 0: a quotient and no comparison, of which the compiler makes a jump.
+fn below(highest: u32, label: u32) -> usize
+    ensures { λ k. ⌜ k ≡ cond (ltb highest label) 1 0 ⌝ }
+{
+    (BEYOND - 1 + (label as usize) - (highest as usize)) / BEYOND
+}
+
+// Where the search goes on, by the highest label of the last of the first half of the rows: past them, or where it was.
+fn next_row(low: usize, half: usize, highest: u32, label: u32) -> usize
+    requires { ⌜ low + half < 2 ^ 64 ⌝ }
+    ensures { λ k. ⌜ k ≡ cond (ltb highest label) (low + half) low ⌝ }
+{
+    low + half * below(highest, label)
+}
+
+// The row of a label in a sound list: the one guessed, if it covers the label, and else by binary search: of `count` rows from `low` on the
+// first whose highest label isn't below it. A step chooses by values, and how many steps there are depends on the number of rows alone: of
+// labels at random a processor can't foretell which way they lead.
 pub fn find(rows: &[LabelRow], label: u32) -> LabelRow
     requires { ⌜ (coverage (now rows) ≡ Coverage.Whole) × (label ≤ largestLabel) ⌝ }
     ensures { λ r. ⌜ r ≡ rowOf (now (rows .entry)) label ⌝ }
 {
-    let mut low = 0;
-    let mut high = rows.len() - 1;
-    while low < high {
-        let middle = low + (high - low) / 2;
-        if rows[middle].highest < label {
-            low = middle + 1;
-        } else {
-            high = middle;
-        }
+    let n = rows.len();
+    let guessed = guess(label, n);
+    let row = rows[guessed];
+    let mut low = first_row(guessed, row, label);
+    let mut count = rows_left(row, label, n);
+    while 1 < count {
+        let half = count / 2;
+        low = next_row(low, half, rows[low + half - 1].highest, label);
+        count -= half;
     }
     rows[low]
 }

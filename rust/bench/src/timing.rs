@@ -2,12 +2,14 @@
 use reference::Refused;
 use reference::copy::{Client, copy_bytes};
 use reference::rows::{LAST_LABEL, Row, in_order};
+use std::collections::BTreeSet;
 use std::hint::black_box;
 use std::ops::{Div, Sub};
 use std::time::Instant;
 use trials::call::{self, ByRules, Call, Implementation, Operation, Outcome, Slices, Values};
 use trials::draft::Draft;
 use trials::library::Library;
+use trials::random::Random;
 
 pub const ROUNDS: usize = 100;
 
@@ -190,6 +192,23 @@ pub fn rows(count: usize) -> Vec<Row> {
     let highest = |i: u32| if i as usize + 1 == count { LAST_LABEL } else { width * (i + 1) - 1 };
     let row = |i: u32| Row { lowest: width * i, highest: highest(i), class: (i % 4) as u16, grams: i as u16 };
     (0..count as u32).map(row).collect()
+}
+
+/// A sound list of so many rows that end at labels at random.
+pub fn uneven_rows(count: usize) -> Vec<Row> {
+    let mut random = Random::new(2);
+    let mut ends = BTreeSet::from([LAST_LABEL]);
+    while ends.len() < count {
+        ends.insert(random.below(LAST_LABEL as usize) as u32);
+    }
+    let lowest = std::iter::once(0).chain(ends.iter().map(|highest| highest + 1));
+    let row = |(i, (lowest, highest)): (usize, (u32, &u32))| Row {
+        lowest,
+        highest: *highest,
+        class: (i % 4) as u16,
+        grams: i as u16,
+    };
+    lowest.zip(&ends).enumerate().map(row).collect()
 }
 
 /// The time of one call for the class of the last label, on a sound list of so many rows: the best of many rounds, by turns.
