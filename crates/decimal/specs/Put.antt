@@ -1,7 +1,7 @@
 -- What the writers of texts and numbers ensure.
 use Prim.Native.Nat.{ℕ, _+_, _≤_}
 use mathlib.Core.Path.{_≡_}
-use mathlib.Core.List.{List}
+use mathlib.Core.List.{List, _++_}
 use lib.ListN.{length, drop}
 use lib.Seq.{sets}
 
@@ -19,3 +19,7 @@ pub record Spelt (text digits : List ℕ) (first : ℕ) : Type 0 where
   pub long : length digits ≡ mostDigits
   pub within : first ≤ mostDigits
   pub text-last : drop first digits ≡ text
+
+-- the bytes printed next, of a text of which so many bytes were printed before
+abbrev pub Next : List ℕ → ℕ → List ℕ → Type 0
+Next text done bytes = drop done text ≡ bytes ++ drop (done + length bytes) text

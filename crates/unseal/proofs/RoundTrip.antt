@@ -99,7 +99,7 @@ module _ (most : ℕ) (s : List ℕ) (n start : ℕ) (bs : Bytes s) (q : Plan mo
       ap₂ (recordsFrom f s) z (sym (q .count))
 
   -- its trailer is the one that seal writes
-  alone-trailer : drop (recordLength f * n) s ≡ trailerBytes f n start
+  pub alone-trailer : drop (recordLength f * n) s ≡ trailerBytes f n start
   unfolding trailerBytes countOf startOf distanceOf markedAs
   alone-trailer =
       let k = recordLength f * n in
@@ -110,7 +110,7 @@ module _ (most : ℕ) (s : List ℕ) (n start : ℕ) (bs : Bytes s) (q : Plan mo
       let b : number 2 s (k + atStart) ≡ start = rw alone-at at (sym (q .begins)) in
       sym (last-parts s k bs (sym alone)) ∙ (λ i. bytes 2 (c i) ++ (bytes 2 (b i) ++ (bytes 4 (d i) ++ m i)))
 
-  alone-words : recordsBytes f (recordsOf s) ≡ take (recordLength f * n) s
+  pub alone-words : recordsBytes f (recordsOf s) ≡ take (recordLength f * n) s
   alone-words = rw alone-records (records-bytes f s 0 n bs (omega arith))
 
   -- sealing its rule words gives it back

@@ -1,0 +1,26 @@
+-- By what check answers. Assumes nothing.
+use borrow.Author.Needs.{needs}
+use mathlib.Core.Path.{sym, ap, _∙_}
+use Rattle.plan_list.specs.Listed.{isAccepted}
+use Rattle.listing.proofs.accepted.Statement.{statement}
+use Rattle.listing.proofs.accepted.Tie as tie
+
+check-requires : tie.Need-check-requires
+check-requires c κs = search needs
+
+enum-told : tie.Need-enum-told
+enum-told c = search needs
+
+enum-told-2 : tie.Need-enum-told-2
+enum-told-2 c = search needs
+
+returns : tie.Need-returns
+unfolding isAccepted
+returns c = sym (ap isAccepted (sym (c .before .before .check .ensures) ∙ c .enum-told .given .1))
+
+returns-2 : tie.Need-returns-2
+unfolding isAccepted
+returns-2 c = sym (ap isAccepted (sym (c .before .before .check .ensures) ∙ c .enum-told2 .given .1))
+
+pub accepted-spec : {M : Type 1} → statement M
+accepted-spec = tie.close (tie.spec check-requires enum-told enum-told-2 returns returns-2)

@@ -1,0 +1,4 @@
+pub mod Small
+pub mod Listed
+pub mod Order
+pub mod Lines
