@@ -100,4 +100,4 @@ module _ (s work cursor letters given : List ℕ) (n start : ℕ) (accepted : ch
       go : Came s n (forest (rulesOf s) start) (placedForest (rulesOf s) start) cursor cursor [] call left
           → answerWords (length letters) (left .answers) 0 ≡ map answerWord (answers (forest (rulesOf s) start) (lettersOf letters) [])
       go (Came.turned d r k) = absurd (false≢true (sym (ap isRefused (above-accepted e)) ∙ r))
-      go (Came.went d r t k w) = w
+      go (Came.went d r t k w x) = w

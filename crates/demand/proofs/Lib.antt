@@ -14,3 +14,4 @@ pub mod Demand3
 pub mod Replies
 pub mod OldLimit
 pub mod NamedRule
+pub mod OnePlace

@@ -58,7 +58,7 @@ module _ (s : List ℕ) (n start : ℕ) (first : List ℕ) (accepted : checked s
     where
       R : Went ((walkOf (lent s cursor c)) .cursor) p was cs
       R = rest ((walkOf (lent s cursor c)) .cursor) p was (rw k S) (λ e. rw k (clear e))
-  more-went cursor p was c cs (Came.went d f T k w) S clear rest =
+  more-went cursor p was c cs (Came.went d f T k w x) S clear rest =
       record {
         refused = ap₂ (λ (x : Bool) (xs : List Bool). x ∷ xs) (f ∙ sym d) (R .refused);
         answered = rw (f, d) (ap₂ (λ (x y : List ℕ). x ++ y) w (R .answered) ∙ sym (map-append answerWord (answers g (lettersOf (c .letters)) p) _));

@@ -85,7 +85,7 @@ word-stays l = by-check (checked s) refl
       where
         came : Came s n (forest (rulesOf s) r) (placedForest (rulesOf s) r) (l .cursor) (l .cursor) p c (walkOf (lent s (l .cursor) c)) → ruleWord ((walkOf l) .cursor) ≡ ruleWord (l .cursor)
         came (Came.turned d f k) = ap ruleWord k
-        came (Came.went d f T k w) = stands-word (walkable s n start a r (holds-closed s n start (l .cursor) a (judged-holds (rulesOf s) n start m r (l .cursor) p b))) T
+        came (Came.went d f T k w x) = stands-word (walkable s n start a r (holds-closed s n start (l .cursor) a (judged-holds (rulesOf s) n start m r (l .cursor) p b))) T
 
     by-check : (x : Checked) → checked s ≡ x → ruleWord ((walkOf l) .cursor) ≡ ruleWord (l .cursor)
     by-check (Checked.Refused y) a = kept {z = y} (rw a)

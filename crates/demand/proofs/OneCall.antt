@@ -116,6 +116,7 @@ pub data Came (s : List ℕ) (n : ℕ) (g : Forest ℕ) (G : Forest Placed) (fir
   went : turnedDown n first c ≡ false → isRefused (l .answer) ≡ false → Stands G first (l .cursor) (pathAfter g (lettersOf (c .letters)) p)
       → ClearPast n (length (placeAt G (pathAfter g (lettersOf (c .letters)) p))) (l .cursor)
       → answerWords (length (c .letters)) (l .answers) 0 ≡ map answerWord (answers g (lettersOf (c .letters)) p)
+      → l .cursor ≡ storedCursor n (ruleWord first) (placeAt G (pathAfter g (lettersOf (c .letters)) p)) cursor
       → Came s n g G first cursor p c l
 
 -- calls on cursors whose word 1 names rule r, as that of the first one does
@@ -173,6 +174,7 @@ module _ (s : List ℕ) (n start : ℕ) (first : List ℕ) (accepted : checked s
       (subst (λ (x : List ℕ). Stands G first x q) (sym new) (stored-stands W first cursor (ruleWord first) q N refl word-fits (S .same-length) (lent-enough n (c .work) first (c .letters) (c .answers) e)))
       (subst (λ (x : List ℕ). ClearPast n (length (placeAt G q)) x) (sym new) (stored-clear n (ruleWord first) (placeAt G q) cursor (place-room W q N)))
       (ap (λ (x : List ℕ). answerWords (length (c .letters)) x 0) (ap (λ (x : Begun). answersAfter (rulesOf s) x (c .letters) (c .answers)) b) ∙ words)
+      new
     where
       q : Path
       q = pathAfter g (lettersOf (c .letters)) p

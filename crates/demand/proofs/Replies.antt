@@ -55,7 +55,7 @@ module _ (s : List ℕ) (n start : ℕ) (first : List ℕ) (accepted : checked s
   stands-after : {cursor : List ℕ} {p : Path} {c : Call} {l : Left} → Stands G first cursor p
       → Came s n (forest (rulesOf s) r) G first cursor p c l → (q : Path) × Stands G first (l .cursor) q
   stands-after {p = p} S (Came.turned d f k) = (p, rw k S)
-  stands-after S (Came.went d f T k w) = (_, T)
+  stands-after S (Came.went d f T k w x) = (_, T)
 
   all-replies : (calls : List Call) (cursor : List ℕ) (p : Path) → Stands G first cursor p
       → map (λ (l : Left). l .answer) (lefts walkOf s cursor calls) ≡ map (reply n first) calls

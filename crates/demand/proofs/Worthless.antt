@@ -31,7 +31,8 @@ use Rattle.forest.specs.Walk.{answerLength, nowhere, cursorWords, enoughLent, a
 use Rattle.forest.specs.Sample.{sample}
 use Rattle.forest.proofs.Starred.{starred}
 use Rattle.demand.specs.Calls.{Lent, Left, Walk, Call, walkOf, lent, lefts, cursorAfterCalls}
-use Rattle.demand.specs.Demand.{turnedDown, isNone, isRefused, fingerPath, fingerAnswers, answerWords, walkAnswers, someAccepted, ClearPast, SameButSixteen, laterWords, Meets, Demand3}
+use Rattle.demand.specs.OnePlace.{OnePlace}
+use Rattle.demand.specs.Demand.{turnedDown, isNone, isRefused, fingerPath, fingerAnswers, answerWords, walkAnswers, Above, someAccepted, ClearPast, SameButSixteen, laterWords, Meets, Demand3}
 
 -- some words, all alike, in front of a walk's answers
 alike : ℕ → ℕ → List ℕ → List ℕ
@@ -107,6 +108,10 @@ ignoresWord = asNamed (λ w. 0)
 pub takesNext : Walk
 takesNext = asNamed (λ w. w + 1)
 
+-- one that leaves the number of letters behind its cells, in the last words that it has to clear: by document 02, Note 14, and by `clear`
+pub countsLetters : Walk
+countsLetters l = spoils 287 (length (l .letters)) l
+
 -- a form of cells for the sample plan's nodes, each of m cells with its label
 pub alikeCells : ℕ → Forest Placed
 alikeCells m = relabel (λ (a : Placed). (a .0, replicate m (a .0, 0, 0, 0))) (placedForest (rulesOf sample) 7)
@@ -126,6 +131,11 @@ first = replicate 288 0
 one-rule : List ℕ
 one-rule = 0 ∷ 0 ∷ 3 ∷ replicate 285 0
 
+-- the first cursor is above the forest
+in-order : Above (rulesOf sample) 7 first
+unfolding checked rulesOf closed kindIn usedCells ruleWord ruleNamed walkedRule cellAt number highLength mostLabel first
+in-order = record { none-used = refl; in-order = record { names = record { below = omega arith; closed-kind = tt }; zeros = refl } }
+
 -- what demand 3 says of that call from above a rule's forest
 Said : Walk → ℕ → List ℕ → Type 0
 Said w r cursor =
@@ -133,16 +143,18 @@ Said w r cursor =
     (cursorAfterCalls w sample cursor (call ∷ [])) (fingerPath (forest (rulesOf sample) r) (turnedDown 8 cursor) (call ∷ []) [])
 
 said : (w : Walk) → Demand3 w → Said w 7 first
-unfolding Demand3 Said checked rulesOf closed kindIn usedCells ruleWord ruleNamed walkedRule cellAt number highLength mostLabel first
-said w d =
-    d sample 8 7 first (call ∷ []) (starred .accepted)
-    (record { none-used = refl; in-order = record { names = record { below = omega arith; closed-kind = tt }; zeros = refl } })
+unfolding Demand3 Said rulesOf usedCells ruleWord ruleNamed walkedRule cellAt number first
+said w d = d sample 8 7 first (call ∷ []) (starred .accepted) in-order
 
 said-by-number : (w : Walk) → Demand3 w → Said w 2 one-rule
 unfolding Demand3 Said checked rulesOf closed kindIn usedCells ruleWord ruleNamed walkedRule cellAt number highLength mostLabel one-rule
 said-by-number w d =
     d sample 8 7 one-rule (call ∷ []) (starred .accepted)
     (record { none-used = refl; in-order = record { names = record { below = omega arith; closed-kind = tt }; zeros = refl } })
+
+-- a call of some letters
+letters-call : List ℕ → Call
+letters-call letters = record { work = replicate 512 0; letters = letters; answers = replicate 8 0 }
 
 -- what demand 3 would say of another form of cells, with no call made
 pub Formed : Forest Placed → Type 0
@@ -181,9 +193,12 @@ pub record Worthless : Type 0 where
   pub long-form : Formed (alikeCells 25) → ⊥
   pub moving-form : Formed (alikeCells 17) → ⊥
   pub room-first : roomFirst ≢ spread
+  -- document 02, Note 14: a and a s lead to one entry; no letters and a don't
+  pub letters-counted : OnePlace countsLetters → ⊥
+  pub place-never-changes : OnePlace stays → ⊥
 
 pub worthless : Worthless
-unfolding dropsWord ignoresWord takesNext asNamed withWord one-rule Said closed kindIn ruleWord ruleNamed walkedRule isClosed placeIn Formed alikeCells relabel firstCells isRoot SameButSixteen repeats ownCount stays says refuses spoils wrongCell junkPast laterWord roomFirst weigh text workJudged textRoomed spreadFrom spread someAccepted ClearPast laterWords cursorAfterCalls other alike firstOnly call first walkOf lent lefts fingerPath fingerAnswers walkAnswers answerWords isRefused turnedDown isNone checked highLength mostLabel lowestCycle cycleFrom reaches within anyNamed cycleJudged rulesOf number bytes inFront forest placedForest letterOf labelAt answers pathAfter enoughWork cursorWords enoughLent andLetters lettersOf otherAt firstOther cellAt cellsIn usedCells headed sameCell sameCells firstOf nodeWith pathOf stored placeJudged lettersJudged begunFrom begun walked cellsOf placeAt cellBytes cellsBytes padded storedCursor cursorAfter answerWord answersBytes answersAfter walkedWork
+unfolding OnePlace countsLetters letters-call dropsWord ignoresWord takesNext asNamed withWord one-rule Said closed kindIn ruleWord ruleNamed walkedRule isClosed placeIn Formed alikeCells relabel firstCells isRoot SameButSixteen repeats ownCount stays says refuses spoils wrongCell junkPast laterWord roomFirst weigh text workJudged textRoomed spreadFrom spread someAccepted ClearPast laterWords cursorAfterCalls other alike firstOnly call first walkOf lent lefts fingerPath fingerAnswers walkAnswers answerWords isRefused turnedDown isNone checked highLength mostLabel lowestCycle cycleFrom reaches within anyNamed cycleJudged rulesOf number bytes inFront forest placedForest letterOf labelAt answers pathAfter enoughWork cursorWords enoughLent andLetters lettersOf otherAt firstOther cellAt cellsIn usedCells headed sameCell sameCells firstOf nodeWith pathOf stored placeJudged lettersJudged begunFrom begun walked cellsOf placeAt cellBytes cellsBytes padded storedCursor cursorAfter answerWord answersBytes answersAfter walkedWork
 worthless =
     record {
       first-repeated = λ d. let e : _≡_ {A = ℕ} 99 97 = ap (λ (l : List ℕ). getD l 1 0) (said repeats d .answered) in omega arith;
@@ -201,5 +216,15 @@ worthless =
       next-taken = λ d. let e : _≡_ {A = ℕ} 97 98 = ap (λ (l : List ℕ). getD l 0 0) (said-by-number takesNext d .answered) in omega arith;
       long-form = λ m. let e : 25 ≤ 24 = m .small (Letter.root Side.left ∷ []) in omega arith;
       moving-form = λ m. let e : _≡_ {A = ℕ} 99 97 = ap (λ (l : Cells). (firstCell l) .0) (m .local (Letter.root Side.left ∷ []) (Letter.child Side.left) refl) in omega arith;
+      letters-counted = λ d.
+          let e : _≡_ {A = ℕ} 1 2 =
+          ap (λ (l : List ℕ). getD l 287 0)
+          (d sample 8 7 first first (letters-call (97 ∷ []) ∷ []) (letters-call (97 ∷ 115 ∷ []) ∷ []) (starred .accepted) in-order in-order refl refl refl .1 refl) in
+          omega arith;
+      place-never-changes = λ d.
+          let e : _≡_ {A = ℕ} 0 1 =
+          ap (λ (l : List ℕ). getD l 0 0)
+          (d sample 8 7 first first (letters-call [] ∷ []) (letters-call (97 ∷ []) ∷ []) (starred .accepted) in-order in-order refl refl refl .0 refl) in
+          omega arith;
       room-first = λ e. let h : _≡_ {A = ℕ} 0 33 = ap (λ (f : List ℕ → List ℕ → List ℕ → Written). lengthGiven (f sample (replicate 512 0) (replicate 33 0))) e in omega arith;
     }
