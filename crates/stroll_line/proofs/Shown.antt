@@ -48,7 +48,7 @@ linesFrom letters given i = lines (drop i letters) (answersFrom (length letters 
 pub lines-all : (letters given : List ℕ) → allLines letters given ≡ linesFrom letters given 0
 lines-all letters given = rw (sub-zero (length letters))
 
-answers-more : (m : ℕ) (s : List ℕ) (at : ℕ) → answersFrom (suc m) s at ≡ answerOf (number answerLength s at) ∷ answersFrom m s (at + answerLength)
+pub answers-more : (m : ℕ) (s : List ℕ) (at : ℕ) → answersFrom (suc m) s at ≡ answerOf (number answerLength s at) ∷ answersFrom m s (at + answerLength)
 unfolding answersFrom
 answers-more m s at = ap (map answerOf) (words-more m s at)
 
