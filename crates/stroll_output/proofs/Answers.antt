@@ -24,7 +24,7 @@ use Rattle.decimal.proofs.Decimals.{decimal-length}
 use Rattle.stroll_line.proofs.Shown.{line-length}
 
 -- nowhere, or a label
-abbrev Labelled : Option ℕ → Type 0
+abbrev pub Labelled : Option ℕ → Type 0
 Labelled none = Unit {0}
 Labelled (some a) = a ≤ largestLabel
 
@@ -57,7 +57,7 @@ words-said [] h = refl
 words-said (x ∷ xs) h = ap₂ (λ (y : Option ℕ) (ys : List (Option ℕ)). y ∷ ys) (word-said x (h .0)) (words-said xs (h .1))
 
 -- a line is short
-shown-length : (x : Option ℕ) → Labelled x → length (shown x) ≤ 8
+pub shown-length : (x : Option ℕ) → Labelled x → length (shown x) ≤ 8
 unfolding shown
 shown-length none h = omega arith
 shown-length (some a) h = decimal-length 7 a (omega arith)

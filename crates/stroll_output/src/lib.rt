@@ -25,12 +25,12 @@ const LINE: usize = 11;
 pub const MOST_OUTPUT: usize = LINE * MOST_LETTERS;
 
 // Rules, at most.
-const MOST_STROLLED: u16 = 1024;
+pub const MOST_STROLLED: u16 = 1024;
 
 // Bytes of work, cursor and answers for the most rules and letters.
-const MOST_WORK: usize = work_rows::WORK_LENGTH * (MOST_STROLLED as usize);
+pub const MOST_WORK: usize = work_rows::WORK_LENGTH * (MOST_STROLLED as usize);
 
-const MOST_CURSOR: usize = Cell::LENGTH * Cell::A_RULE * (MOST_STROLLED as usize + 1);
+pub const MOST_CURSOR: usize = Cell::LENGTH * Cell::A_RULE * (MOST_STROLLED as usize + 1);
 
 const MOST_ANSWERS: usize = Letter::ANSWER_LENGTH * MOST_LETTERS;
 

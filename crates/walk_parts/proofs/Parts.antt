@@ -7,22 +7,21 @@ use mathlib.Core.List.{List, [], _∷_, _++_, map, append-nil}
 use mathlib.Core.Option.{Option, none, some}
 use lib.ListN.{length}
 use borrow.Author.Tests.{not-false}
-use Rattle.plan.specs.declared.Checked.{Checked}
-use Rattle.plan.specs.Check.{checked, rulesOf}
+use Rattle.plan.specs.Check.{rulesOf}
 use Rattle.forest.specs.Forest.{Forest, forest}
 use Rattle.forest.specs.Place.{placedForest}
 use Rattle.forest.specs.Letter.{Letter, letterOf}
 use Rattle.forest.specs.Reference.{Path, answers, pathAfter}
 use Rattle.forest.specs.Walk.{enoughLent, andLetters, lettersOf, otherAt, firstOther, placeAt, answerWord}
 use Rattle.forest.proofs.Steps.{pathAfter-append, answers-append}
-use Rattle.demand.specs.Calls.{Call, Left, lent, walkOf, lefts, cursorAfterCalls}
-use Rattle.demand.specs.Demand.{turnedDown, isNone, isRefused, fingerPath, fingerAnswers, answerWords, walkAnswers, Above, Meets, Demand3}
-use Rattle.demand.proofs.Demand3.{demand3}
+use Rattle.demand.specs.Calls.{Call, lent, walkOf, lefts, cursorAfterCalls}
+use Rattle.demand.specs.Demand.{turnedDown, isNone, isRefused, fingerPath, fingerAnswers}
+use Rattle.walk_parts.proofs.Calls.{demands, first-same, one-answers}
 use Rattle.walk_parts.specs.Parted.{allLetters, NoneDown, Parted}
 
 -- ---- letters
 -- letters before others
-letters-more : (x : Option Letter) (i : ℕ) {later : Option ℕ} → otherAt x i later ≡ none → later ≡ none
+pub letters-more : (x : Option Letter) (i : ℕ) {later : Option ℕ} → otherAt x i later ≡ none → later ≡ none
 unfolding otherAt
 letters-more none i e = let z : _≡_ {A = Bool} true false = cc in absurd (false≢true (sym z))
 letters-more (some c) i e = e
@@ -66,21 +65,6 @@ module _ (g : Forest ℕ) (n : ℕ) (cursor : List ℕ) where
       rw (d .0, letters-append (c .letters) (allLetters cs) 0 (every-letter n cursor c (d .0)))
       (ap (λ (xs : List (Option ℕ)). answers g (lettersOf (c .letters)) p ++ xs) (finger-answers cs (pathAfter g (lettersOf (c .letters)) p) (d .1))
       ∙ sym (answers-append g (lettersOf (c .letters)) (lettersOf (allLetters cs)) p))
-
--- ---- demand 3
-demands : (plan : List ℕ) (n start : ℕ) (cursor : List ℕ) (calls : List Call) → checked plan ≡ Checked.Accepted n start → Above cursor
-    → Meets n (forest (rulesOf plan) start) (placedForest (rulesOf plan) start) (turnedDown n cursor) calls (lefts walkOf plan cursor calls) cursor
-    (cursorAfterCalls walkOf plan cursor calls) (fingerPath (forest (rulesOf plan) start) (turnedDown n cursor) calls [])
-unfolding Demand3
-demands = demand3
-
-first-same : {x y : Bool} {xs ys : List Bool} → x ∷ xs ≡ y ∷ ys → x ≡ y
-first-same e = cc
-
--- what its answers say, if it isn't refused
-one-answers : (c : Call) (l : Left) → isRefused (l .answer) ≡ false → walkAnswers (c ∷ []) (l ∷ []) ≡ answerWords (length (c .letters)) (l .answers) 0
-unfolding walkAnswers
-one-answers c l e = rw e (append-nil (answerWords (length (c .letters)) (l .answers) 0))
 
 pub parted : Parted walkOf
 unfolding Parted NoneDown allLetters lefts cursorAfterCalls
