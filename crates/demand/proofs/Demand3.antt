@@ -32,7 +32,7 @@ module _ {n : ℕ} {g : Forest ℕ} {G : Forest Placed} {down : Call → Bool} {
   key-local e = rw (pathAfter-append g l (c ∷ []) p) (M .local l c e)
 
 -- the finger's path after one more call
-path-end : (g : Forest ℕ) (down : Call → Bool) (calls : List Call) (c : Call) (p : Path) → down c ≡ false
+pub path-end : (g : Forest ℕ) (down : Call → Bool) (calls : List Call) (c : Call) (p : Path) → down c ≡ false
     → fingerPath g down (calls ++ (c ∷ [])) p ≡ pathAfter g (lettersOf (c .letters)) (fingerPath g down calls p)
 unfolding fingerPath
 path-end g down [] c p e = rw e

@@ -15,11 +15,12 @@ use Rattle.plan.proofs.Sound.{accepted-plan, accepted-more}
 use Rattle.forest.specs.Forest.{Forest, forest}
 use Rattle.forest.specs.Reference.{Path, answers, pathAfter}
 use Rattle.forest.specs.Outcome.{workWords, enoughWork}
-use Rattle.forest.specs.Walk.{answerCount, cursorWords, enoughLent, lettersOf, firstOther, answerWord}
+use Rattle.forest.specs.Walk.{answerCount, cursorWords, enoughLent, lettersOf, firstOther, walkedRule, answerWord}
 use Rattle.forest.proofs.WorkWords.{few-words}
 use Rattle.demand.specs.Calls.{Call, Left, lent, walkOf, cursorAfterCalls}
-use Rattle.demand.specs.Demand.{turnedDown, isNone, fingerPath}
-use Rattle.demand.proofs.FromAbove.{zeros-above}
+use Rattle.demand.specs.Demand.{Above, turnedDown, isNone, fingerPath}
+use Rattle.demand.proofs.Plans.{start-closed}
+use Rattle.demand.proofs.FromAbove.{zeros-above, start-walked, start-above}
 use Rattle.stroll_line.specs.Said.{answerOf, answersFrom}
 use Rattle.stroll_output.specs.Stroll.{mostStrolled}
 use Rattle.stroll_output.proofs.Answers.{AllLabelled, plan-answers, words-said, shown-length}
@@ -51,6 +52,13 @@ module _ {plan : List ℕ} {n start : ℕ} {cursor : List ℕ} {path : Path} (W 
   all : checked plan ≡ Checked.Accepted n start
   unfolding checked
   all = accepted-more mostStrolled mostRules plan n start (omega arith) (W .accepted)
+
+  -- a cursor of zeros is above the start rule's forest
+  named : walkedRule start zeros ≡ start
+  named = start-walked start zeros (zeros-above mostCursor)
+
+  above : Above (rulesOf plan) start zeros
+  above = start-above (start-closed plan n start all) zeros (zeros-above mostCursor)
 
   rules : n ≤ mostStrolled
   rules = accepted-plan mostStrolled plan n start (W .accepted) .greatest
@@ -86,7 +94,7 @@ module _ {plan : List ℕ} {n start : ℕ} {cursor : List ℕ} {path : Path} (W 
   unfolding answersFrom
   answers-are =
       ap (λ (l : Left). answersFrom (length letters) (l .answers) 0) left-is
-      ∙ ap (map answerOf) (last-answers plan n start zeros (W .calls) call all (zeros-above mostCursor) not-down)
+      ∙ ap (map answerOf) (last-answers plan n start zeros start named (W .calls) call all above not-down)
       ∙ ap (λ (p : Path). map answerOf (map answerWord (answers g (lettersOf letters) p))) (sym (W .there))
       ∙ words-said (answers g (lettersOf letters) path) labelled
 
@@ -96,7 +104,7 @@ module _ {plan : List ℕ} {n start : ℕ} {cursor : List ℕ} {path : Path} (W 
         accepted = W .accepted;
         calls = W .calls ++ (call ∷ []);
         left = ap (λ (l : Left). l .cursor) left-is ∙ sym (cursor-last plan call (W .calls) zeros);
-        there = ap (pathAfter g (lettersOf letters)) (W .there) ∙ sym (last-path plan n start zeros (W .calls) call all (zeros-above mostCursor) not-down);
+        there = ap (pathAfter g (lettersOf letters)) (W .there) ∙ sym (last-path plan n start zeros start named (W .calls) call all above not-down);
       }
 
   pub went : {cursor′ given′ : List ℕ} → cursor′ ≡ left .cursor → given′ ≡ left .answers → Went plan n start letters path cursor′ given′

@@ -1,7 +1,7 @@
 -- One call more behind a list of calls: its answers are the finger's from where the list left it. Demand 3 speaks of the list and of the list
 -- with the call; what the two have in common is taken off. Assumes nothing.
 use Prim.Native.Nat.{ℕ}
-use mathlib.Core.Path.{_≡_, refl, sym, ap, _∙_}
+use mathlib.Core.Path.{_≡_, refl, sym, ap, subst, _∙_}
 use mathlib.Core.Bool.{Bool, true, false, cond}
 use mathlib.Core.List.{List, [], _∷_, _++_, map, map-append, append-assoc, append-nil}
 use mathlib.Core.Option.{Option}
@@ -12,17 +12,22 @@ use Rattle.plan.specs.Check.{checked, rulesOf}
 use Rattle.forest.specs.Forest.{Forest, forest}
 use Rattle.forest.specs.Place.{placedForest}
 use Rattle.forest.specs.Reference.{Path, answers, pathAfter}
-use Rattle.forest.specs.Walk.{lettersOf, answerWord}
+use Rattle.forest.specs.Walk.{lettersOf, walkedRule, answerWord}
 use Rattle.demand.specs.Calls.{Call, Left, lent, walkOf, lefts, cursorAfterCalls}
 use Rattle.demand.specs.Demand.{turnedDown, isRefused, fingerPath, fingerAnswers, answerWords, walkAnswers, Above, Meets, Demand3}
-use Rattle.demand.proofs.Demand3.{demand3}
+use Rattle.demand.proofs.Demand3.{demand3, path-end}
 
--- demand 3
-pub demands : (plan : List ℕ) (n start : ℕ) (cursor : List ℕ) (calls : List Call) → checked plan ≡ Checked.Accepted n start → Above cursor
-    → Meets n (forest (rulesOf plan) start) (placedForest (rulesOf plan) start) (turnedDown n cursor) calls (lefts walkOf plan cursor calls) cursor
-    (cursorAfterCalls walkOf plan cursor calls) (fingerPath (forest (rulesOf plan) start) (turnedDown n cursor) calls [])
+-- demand 3, of the rule that the first cursor names
+pub demands : (plan : List ℕ) (n start : ℕ) (cursor : List ℕ) (r : ℕ) → walkedRule start cursor ≡ r → (calls : List Call)
+    → checked plan ≡ Checked.Accepted n start → Above (rulesOf plan) start cursor
+    → Meets n (forest (rulesOf plan) r) (placedForest (rulesOf plan) r) (turnedDown n cursor) calls (lefts walkOf plan cursor calls) cursor
+    (cursorAfterCalls walkOf plan cursor calls) (fingerPath (forest (rulesOf plan) r) (turnedDown n cursor) calls [])
 unfolding Demand3
-demands = demand3
+demands plan n start cursor r names calls e a =
+    subst
+    (λ (x : ℕ). Meets n (forest (rulesOf plan) x) (placedForest (rulesOf plan) x) (turnedDown n cursor) calls (lefts walkOf plan cursor calls) cursor
+    (cursorAfterCalls walkOf plan cursor calls) (fingerPath (forest (rulesOf plan) x) (turnedDown n cursor) calls []))
+    names (demand3 plan n start cursor calls e a)
 
 pub first-same : {x y : Bool} {xs ys : List Bool} → x ∷ xs ≡ y ∷ ys → x ≡ y
 first-same e = cc
@@ -66,11 +71,6 @@ module _ (plan : List ℕ) (c : Call) where
       ∙ cond-append (isRefused (l .answer)) (walkAnswers ds (lefts walkOf plan (l .cursor) ds)) (answerWords (length (d .letters)) (l .answers) 0) _
 
 module _ (g : Forest ℕ) (down : Call → Bool) (c : Call) where
-  path-last : (calls : List Call) (p : Path) → down c ≡ false → fingerPath g down (calls ++ (c ∷ [])) p ≡ pathAfter g (lettersOf (c .letters)) (fingerPath g down calls p)
-  unfolding fingerPath
-  path-last [] p e = rw e
-  path-last (d ∷ ds) p e = path-last ds (cond (down d) p (pathAfter g (lettersOf (d .letters)) p)) e
-
   replies-last : (calls : List Call) (p : Path) → down c ≡ false
       → fingerAnswers g down (calls ++ (c ∷ [])) p ≡ fingerAnswers g down calls p ++ answers g (lettersOf (c .letters)) (fingerPath g down calls p)
   unfolding fingerAnswers fingerPath
@@ -88,10 +88,10 @@ module _ (g : Forest ℕ) (down : Call → Bool) (c : Call) where
       by false rest = ap (λ (l : List (Option ℕ)). answers g (lettersOf (d .letters)) p ++ l) (rest r) ∙ sym (append-assoc (answers g (lettersOf (d .letters)) p) _ _)
 
 -- a call on the cursor that a list of calls left, and not turned down by 8 or 9
-module _ (plan : List ℕ) (n start : ℕ) (first : List ℕ) (calls : List Call) (c : Call) (e : checked plan ≡ Checked.Accepted n start) (a : Above first)
-    (d : turnedDown n first c ≡ false) where
+module _ (plan : List ℕ) (n start : ℕ) (first : List ℕ) (r : ℕ) (names : walkedRule start first ≡ r) (calls : List Call) (c : Call)
+    (e : checked plan ≡ Checked.Accepted n start) (a : Above (rulesOf plan) start first) (d : turnedDown n first c ≡ false) where
   abbrev g : Forest ℕ
-  g = forest (rulesOf plan) start
+  g = forest (rulesOf plan) r
 
   abbrev down : Call → Bool
   down = turnedDown n first
@@ -99,12 +99,12 @@ module _ (plan : List ℕ) (n start : ℕ) (first : List ℕ) (calls : List Call
   abbrev left : Left
   left = last plan c first calls
 
-  abbrev M : Meets n g (placedForest (rulesOf plan) start) down calls (lefts walkOf plan first calls) first (cursorAfterCalls walkOf plan first calls) (fingerPath g down calls [])
-  M = demands plan n start first calls e a
+  abbrev M : Meets n g (placedForest (rulesOf plan) r) down calls (lefts walkOf plan first calls) first (cursorAfterCalls walkOf plan first calls) (fingerPath g down calls [])
+  M = demands plan n start first r names calls e a
 
   accepted : isRefused (left .answer) ≡ false
   accepted =
-      let more = demands plan n start first (calls ++ (c ∷ [])) e a .refused in
+      let more = demands plan n start first r names (calls ++ (c ∷ [])) e a .refused in
       let isR : Left → Bool = λ (l : Left). isRefused (l .answer) in
       first-same
       (rest-same (map down calls) (isR left ∷ []) (down c ∷ []) (M .refused) refl
@@ -114,10 +114,10 @@ module _ (plan : List ℕ) (n start : ℕ) (first : List ℕ) (calls : List Call
   -- its answers are the finger's, from where the finger then stands
   pub last-answers : answerWords (length (c .letters)) (left .answers) 0 ≡ map answerWord (answers g (lettersOf (c .letters)) (fingerPath g down calls []))
   last-answers =
-      let more = demands plan n start first (calls ++ (c ∷ [])) e a .answered in
+      let more = demands plan n start first r names (calls ++ (c ∷ [])) e a .answered in
       sym (one-answers c left accepted)
       ∙ rest-same (map answerWord (fingerAnswers g down calls [])) (walkAnswers (c ∷ []) (left ∷ [])) (map answerWord (answers g (lettersOf (c .letters)) (fingerPath g down calls []))) (M .answered) refl
       (sym (answers-last plan c calls first) ∙ more ∙ ap (map answerWord) (replies-last g down c calls [] d) ∙ map-append answerWord (fingerAnswers g down calls []) _)
 
   pub last-path : fingerPath g down (calls ++ (c ∷ [])) [] ≡ pathAfter g (lettersOf (c .letters)) (fingerPath g down calls [])
-  last-path = path-last g down c calls [] d
+  last-path = path-end g down calls c [] d

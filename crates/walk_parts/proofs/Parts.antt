@@ -12,7 +12,7 @@ use Rattle.forest.specs.Forest.{Forest, forest}
 use Rattle.forest.specs.Place.{placedForest}
 use Rattle.forest.specs.Letter.{Letter, letterOf}
 use Rattle.forest.specs.Reference.{Path, answers, pathAfter}
-use Rattle.forest.specs.Walk.{enoughLent, andLetters, lettersOf, otherAt, firstOther, placeAt, answerWord}
+use Rattle.forest.specs.Walk.{enoughLent, andLetters, lettersOf, otherAt, firstOther, walkedRule, placeAt, answerWord}
 use Rattle.forest.proofs.Steps.{pathAfter-append, answers-append}
 use Rattle.demand.specs.Calls.{Call, lent, walkOf, lefts, cursorAfterCalls}
 use Rattle.demand.specs.Demand.{turnedDown, isNone, isRefused, fingerPath, fingerAnswers}
@@ -69,11 +69,12 @@ module _ (g : Forest ℕ) (n : ℕ) (cursor : List ℕ) where
 pub parted : Parted walkOf
 unfolding Parted NoneDown allLetters lefts cursorAfterCalls
 parted plan n start cursor parts whole e a same d f =
-    let g = forest (rulesOf plan) start in
-    let G = placedForest (rulesOf plan) start in
+    let r = walkedRule start cursor in
+    let g = forest (rulesOf plan) r in
+    let G = placedForest (rulesOf plan) r in
     let down = turnedDown n cursor in
-    let P = demands plan n start cursor parts e a in
-    let W = demands plan n start cursor (whole ∷ []) e a in
+    let P = demands plan n start cursor r refl parts e a in
+    let W = demands plan n start cursor r refl (whole ∷ []) e a in
     let letters : lettersOf (allLetters parts) ≡ lettersOf (allLetters (whole ∷ [])) = ap lettersOf (sym (append-nil (whole .letters) ∙ same)) in
     let path : fingerPath g down parts [] ≡ fingerPath g down (whole ∷ []) [] =
     finger-path g n cursor parts [] d ∙ ap (λ (l : List Letter). pathAfter g l []) letters ∙ sym (finger-path g n cursor (whole ∷ []) [] (f, tt)) in

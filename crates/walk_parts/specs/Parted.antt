@@ -6,7 +6,7 @@ use mathlib.Core.Bool.{Bool, false}
 use mathlib.Core.List.{List, [], _∷_, _++_}
 use lib.ListN.{length}
 use Rattle.plan.specs.declared.Checked.{Checked}
-use Rattle.plan.specs.Check.{checked}
+use Rattle.plan.specs.Check.{checked, rulesOf}
 use Rattle.forest.specs.Walk.{cellsIn, usedCells}
 use Rattle.demand.specs.Calls.{Walk, Call, Left, lent, lefts, cursorAfterCalls}
 use Rattle.demand.specs.Demand.{turnedDown, answerWords, walkAnswers, Above}
@@ -34,7 +34,7 @@ unfoldable pub Parted : Walk → Type 0
 Parted w =
     (plan : List ℕ) (n start : ℕ) (cursor : List ℕ) (parts : List Call) (whole : Call)
     → checked plan ≡ Checked.Accepted n start
-    → Above cursor
+    → Above (rulesOf plan) start cursor
     → whole .letters ≡ allLetters parts
     → NoneDown (turnedDown n cursor) parts
     → turnedDown n cursor whole ≡ false
