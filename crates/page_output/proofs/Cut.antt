@@ -18,13 +18,13 @@ use Rattle.forest.specs.Reference.{Path, answers, pathAfter}
 use Rattle.forest.specs.Walk.{lettersOf, otherAt, firstOther}
 use Rattle.forest.proofs.Steps.{answers-append}
 use Rattle.demand.proofs.Words.{length-answers, length-letters}
-use Rattle.decimal.specs.Put.{Next}
-use Rattle.decimal.proofs.Next.{next-by, next-left}
+use Rattle.decimal.specs.Put.{Put, Next}
+use Rattle.decimal.proofs.Next.{next-by, next-left, put-filled}
 use Rattle.page_line.specs.Page.{lineBytes, pageLines, pageLine, numbered, blankLines, pageText, mostNumber}
 use Rattle.page_line.proofs.Lines.{lines-long, blanks-long}
 use Rattle.walk_parts.proofs.Parts.{letters-more, letters-append}
 use Rattle.page_output.specs.Pages.{mostLogged, missing, pagesFrom, pagesOutput}
-use Rattle.page_output.specs.Walking.{mostCursor, Walking, Printable, Ends, Page}
+use Rattle.page_output.specs.Walking.{mostCursor, Walking, Ready, Printable, Ends, Page}
 use Rattle.page_output.proofs.Walks.{plan-short, walking-begins}
 
 -- ---- letters in parts
@@ -111,15 +111,15 @@ module _ {plan log : List ℕ} {n start : ℕ} {cursor : List ℕ} {at done : �
   part-long : length part ≡ end - at
   part-long = length-take-le (end - at) (drop at log) (omega (arith, length-drop at log, E .within))
 
-  pub part-few : length part ≤ pageLines
+  part-few : length part ≤ pageLines
   part-few = omega (arith, part-long, E .few)
 
-  pub part-letters : firstOther part 0 ≡ none
+  part-letters : firstOther part 0 ≡ none
   part-letters =
       let whole : firstOther (take at log ++ drop at log) 0 ≡ none = rw (take-append-drop at log) every in
       others-front part later 0 0 (ap (λ (l : List ℕ). firstOther l 0) (sym split) ∙ others-back (take at log) (drop at log) 0 whole)
 
-  pub part-numbers : at + 1 + length part ≤ mostNumber + 1
+  part-numbers : at + 1 + length part ≤ mostNumber + 1
   part-numbers = omega (arith, part-long, E .within, E .more)
 
   -- the answers to its letters, and to those behind it
@@ -166,6 +166,23 @@ module _ {plan log : List ℕ} {n start : ℕ} {cursor : List ℕ} {at done : �
         part-few,
         lines-long (at + 1) part replies part-numbers (plan-short (K .walking) part) replies-long,
       )
+
+  -- it may be walked
+  pub page-ready : Ready plan cursor (at + 1) part
+  page-ready =
+      record {
+        n = n;
+        start = start;
+        path = K .path;
+        walking = K .walking;
+        few = part-few;
+        every-letter = part-letters;
+        numbers = part-numbers;
+      }
+
+  -- it fills the output
+  pub page-fills : {out out′ : List ℕ} {r : ℕ} → length out ≡ lineBytes * pageLines → Put page-text 0 out out′ r → out′ ≡ page-text
+  page-fills e P = put-filled (e ∙ sym text-long) P
 
   -- it comes next
   pub page-next : Next (pagesOutput plan log) done page-text
