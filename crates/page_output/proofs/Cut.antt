@@ -167,9 +167,9 @@ module _ {plan log : List ℕ} {n start : ℕ} {cursor : List ℕ} {at done : �
         lines-long (at + 1) part replies part-numbers (plan-short (K .walking) part) replies-long,
       )
 
-  -- it may be walked
-  pub page-ready : Ready plan cursor (at + 1) part
-  page-ready =
+  -- it may be walked, and its letters numbered
+  pub page-ready : (first : ℕ) → first ≤ at + 1 → Ready plan cursor first part
+  page-ready first h =
       record {
         n = n;
         start = start;
@@ -177,7 +177,7 @@ module _ {plan log : List ℕ} {n start : ℕ} {cursor : List ℕ} {at done : �
         walking = K .walking;
         few = part-few;
         every-letter = part-letters;
-        numbers = part-numbers;
+        numbers = omega (arith, part-numbers);
       }
 
   -- it fills the output

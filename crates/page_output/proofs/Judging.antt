@@ -25,7 +25,7 @@ use Rattle.page_output.specs.Walking.{Printable}
 module _ (log : List ℕ) where
   pub log-long : mostLogged < length log → Walked.Refused Refusal.Lent ≡ logJudged log
   unfolding logJudged
-  log-long h = rw (lt-leb (length log) mostLogged h)
+  log-long h = sym (ap (λ (b : Bool). cond b (otherJudged (firstOther log 0)) (Walked.Refused Refusal.Lent)) (lt-leb (length log) mostLogged h))
 
   pub log-read : length log ≤ mostLogged → {x : Option ℕ} → x ≡ firstOther log 0 → otherJudged x ≡ logJudged log
   unfolding logJudged

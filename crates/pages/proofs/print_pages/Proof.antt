@@ -50,18 +50,14 @@ page-requires c κs =
     let loop = past-end .before .before in
     let P = loop .before .before .before .pre in
     let K = loop .loop .inv .4 .2 in
-    (page-ready K (P .few) (P .every-letter) (past-end .page-end .ensures), omega arith)
+    (page-ready K (P .few) (P .every-letter) (past-end .page-end .ensures) _ (omega arith), omega arith)
 
 slice-aggregate-emit : tie.Need-slice-aggregate-emit Inv-loop μ-loop
 slice-aggregate-emit c =
     let past-page = c .before .before .before in
     let past-end = past-page .before .before .before .before in
     let loop = past-end .before .before in
-    let P = loop .before .before .before .pre in
-    let E = past-end .page-end .ensures in
-    let K = loop .loop .inv .4 .2 in
-    let walked = past-page .page .ensures _ _ (K .path) (K .walking) in
-    sym (ap length (page-fills K (P .few) (P .every-letter) E (loop .loop .inv .2) (walked .0)) ∙ text-long K (P .few) (P .every-letter) E)
+    omega (arith, past-page .page .kept, loop .loop .inv .2)
 
 emit-requires : tie.Need-emit-requires Inv-loop μ-loop
 emit-requires c κs =
