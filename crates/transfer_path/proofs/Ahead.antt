@@ -34,6 +34,12 @@ unfolding threaded
 threaded-append [] js x = refl
 threaded-append (i ∷ is) js x = threaded-append is js (i, pathTo x)
 
+-- each is a level more
+pub threaded-levels : (is : List ℕ) (x : Spot) → length ((threaded is x) .1) ≡ length (x .1) + length is
+unfolding threaded
+threaded-levels [] x = omega arith
+threaded-levels (i ∷ is) x = threaded-levels is (i, pathTo x) ∙ omega arith
+
 pub through-threaded : {e : Expression} → Good Sort.spine e → (x : Spot) → through e x ≡ threaded (ahead e) x
 unfolding through threaded ahead
 through-threaded (Good.part g h) x = refl

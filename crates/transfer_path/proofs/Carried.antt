@@ -2,12 +2,12 @@
 -- that one cell more does to a spot; so 17 may be told as soon as it is seen. Assumes nothing.
 use Prim.Native.Nat.{ℕ, zero, suc, _+_, _≤_, _<_}
 use native.Mathlib.Omega.{arith}
-use mathlib.Core.Path.{_≡_, sym, _∙_}
+use mathlib.Core.Path.{_≡_, refl, sym, _∙_}
 use mathlib.Core.Bool.{true, false, and-eq-true-iff, true≢false}
-use mathlib.Core.List.{[], _∷_}
+use mathlib.Core.List.{List, [], _∷_}
 use lib.ListN.{length}
 use lib.Dec.{leb, eqb}
-use borrow.Author.Tests.{leb-true, le-leb}
+use borrow.Author.Tests.{leb-true, leb-false, le-leb}
 use Rattle.rule.specs.declared.Rule.{Rule}
 use Rattle.forest.specs.Expression.{Expression}
 use Rattle.forest.specs.Place.{Cell, Cells, Side, cellRow, cellSpine, cellRun}
@@ -17,7 +17,7 @@ use Rattle.model.specs.Facts.{Facts}
 use Rattle.model.specs.Run.{along}
 use Rattle.model.specs.Pieces.{standing}
 use Rattle.transfer_path.specs.Follow.{mostLevels, mostPlace, fewBeside, carried}
-use Rattle.transfer_path.specs.Spot.{Spot, pathTo, tops, through}
+use Rattle.transfer_path.specs.Spot.{Spot, pathTo, tops, through, threaded}
 use Rattle.transfer_path.specs.CellSpot.{rowSpot, spineSpot, stepSpot, rightSteps, stepsBetween, cellSpot, spotIn}
 
 -- what a path that is carried has: few levels above its deepest number, that number small, and the rest of it carried
@@ -76,6 +76,11 @@ nearer-through (Expression.part r a b c) x = nearer-under x (tops b)
 nearer-through (Expression.join r b c) x =
     nearer-both x (through b x) (through c (through b x)) (nearer-through b x) (nearer-through c (through b x))
 
+pub nearer-threaded : (is : List ℕ) (x : Spot) → Nearer x (threaded is x)
+unfolding threaded
+nearer-threaded [] x = λ h. h
+nearer-threaded (i ∷ is) x = nearer-both x (i, pathTo x) (threaded is (i, pathTo x)) (nearer-under x i) (nearer-threaded is (i, pathTo x))
+
 -- one cell more
 module _ (F : Facts) (E : ℕ → Expression) where
   nearer-spine : (q : Rule) (x : Spot) → Nearer x (spineSpot E q x)
@@ -96,27 +101,33 @@ module _ (F : Facts) (E : ℕ → Expression) where
   nearer-step (Rule.Part a b c) x = λ h. h
   nearer-step (Rule.Join b c) x = nearer-through (E b) x
 
-  nearer-run : (j a : ℕ) (x : Spot) → Nearer x (rightSteps F E j a x)
+  -- more steps of a run
+  pub nearer-further : (i j a : ℕ) (x : Spot) → i ≤ j → Nearer (rightSteps F E i a x) (rightSteps F E j a x)
   unfolding rightSteps
-  nearer-run zero a x = λ h. h
-  nearer-run (suc j) a x =
-      nearer-both x (rightSteps F E j a x) (rightSteps F E (suc j) a x) (nearer-run j a x)
-      (nearer-step (F .rule (along F Side.right j a)) (rightSteps F E j a x))
+  nearer-further i zero a x l = λ h. rw (let e : i ≡ 0 = omega arith in e) h
+  nearer-further i (suc j) a x l =
+      by-bool (leb i j)
+      (λ u.
+      nearer-both (rightSteps F E i a x) (rightSteps F E j a x) (rightSteps F E (suc j) a x) (nearer-further i j a x (leb-true i j u))
+      (nearer-step (F .rule (along F Side.right j a)) (rightSteps F E j a x)))
+      (λ u. λ h. rw (let e : i ≡ suc j = omega (arith, leb-false i j u) in e) h)
 
   nearer-cell : (c d : Cell) (cs : Cells) (x : Spot) → Nearer x (cellSpot F E c (d ∷ cs) x)
-  unfolding cellSpot rowSpot
+  unfolding cellSpot rowSpot rightSteps
   nearer-cell c d cs x =
       by-bool (eqb (c .0) cellRow)
       (λ u. rw u (nearer-under x _))
       (λ u. by-bool (eqb (c .0) cellSpine)
       (λ v. rw (u, v) (nearer-spine (F .rule (standing F (d ∷ cs))) x))
       (λ v. by-bool (eqb (c .0) (cellRun Side.right))
-      (λ w. rw (u, v, w) (nearer-run (stepsBetween F (c .1) (c .2)) (c .1) x))
+      (λ w. rw (u, v, w) (nearer-further 0 (stepsBetween F (c .1) (c .2)) (c .1) x (omega arith)))
       (λ w. rw (u, v, w) (λ h. h))))
+
+  pub nearer-spot : (c : Cell) (cs : Cells) → Nearer (spotIn F E cs) (spotIn F E (c ∷ cs))
+  unfolding spotIn carried fewBeside
+  nearer-spot c [] = λ h. refl
+  nearer-spot c (d ∷ cs) = nearer-cell c d cs (spotIn F E (d ∷ cs))
 
   -- a path that isn't carried after some cells isn't after one more
   pub cell-carried : (c : Cell) (cs : Cells) → carried (pathTo (spotIn F E cs)) ≡ false → carried (pathTo (spotIn F E (c ∷ cs))) ≡ false
-  unfolding spotIn carried fewBeside
-  cell-carried c [] h = absurd (true≢false h)
-  cell-carried c (d ∷ cs) h =
-      not-carried (spotIn F E (d ∷ cs)) (cellSpot F E c (d ∷ cs) (spotIn F E (d ∷ cs))) (nearer-cell c d cs (spotIn F E (d ∷ cs))) h
+  cell-carried c cs h = not-carried (spotIn F E cs) (spotIn F E (c ∷ cs)) (nearer-spot c cs) h

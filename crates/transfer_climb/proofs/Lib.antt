@@ -1,0 +1,5 @@
+pub mod Levels
+pub mod Rows
+pub mod Parts
+pub mod Steps
+pub mod Cells
