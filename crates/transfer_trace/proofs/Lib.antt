@@ -1,0 +1,2 @@
+pub mod KeptFacts
+pub mod Tracing
