@@ -95,7 +95,7 @@ module _ (F : Facts) (E : ℕ → Expression) where
   pub nearer-step : (q : Rule) (x : Spot) → Nearer x (stepSpot E q x)
   unfolding stepSpot
   nearer-step Rule.Empty x = λ h. h
-  nearer-step (Rule.Pair b c) x = nearer-beside (x .0) (x .0 + tops (E b)) (x .1) (omega arith)
+  nearer-step (Rule.Pair b c) x = nearer-beside (x .0) _ (x .1) (omega arith)
   nearer-step (Rule.Node a c) x = λ h. h
   nearer-step (Rule.Fill b c) x = λ h. h
   nearer-step (Rule.Part a b c) x = λ h. h
