@@ -1,6 +1,6 @@
 -- One cell more, by its kind, as the code reads it; and the cells of a place from the first on: each leads on from the spot of those before it,
 -- and the path of the last spot is the node's. Assumes nothing.
-use Prim.Native.Nat.{ℕ, zero, suc, _+_, _-_, _≤_, _<_}
+use Prim.Native.Nat.{ℕ, zero, suc, _+_, _-_, min, _≤_, _<_}
 use native.Mathlib.Omega.{arith}
 use native.Mathlib.Numerals.{add-one}
 use mathlib.Core.Path.{_≡_, refl, sym, ap, ap₂, _∙_}
@@ -14,16 +14,20 @@ use Rattle.forest.specs.Walk.{cellAt, cellsIn}
 use Rattle.forest.proofs.Cases.{by-bool}
 use Rattle.model.specs.Facts.{Facts}
 use Rattle.model.specs.Pieces.{standing}
+use Rattle.facts.specs.Facts.{In, factsIn}
+use Rattle.move_parts.specs.Moves.{Held}
+use Rattle.move_parts.proofs.Held.{held-less}
+use Rattle.move_parts.proofs.Kept.{standing-kept}
 use Rattle.place_cells.specs.declared.Cell.{Cell as Words}
 use Rattle.place_cells.specs.Cells.{cell}
 use Rattle.place_cells.proofs.Stack.{cells-none, cells-top, top-kind, top-one, top-two}
-use Rattle.transfer_path.specs.Follow.{fewBeside, carried}
+use Rattle.transfer_path.specs.Follow.{mostPlace, fewBeside, carried}
 use Rattle.transfer_path.specs.Spot.{Spot, pathTo}
 use Rattle.transfer_path.specs.CellSpot.{rowBefore, rowSpot, spineSpot, rightSteps, stepsBetween, cellSpot, spotIn, pathIn}
 use Rattle.transfer_path.proofs.Carried.{Nearer, nearer-spot}
 use Rattle.transfer_climb.specs.declared.Climbed.{Climbed}
 use Rattle.transfer_climb.specs.declared.Traced.{Traced}
-use Rattle.transfer_climb.specs.Climb.{pathLength, levelsIn, spotAt, LevelPut, Took, Traces}
+use Rattle.transfer_climb.specs.Climb.{pathLength, CountedRows, levelsIn, spotAt, LevelPut, Took, Traces}
 use Rattle.transfer_climb.proofs.Levels.{took-near}
 use Rattle.transfer_climb.proofs.Steps.{Reached, reached-more, reached-far}
 
@@ -47,6 +51,11 @@ module _ (F : Facts) (E : ℕ → Expression) (c : Cell) (cs : Cells) (x : Spot)
 
 pub took-same : {path path′ : List ℕ} {y z : Spot} {c : Climbed} → y ≡ z → Took path path′ y c → Took path path′ z c
 took-same e k = rw e at k
+
+-- the rule that stands below a cell has a row
+pub standing-in : {t s : List ℕ} {i r : ℕ} → CountedRows t → Held t s i → r ≡ standing (factsIn t) (cellsIn s (i - 1)) → In t r
+standing-in {t} {s} {i} g h e =
+    rw e (standing-kept (factsIn t) (In t) (g .closes) (cellsIn s (i - 1)) ((held-less h (i - 1) (omega arith)) .cells))
 
 -- as the code reads it
 module _ {c : Cell} {w : Words} (read : w ≡ cell c) where
@@ -76,12 +85,18 @@ module _ (F : Facts) (E : ℕ → Expression) (s : List ℕ) (i : ℕ) (x : Spot
   unfolding rowSpot
   row-under d k more = rw (cells-top s k more)
 
-  pub row-spot : {r : ℕ} → w .kind ≡ 1 → 0 < i - 1 → r ≡ standing F (cellsIn s (i - 1))
+  row-spot : {r : ℕ} → w .kind ≡ 1 → 0 < i - 1 → r ≡ standing F (cellsIn s (i - 1))
       → (rowBefore E (F .rule r) (w .one), pathTo x) ≡ cellSpot F E (cellAt s i) (cellsIn s (i - 1)) x
   row-spot k more e =
       ap₂ (λ (p d : ℕ). (rowBefore E (F .rule p) d, pathTo x)) e (top-one read)
       ∙ row-under ((cellAt s i) .1) (i - 1) more
       ∙ sym (at-row F E (cellAt s i) (cellsIn s (i - 1)) x (kind-is read k))
+
+  -- told up to 65,535
+  pub row-took : {r v : ℕ} {path path′ : List ℕ} {c : Climbed} → w .kind ≡ 1 → 0 < i - 1 → r ≡ standing F (cellsIn s (i - 1))
+      → v ≡ min (rowBefore E (F .rule r) (w .one)) mostPlace → ((m : ℕ) → v ≡ min m mostPlace → Took path path′ (m, pathTo x) c)
+      → Took path path′ (cellSpot F E (cellAt s i) (cellsIn s (i - 1)) x) c
+  row-took {r} k more e told f = took-same (row-spot k more e) (f (rowBefore E (F .rule r) (w .one)) told)
 
   row-first : (d k : ℕ) → k ≡ 0 → (0, []) ≡ rowSpot F E d (cellsIn s k) x
   unfolding rowSpot
@@ -114,7 +129,8 @@ pub climbing-start : (F : Facts) (E : ℕ → Expression) (s : List ℕ) (k : �
 unfolding spotIn cellsIn levelsIn carried fewBeside
 climbing-start F E s k room = record { most = omega arith; reached = record { same-length = refl; spot = refl; ready = record { room = room; near = refl } } }
 
-module _ {F : Facts} {E : ℕ → Expression} {s : List ℕ} {k : ℕ} {path₀ path : List ℕ} {i before levels : ℕ} (h : Climbing F E s k path₀ path i before levels) where
+module _ {F : Facts} {E : ℕ → Expression} {s : List ℕ} {k : ℕ} {path₀ path : List ℕ} {i before levels : ℕ}
+    (h : Climbing F E s k path₀ path i before levels) where
   turn : Spot → Spot
   turn y = cellSpot F E (cellAt s (i + 1)) (cellsIn s (i + 1 - 1)) y
 
@@ -142,7 +158,8 @@ module _ {F : Facts} {E : ℕ → Expression} {s : List ℕ} {k : ℕ} {path₀ 
   unfolding pathIn
   path-of more = rw (cells-top s k more)
 
-  pub climb-far : {path′ : List ℕ} {c : Climbed} → i < k → Took path path′ (cellSpot F E (cellAt s (i + 1)) (cellsIn s (i + 1 - 1)) (spotAt path before levels)) c
+  pub climb-far : {path′ : List ℕ} {c : Climbed} → i < k
+      → Took path path′ (cellSpot F E (cellAt s (i + 1)) (cellsIn s (i + 1 - 1)) (spotAt path before levels)) c
       → c ≡ Climbed.Far → Traces path₀ path′ (pathIn F E (cellsIn s k)) Traced.Far
   unfolding turn
   climb-far l t q =
@@ -154,7 +171,8 @@ module _ {F : Facts} {E : ℕ → Expression} {s : List ℕ} {k : ℕ} {path₀ 
         far = λ e. ap carried (path-of (omega arith)) ∙ f .far refl;
       }
 
-  pub climb-end : {path′ : List ℕ} → k ≤ i → (k ≡ 0 → ⊥) → LevelPut before levels path path′ → Traces path₀ path′ (pathIn F E (cellsIn s k)) (Traced.Levels (levels + 1))
+  pub climb-end : {path′ : List ℕ} → k ≤ i → (k ≡ 0 → ⊥) → LevelPut before levels path path′
+      → Traces path₀ path′ (pathIn F E (cellsIn s k)) (Traced.Levels (levels + 1))
   climb-end all some p =
       let q : pathTo (spotAt path before levels) ≡ pathIn F E (cellsIn s k) =
       ap pathTo (h .reached .spot ∙ ap (λ (j : ℕ). spotIn F E (cellsIn s j)) (let e : i ≡ k = omega (arith, h .most) in e)) ∙ sym (path-of (omega arith)) in

@@ -27,7 +27,8 @@ unfolding levelsIn
 length-levels t zero = refl
 length-levels t (suc k) = ap suc (length-levels t k)
 
-levels-same : (s t : List ℕ) (k : ℕ) → ((j : ℕ) → j < k → number wordLength t (wordLength * j) ≡ number wordLength s (wordLength * j)) → levelsIn t k ≡ levelsIn s k
+levels-same : (s t : List ℕ) (k : ℕ) → ((j : ℕ) → j < k → number wordLength t (wordLength * j) ≡ number wordLength s (wordLength * j))
+    → levelsIn t k ≡ levelsIn s k
 unfolding levelsIn
 levels-same s t zero h = refl
 levels-same s t (suc k) h = ap₂ _∷_ (h k (omega arith)) (levels-same s t k (λ j l. h j (omega arith)))
@@ -72,7 +73,8 @@ module _ {path path′ : List ℕ} {y : Spot} (same : length path′ ≡ length 
       }
 
 -- where a spot is reached, one may go on from it
-pub took-ready : {path path′ : List ℕ} {y : Spot} {c : Climbed} {b l : ℕ} → pathLength ≤ length path → Took path path′ y c → c ≡ Climbed.At b l → Ready path′ b l
+pub took-ready : {path path′ : List ℕ} {y : Spot} {c : Climbed} {b l : ℕ} → pathLength ≤ length path → Took path path′ y c → c ≡ Climbed.At b l
+    → Ready path′ b l
 took-ready {b = b} {l = l} room k e =
     let x = k .near b l e in
     record { room = omega (arith, k .same-length); near = ap (λ (z : Spot). carried (pathTo z)) (x .0) ∙ x .1 }

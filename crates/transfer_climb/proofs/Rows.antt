@@ -60,7 +60,8 @@ module _ {t : List ℕ} (g : CountedRows t) where
 spine-sides : {r : ℕ} {b c : Expression} → Good Sort.spine (Expression.join r b c) → Good Sort.spine b × Good Sort.spine c
 spine-sides (Good.join g h) = (g, h)
 
-pub join-sides : {t : List ℕ} → CountedRows t → {r b c : ℕ} → In t r → Rule.Join b c ≡ (factsIn t) .rule r → Good Sort.spine (meaning t b) × Good Sort.spine (meaning t c)
+pub join-sides : {t : List ℕ} → CountedRows t → {r b c : ℕ} → In t r → Rule.Join b c ≡ (factsIn t) .rule r
+    → Good Sort.spine (meaning t b) × Good Sort.spine (meaning t c)
 join-sides g h e = spine-sides (join-good g h e)
 
 -- the tags of all kinds but a part, and but a pair and a join

@@ -32,7 +32,8 @@ reached-start g = record { same-length = refl; spot = refl; ready = g }
 
 module _ {path₀ path : List ℕ} {y : Spot} {before levels : ℕ} (h : Reached path₀ path y before levels) where
   -- a turn from there, by what it does to a spot
-  pub reached-more : (f : Spot → Spot) {path′ : List ℕ} {c : Climbed} {b l : ℕ} → Took path path′ (f (spotAt path before levels)) c → c ≡ Climbed.At b l → Reached path₀ path′ (f y) b l
+  pub reached-more : (f : Spot → Spot) {path′ : List ℕ} {c : Climbed} {b l : ℕ} → Took path path′ (f (spotAt path before levels)) c
+      → c ≡ Climbed.At b l → Reached path₀ path′ (f y) b l
   reached-more f {b = b} {l = l} k e =
       record {
         same-length = k .same-length ∙ h .same-length;
@@ -40,8 +41,8 @@ module _ {path₀ path : List ℕ} {y : Spot} {before levels : ℕ} (h : Reached
         ready = took-ready (h .ready .room) k e;
       }
 
-  pub reached-far : (f : Spot → Spot) {path′ : List ℕ} {c : Climbed} {z : Spot} → Took path path′ (f (spotAt path before levels)) c → c ≡ Climbed.Far → Nearer (f y) z
-      → Took path₀ path′ z Climbed.Far
+  pub reached-far : (f : Spot → Spot) {path′ : List ℕ} {c : Climbed} {z : Spot} → Took path path′ (f (spotAt path before levels)) c → c ≡ Climbed.Far
+      → Nearer (f y) z → Took path₀ path′ z Climbed.Far
   reached-far f {z = z} k e near =
       took-far (k .same-length ∙ h .same-length)
       (not-carried (f (spotAt path before levels)) z (λ q. ap (λ (x : Spot). carried (pathTo (f x))) (h .spot) ∙ near q) (k .far e))

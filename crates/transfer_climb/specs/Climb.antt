@@ -72,7 +72,8 @@ pub record PartAt (t : List ℕ) (r j : ℕ) : Type 0 where
 
 -- the same part of something lower, or what stands before its hole
 pub record GoesDown (t : List ℕ) (r j : ℕ) (d : Down) : Type 0 where
-  pub on : (q i : ℕ) → d ≡ Down.On q i → PartAt t q i × (getD (ahead (meaning t q)) i 0 ≡ getD (ahead (meaning t r)) j 0) × (height (meaning t q) < height (meaning t r))
+  pub on : (q i : ℕ) → d ≡ Down.On q i
+      → PartAt t q i × (getD (ahead (meaning t q)) i 0 ≡ getD (ahead (meaning t r)) j 0) × (height (meaning t q) < height (meaning t r))
   pub before : (v : ℕ) → d ≡ Down.Before v → v ≡ min (getD (ahead (meaning t r)) j 0) mostPlace
 
 -- the path p is written, or is too far

@@ -18,7 +18,8 @@ use Rattle.work_rows.specs.Rows.{rowLength, field, ruleIn, firstRules}
 use Rattle.work_rows.proofs.Rows.{rule-same}
 use Rattle.work_rows.proofs.Kept.{first-same}
 use Rattle.count_passes.specs.Tally.{Besides}
-use Rattle.facts.specs.Facts.{atRepresentative, atEmptiness, atLink, atToward, atLast, atDepth, atJump, linkLength, factsEnd, linkIn, rowCount, In, rowOr, factsIn, Climbs}
+use Rattle.facts.specs.Facts.{atRepresentative, atEmptiness, atLink, atToward, atLast, atDepth, atJump, linkLength, factsEnd}
+use Rattle.facts.specs.Facts.{linkIn, rowCount, In, rowOr, factsIn, Climbs}
 use Rattle.facts.proofs.Along.{leads-more}
 use Rattle.letter_moves.specs.Standing.{rulesKept}
 use Rattle.facts_load.specs.Filled.{Filled}
@@ -56,8 +57,12 @@ module _ {a b : List ℕ} (h : Alike a b) where
   facts-alike =
       λ i. record {
         rule = λ r. row-same r (ruleIn a r) (ruleIn b r) Rule.Empty (rule-alike r) i;
-        isEmpty = λ r. row-same r (eqb (field 2 a r atEmptiness) 1) (eqb (field 2 b r atEmptiness) 1) true (λ u. ap (λ (v : ℕ). eqb v 1) (h .fields 2 atEmptiness r u (omega arith))) i;
-        representative = λ r. row-same r (field 2 a r atRepresentative) (field 2 b r atRepresentative) r (λ u. h .fields 2 atRepresentative r u (omega arith)) i;
+        isEmpty =
+            λ r. row-same r (eqb (field 2 a r atEmptiness) 1) (eqb (field 2 b r atEmptiness) 1) true
+            (λ u. ap (λ (v : ℕ). eqb v 1) (h .fields 2 atEmptiness r u (omega arith))) i;
+        representative =
+            λ r. row-same r (field 2 a r atRepresentative) (field 2 b r atRepresentative) r
+            (λ u. h .fields 2 atRepresentative r u (omega arith)) i;
         toward = λ s r. row-same r ((linkIn a s r) .toward) ((linkIn b s r) .toward) r (λ u j. (link-alike s r u j) .toward) i;
         last = λ s r. row-same r ((linkIn a s r) .last) ((linkIn b s r) .last) r (λ u j. (link-alike s r u j) .last) i;
         depth = λ s r. row-same r ((linkIn a s r) .depth) ((linkIn b s r) .depth) 0 (λ u j. (link-alike s r u j) .depth) i;
@@ -69,7 +74,9 @@ module _ {a b : List ℕ} (h : Alike a b) where
       record {
         inside = λ s r i. rw facts-alike (let k = c .inside s r (omega arith) in omega arith);
         falls = λ s r i. rw facts-alike (c .falls s r (omega arith));
-        jumps = λ s r i. rw (facts-alike, link-alike s r (omega arith)) (leads-more {Done = In a} {Done′ = In b} (λ k d. omega arith) (c .jumps s r (omega arith)));
+        jumps =
+            λ s r i. rw (facts-alike, link-alike s r (omega arith))
+            (leads-more {Done = In a} {Done′ = In b} (λ k d. omega arith) (c .jumps s r (omega arith)));
       }
 
   rules-alike : rulesKept b ≡ rulesKept a

@@ -1,14 +1,11 @@
 -- Each return is a kind of cell; what the cells name has rows. Assumes nothing.
 use borrow.Author.Needs.{needs}
 use native.Mathlib.Omega.{arith}
-use denote.Ref.{now}
 use Rattle.place_cells.proofs.Stack.{top-kind, top-one, top-two}
 use mathlib.Core.Path.{sym, _∙_}
 use Rattle.move_parts.proofs.Held.{held-top, held-less}
-use Rattle.move_parts.proofs.Kept.{standing-kept}
-use Rattle.facts.specs.Facts.{In, factsIn}
 use Rattle.transfer_climb.proofs.Levels.{took-here}
-use Rattle.transfer_climb.proofs.Cells.{took-same, right-spot, spine-spot, other-spot, row-spot, took-first}
+use Rattle.transfer_climb.proofs.Cells.{took-same, right-spot, spine-spot, other-spot, row-took, took-first, standing-in}
 use Rattle.transfer_climb.proofs.climb_cell.Statement.{statement}
 use Rattle.transfer_climb.proofs.climb_cell.Tie as tie
 
@@ -40,7 +37,8 @@ returns c =
     let past-run = c .before .before in
     let past-steps = past-run .before .before in
     let past-read = past-steps .before .before in
-    took-same (right-spot _ _ _ _ _ (past-read .read .ensures) (past-steps .before .if1 .taken) (past-steps .steps-between .ensures)) (past-run .right-run .ensures)
+    took-same (right-spot _ _ _ _ _ (past-read .read .ensures) (past-steps .before .if1 .taken) (past-steps .steps-between .ensures))
+    (past-run .right-run .ensures)
 
 sub-standing : tie.Need-sub-standing
 sub-standing c = search needs
@@ -53,11 +51,8 @@ standing-requires c κs =
 open-tree-requires : tie.Need-open-tree-requires
 open-tree-requires c κs =
     let past-standing = c .before in
-    let entry = past-standing .before .before .before .before .before .before .before in (
-      entry .pre .0,
-      rw (past-standing .standing .ensures) (standing-kept (factsIn (now (entry .args .rows))) (In (now (entry .args .rows))) (entry .pre .0 .closes) _ ((held-less (entry .pre .1) _ (omega arith)) .cells)),
-      entry .pre .3,
-    )
+    let entry = past-standing .before .before .before .before .before .before .before in
+    (entry .pre .0, standing-in (entry .pre .0) (entry .pre .1) (past-standing .standing .ensures), entry .pre .3)
 
 same-length-2 : tie.Need-same-length-2
 same-length-2 c = search needs
@@ -67,7 +62,8 @@ returns-2 c =
     let past-open = c .before .before in
     let past-standing = past-open .before .before in
     let past-test = past-standing .before in
-    took-same (spine-spot _ _ _ _ _ (past-test .before .before .read .ensures) (past-test .if2 .taken) (past-standing .standing .ensures)) (past-open .open-tree .ensures)
+    took-same (spine-spot _ _ _ _ _ (past-test .before .before .read .ensures) (past-test .if2 .taken) (past-standing .standing .ensures))
+    (past-open .open-tree .ensures)
 
 returns-3 : tie.Need-returns-3
 returns-3 c =
@@ -93,10 +89,8 @@ standing-requires-2 c κs =
 
 row-before-requires : tie.Need-row-before-requires
 row-before-requires c κs =
-    let entry = c .before .before .before .before .before .before .before .before .before in (
-      entry .pre .0,
-      rw (c .standing2 .ensures) (standing-kept (factsIn (now (entry .args .rows))) (In (now (entry .args .rows))) (entry .pre .0 .closes) _ ((held-less (entry .pre .1) _ (omega arith)) .cells)),
-    )
+    let entry = c .before .before .before .before .before .before .before .before .before in
+    (entry .pre .0, standing-in (entry .pre .0) (entry .pre .1) (c .standing2 .ensures))
 
 enter-requires : tie.Need-enter-requires
 enter-requires c κs = search needs
@@ -111,9 +105,9 @@ returns-5 c =
     let past-standing = past-before .before in
     let past-first = past-standing .before in
     let past-read = past-first .before .before .before .before in
-    took-same
-    (row-spot _ _ _ _ _ (past-read .read .ensures) (past-first .before .if3 .left) (omega (arith, past-first .if4 .left, past-read .before .before .before .before .pre .2)) (past-standing .standing2 .ensures))
-    (past-enter .enter .ensures _ (past-before .row-before .ensures))
+    let entry = past-read .before .before .before .before in
+    row-took _ _ _ _ _ (past-read .read .ensures) (past-first .before .if3 .left) (omega (arith, past-first .if4 .left, entry .pre .2))
+    (past-standing .standing2 .ensures) (past-before .row-before .ensures) (past-enter .enter .ensures)
 
 pub climb-cell-spec : {M : Type 1} → statement M
 climb-cell-spec =

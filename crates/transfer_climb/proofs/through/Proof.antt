@@ -10,7 +10,8 @@ use Rattle.transfer_climb.proofs.through.Statement.{statement}
 use Rattle.transfer_climb.proofs.through.Tie as tie
 
 abbrev Inv-loop : tie.InvT-loop
-Inv-loop rows path₀ rule from above parts before₀ levels₀ j₀ path before levels j = Threading (meaning rows rule) (spotAt path₀ from above) path₀ path parts j before levels
+Inv-loop rows path₀ rule from above parts before₀ levels₀ j₀ path before levels j =
+    Threading (meaning rows rule) (spotAt path₀ from above) path₀ path parts j before levels
 
 abbrev μ-loop : tie.MeasureT-loop
 μ-loop rows path₀ rule from above parts before₀ levels₀ j₀ path before levels j = parts - j
