@@ -96,7 +96,12 @@ unfolding numbered
 lines-long i [] xs h s e = refl
 lines-long i (b ∷ bs) [] h s e = absurd (omega arith)
 lines-long i (b ∷ bs) (x ∷ xs) h s e =
-    omega (arith, length-append (pageLine i b x) (numbered (suc i) bs xs), line-long i b x (omega arith) (s .0), lines-long (suc i) bs xs (omega arith) (s .1) (omega arith))
+    omega (
+      arith,
+      length-append (pageLine i b x) (numbered (suc i) bs xs),
+      line-long i b x (omega arith) (s .0),
+      lines-long (suc i) bs xs (omega arith) (s .1) (omega arith),
+    )
 
 pub from-long : (m : ℕ) (s : List ℕ) (at : ℕ) → length (answersFrom m s at) ≡ m
 unfolding answersFrom answerWords

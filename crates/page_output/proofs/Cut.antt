@@ -46,7 +46,8 @@ others-back [] b i e = others-front b [] i 0 (ap (λ (l : List ℕ). firstOther 
 others-back (x ∷ a) b i e = others-back a b (suc i) (letters-more (letterOf x) i e)
 
 -- ---- the lines in parts
-numbered-append : (i : ℕ) (a b : List ℕ) (xs ys : List (Option ℕ)) → length xs ≡ length a → numbered i (a ++ b) (xs ++ ys) ≡ numbered i a xs ++ numbered (i + length a) b ys
+numbered-append : (i : ℕ) (a b : List ℕ) (xs ys : List (Option ℕ)) → length xs ≡ length a
+    → numbered i (a ++ b) (xs ++ ys) ≡ numbered i a xs ++ numbered (i + length a) b ys
 unfolding numbered
 numbered-append i [] b [] ys e = let q : i + 0 ≡ i = omega arith in rw q
 numbered-append i [] b (x ∷ xs) ys e = absurd (omega arith)
@@ -85,8 +86,10 @@ module _ (i : ℕ) (a b : List ℕ) (xs ys : List (Option ℕ)) (same : length x
   unfolding pagesFrom pageText blankLines numbered missing
   last-page h g e =
       let none-more : numbered (i + length a) b ys ≡ [] = rw e in
-      let lines : numbered i (a ++ b) (xs ++ ys) ≡ numbered i a xs = numbered-append i a b xs ys same ∙ ap (λ (l : List ℕ). numbered i a xs ++ l) none-more ∙ append-nil (numbered i a xs) in
-      let m : missing (length (a ++ b)) ≡ pageLines - length a = ap (λ (l : List ℕ). missing (length (a ++ l))) e ∙ ap (λ (l : List ℕ). missing (length l)) (append-nil a) ∙ missing-last (length a) h g in
+      let lines : numbered i (a ++ b) (xs ++ ys) ≡ numbered i a xs =
+      numbered-append i a b xs ys same ∙ ap (λ (l : List ℕ). numbered i a xs ++ l) none-more ∙ append-nil (numbered i a xs) in
+      let m : missing (length (a ++ b)) ≡ pageLines - length a =
+      ap (λ (l : List ℕ). missing (length (a ++ l))) e ∙ ap (λ (l : List ℕ). missing (length l)) (append-nil a) ∙ missing-last (length a) h g in
       let after : pagesFrom (i + length a) b ys ≡ [] = rw e in
       ap₂ (λ (x : List ℕ) (k : ℕ). x ++ blankLines k) lines m ∙ sym (ap (λ (l : List ℕ). text ++ l) after ∙ append-nil text)
 
@@ -189,7 +192,8 @@ module _ {plan log : List ℕ} {n start : ℕ} {cursor : List ℕ} {at done : �
   page-next = next-by (pagesOutput plan log) done page-text _ left-is
 
   -- and then the pages behind it are left
-  pub page-after : {cursor′ : List ℕ} {done′ : ℕ} → Walking plan n start cursor′ after → done′ ≡ done + length page-text → Page plan log n start cursor′ end done′
+  pub page-after : {cursor′ : List ℕ} {done′ : ℕ} → Walking plan n start cursor′ after → done′ ≡ done + length page-text
+      → Page plan log n start cursor′ end done′
   page-after W e =
       record {
         path = after;

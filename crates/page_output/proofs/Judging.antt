@@ -55,7 +55,8 @@ module _ (plan log : List ℕ) where
   unfolding pagesOutput
   printed e = ap (judgedPages plan log) (sym e)
 
-  by-check : (x : Checked) → checkedUpTo mostStrolled plan ≡ x → checkJudged log x ≡ Walked.Accepted → Walked.Accepted ≡ pagesJudged plan log → Printable plan log
+  by-check : (x : Checked) → checkedUpTo mostStrolled plan ≡ x → checkJudged log x ≡ Walked.Accepted
+      → Walked.Accepted ≡ pagesJudged plan log → Printable plan log
   unfolding checkJudged logJudged judgedPages
   by-check (Checked.Refused r) e j w = let z : _≡_ {A = ℕ} 0 1 = cc in absurd (omega arith)
   by-check (Checked.Accepted n start) e j w =

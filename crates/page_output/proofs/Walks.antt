@@ -72,7 +72,8 @@ module _ {plan : List ℕ} {n start : ℕ} {cursor : List ℕ} {path : Path} (W 
   enough : enoughLent (replicate mostWork 0) zeros letters (replicate pageAnswers 0) n ≡ true
   unfolding enoughLent cursorWords
   enough =
-      rw (worked, le-leb (16 * (n + 1)) (wordCount zeros) (omega (arith, rules, length-replicate {0} {A = ℕ} mostCursor 0)), le-leb (length letters) (answerCount (replicate pageAnswers 0)) (omega arith))
+      let room = le-leb (16 * (n + 1)) (wordCount zeros) (omega (arith, rules, length-replicate {0} {A = ℕ} mostCursor 0)) in
+      rw (worked, room, le-leb (length letters) (answerCount (replicate pageAnswers 0)) (omega arith))
 
   -- 8 and 9 turn it not down
   not-down : turnedDown n zeros call ≡ false

@@ -27,7 +27,8 @@ use Rattle.plan.specs.Check.{magic, trailerBytes, mostRules, firstAt, formatOf,
 use Rattle.plan.proofs.Sound.{Plan, checked-plan, plan-records, plan-decodes}
 use Rattle.unseal.proofs.RoundTrip.{alone-trailer, alone-words}
 use Rattle.plan_list.specs.Small.{Small}
-use Rattle.plan_list.specs.Listed.{ruleBytes, threeRules, planOf, candidates, rulesAt, placeOf, candidate, plain, wordless, isAccepted, isListed, kept, listed}
+use Rattle.plan_list.specs.Listed.{ruleBytes, threeRules, planOf, candidates, rulesAt, placeOf, candidate}
+use Rattle.plan_list.specs.Listed.{plain, wordless, isAccepted, isListed, kept, listed}
 use Rattle.plan_list.proofs.Tested.{each-small}
 use Rattle.plan_list.proofs.Counted.{counted}
 use Rattle.plan_list.proofs.Coded.{Coded, coded, one-more, no-lower}
@@ -81,20 +82,23 @@ module _ {s : List ℕ} (S : Small s) where
   each-record i h =
       let f = formatOf s in
       let at = firstAt s + recordLength f * i in
-      encode-decode f (recordAt f s at) (rule (rulesOf s) i) (number-below wordLength s (at + wordLength) (S .bytes)) (plan-decodes mostRules s (S .n) (S .start) accepts i h)
+      encode-decode f (recordAt f s at) (rule (rulesOf s) i) (number-below wordLength s (at + wordLength) (S .bytes))
+      (plan-decodes mostRules s (S .n) (S .start) accepts i h)
       ∙ sym (ap (λ (ws : List Record). recordIn ws i) (plan-records mostRules s (S .n) (S .start) accepts) ∙ records-at f s (firstAt s) (S .n) i h)
 
   -- its records are those of its rules
   records-are : recordsBytes Format.Narrow (map encode (rulesOf s)) ≡ recordsBytes (formatOf s) (recordsOf s)
   records-are =
-      λ i. recordsBytes (sym (S .byte-label) i) (encoded (rulesOf s) (recordsOf s) (accepts .rules ∙ sym (accepts .records)) (λ k h. each-record k (omega (arith, accepts .rules))) i)
+      let same = encoded (rulesOf s) (recordsOf s) (accepts .rules ∙ sym (accepts .records)) (λ k h. each-record k (omega (arith, accepts .rules))) in
+      λ i. recordsBytes (sym (S .byte-label) i) (same i)
 
   plan-is : recordsBytes Format.Narrow (map encode (rulesOf s)) ++ trailerBytes Format.Narrow (S .n) (S .start) ≡ s
   plan-is =
       let f = formatOf s in
       ap₂ (λ (x y : List ℕ). x ++ y)
       (records-are ∙ alone-words mostRules s (S .n) (S .start) (S .bytes) accepts (S .no-prefix))
-      (ap (λ (g : Format). trailerBytes g (S .n) (S .start)) (sym (S .byte-label)) ∙ sym (alone-trailer mostRules s (S .n) (S .start) (S .bytes) accepts (S .no-prefix)))
+      (ap (λ (g : Format). trailerBytes g (S .n) (S .start)) (sym (S .byte-label))
+      ∙ sym (alone-trailer mostRules s (S .n) (S .start) (S .bytes) accepts (S .no-prefix)))
       ∙ take-append-drop (recordLength f * S .n) s
 
 -- ---- its rules, in three shapes
@@ -171,13 +175,16 @@ is-candidate start one-rule h e =
     ((λ i. 0 ∷ 0 ∷ 0 ∷ 0 ∷ 0 ∷ 0 ∷ 0 ∷ 0 ∷ 1 ∷ 0 ∷ (sym (start-is start (omega arith)) i ++ (8 ∷ 0 ∷ 0 ∷ 0 ∷ 109 ∷ 112 ∷ []))) ∙ e)
 is-candidate start (two-rules b) h e =
     let at = more-places (3 + (3 * b .number + start)) (omega arith) (omega (arith, b .few)) in
-    candidate-by 2 (3 + (3 * b .number + start)) 0 (b .number) start (b .few) (omega arith) (at .0) (at .1 ∙ omega arith) (omega (arith, b .few)) refl (b .no-label)
-    ((λ i. 0 ∷ 0 ∷ 0 ∷ 0 ∷ 0 ∷ 0 ∷ 0 ∷ 0 ∷ ((sym (b .same) i ++ []) ++ (2 ∷ 0 ∷ (sym (start-is start (omega arith)) i ++ (16 ∷ 0 ∷ 0 ∷ 0 ∷ 109 ∷ 112 ∷ []))))) ∙ e)
+    candidate-by 2 (3 + (3 * b .number + start)) 0 (b .number) start (b .few) (omega arith) (at .0) (at .1 ∙ omega arith)
+    (omega (arith, b .few)) refl (b .no-label)
+    ((λ i. 0 ∷ 0 ∷ 0 ∷ 0 ∷ 0 ∷ 0 ∷ 0 ∷ 0 ∷
+    ((sym (b .same) i ++ []) ++ (2 ∷ 0 ∷ (sym (start-is start (omega arith)) i ++ (16 ∷ 0 ∷ 0 ∷ 0 ∷ 109 ∷ 112 ∷ []))))) ∙ e)
 is-candidate start (three-rules a w b) h e =
     let j = 3 * (48 * a .number + b .number) + start in
     let at = most-places (147 + j) (omega arith) in
     candidate-by 3 (147 + j) (a .number) (b .number) start (b .few) h (at .0) (at .1 ∙ omega arith) (omega (arith, a .few, b .few)) w (b .no-label)
-    ((λ i. 0 ∷ 0 ∷ 0 ∷ 0 ∷ 0 ∷ 0 ∷ 0 ∷ 0 ∷ ((sym (a .same) i ++ (sym (b .same) i ++ [])) ++ (3 ∷ 0 ∷ (sym (start-is start h) i ++ (24 ∷ 0 ∷ 0 ∷ 0 ∷ 109 ∷ 112 ∷ []))))) ∙ e)
+    ((λ i. 0 ∷ 0 ∷ 0 ∷ 0 ∷ 0 ∷ 0 ∷ 0 ∷ 0 ∷
+    ((sym (a .same) i ++ (sym (b .same) i ++ [])) ++ (3 ∷ 0 ∷ (sym (start-is start h) i ++ (24 ∷ 0 ∷ 0 ∷ 0 ∷ 109 ∷ 112 ∷ []))))) ∙ e)
 
 -- a plan of the note is in the list, and what is in the list is a plan of the note
 pub members : (s : List ℕ) → List·Memᴰ s listed ↔ Small s

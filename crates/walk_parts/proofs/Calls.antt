@@ -83,9 +83,11 @@ module _ (g : Forest ℕ) (down : Call → Bool) (c : Call) where
       by : (b : Bool)
           → ((q : Path) → fingerAnswers g down (ds ++ (c ∷ [])) q ≡ fingerAnswers g down ds q ++ answers g (lettersOf (c .letters)) (fingerPath g down ds q))
           → cond b (fingerAnswers g down (ds ++ (c ∷ [])) p) (answers g (lettersOf (d .letters)) p ++ fingerAnswers g down (ds ++ (c ∷ [])) r)
-          ≡ cond b (fingerAnswers g down ds p) (answers g (lettersOf (d .letters)) p ++ fingerAnswers g down ds r) ++ answers g (lettersOf (c .letters)) (fingerPath g down ds (cond b p r))
+          ≡ cond b (fingerAnswers g down ds p) (answers g (lettersOf (d .letters)) p ++ fingerAnswers g down ds r)
+          ++ answers g (lettersOf (c .letters)) (fingerPath g down ds (cond b p r))
       by true rest = rest p
-      by false rest = ap (λ (l : List (Option ℕ)). answers g (lettersOf (d .letters)) p ++ l) (rest r) ∙ sym (append-assoc (answers g (lettersOf (d .letters)) p) _ _)
+      by false rest = ap (λ (l : List (Option ℕ)). answers g (lettersOf (d .letters)) p ++ l) (rest r)
+          ∙ sym (append-assoc (answers g (lettersOf (d .letters)) p) _ _)
 
 -- a call on the cursor that a list of calls left, and not turned down by 8 or 9
 module _ (plan : List ℕ) (n start : ℕ) (first : List ℕ) (r : ℕ) (names : walkedRule start first ≡ r) (calls : List Call) (c : Call)
@@ -99,7 +101,8 @@ module _ (plan : List ℕ) (n start : ℕ) (first : List ℕ) (r : ℕ) (names :
   abbrev left : Left
   left = last plan c first calls
 
-  abbrev M : Meets n g (placedForest (rulesOf plan) r) down calls (lefts walkOf plan first calls) first (cursorAfterCalls walkOf plan first calls) (fingerPath g down calls [])
+  abbrev M : Meets n g (placedForest (rulesOf plan) r) down calls (lefts walkOf plan first calls) first
+      (cursorAfterCalls walkOf plan first calls) (fingerPath g down calls [])
   M = demands plan n start first r names calls e a
 
   accepted : isRefused (left .answer) ≡ false
@@ -108,7 +111,8 @@ module _ (plan : List ℕ) (n start : ℕ) (first : List ℕ) (r : ℕ) (names :
       let isR : Left → Bool = λ (l : Left). isRefused (l .answer) in
       first-same
       (rest-same (map down calls) (isR left ∷ []) (down c ∷ []) (M .refused) refl
-      (sym (map-append isR (lefts walkOf plan first calls) (left ∷ [])) ∙ ap (map isR) (sym (lefts-last plan c calls first)) ∙ more ∙ map-append down calls (c ∷ [])))
+      (sym (map-append isR (lefts walkOf plan first calls) (left ∷ [])) ∙ ap (map isR) (sym (lefts-last plan c calls first))
+      ∙ more ∙ map-append down calls (c ∷ [])))
       ∙ d
 
   -- its answers are the finger's, from where the finger then stands
@@ -116,8 +120,10 @@ module _ (plan : List ℕ) (n start : ℕ) (first : List ℕ) (r : ℕ) (names :
   last-answers =
       let more = demands plan n start first r names (calls ++ (c ∷ [])) e a .answered in
       sym (one-answers c left accepted)
-      ∙ rest-same (map answerWord (fingerAnswers g down calls [])) (walkAnswers (c ∷ []) (left ∷ [])) (map answerWord (answers g (lettersOf (c .letters)) (fingerPath g down calls []))) (M .answered) refl
-      (sym (answers-last plan c calls first) ∙ more ∙ ap (map answerWord) (replies-last g down c calls [] d) ∙ map-append answerWord (fingerAnswers g down calls []) _)
+      ∙ rest-same (map answerWord (fingerAnswers g down calls [])) (walkAnswers (c ∷ []) (left ∷ []))
+      (map answerWord (answers g (lettersOf (c .letters)) (fingerPath g down calls []))) (M .answered) refl
+      (sym (answers-last plan c calls first) ∙ more ∙ ap (map answerWord) (replies-last g down c calls [] d)
+      ∙ map-append answerWord (fingerAnswers g down calls []) _)
 
   pub last-path : fingerPath g down (calls ++ (c ∷ [])) [] ≡ pathAfter g (lettersOf (c .letters)) (fingerPath g down calls [])
   last-path = path-end g down calls c [] d

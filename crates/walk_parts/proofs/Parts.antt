@@ -51,14 +51,16 @@ every-letter n cursor c d =
 
 -- ---- the finger on calls of which none is turned down
 module _ (g : Forest ℕ) (n : ℕ) (cursor : List ℕ) where
-  finger-path : (cs : List Call) (p : Path) → NoneDown (turnedDown n cursor) cs → fingerPath g (turnedDown n cursor) cs p ≡ pathAfter g (lettersOf (allLetters cs)) p
+  finger-path : (cs : List Call) (p : Path) → NoneDown (turnedDown n cursor) cs
+      → fingerPath g (turnedDown n cursor) cs p ≡ pathAfter g (lettersOf (allLetters cs)) p
   unfolding fingerPath NoneDown allLetters pathAfter lettersOf
   finger-path [] p d = refl
   finger-path (c ∷ cs) p d =
       rw (d .0, letters-append (c .letters) (allLetters cs) 0 (every-letter n cursor c (d .0)))
       (finger-path cs (pathAfter g (lettersOf (c .letters)) p) (d .1) ∙ sym (pathAfter-append g (lettersOf (c .letters)) (lettersOf (allLetters cs)) p))
 
-  finger-answers : (cs : List Call) (p : Path) → NoneDown (turnedDown n cursor) cs → fingerAnswers g (turnedDown n cursor) cs p ≡ answers g (lettersOf (allLetters cs)) p
+  finger-answers : (cs : List Call) (p : Path) → NoneDown (turnedDown n cursor) cs
+      → fingerAnswers g (turnedDown n cursor) cs p ≡ answers g (lettersOf (allLetters cs)) p
   unfolding fingerAnswers NoneDown allLetters answers lettersOf
   finger-answers [] p d = refl
   finger-answers (c ∷ cs) p d =

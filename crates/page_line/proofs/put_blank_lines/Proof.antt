@@ -13,7 +13,9 @@ use Rattle.page_line.proofs.put_blank_lines.Statement.{statement}
 use Rattle.page_line.proofs.put_blank_lines.Tie as tie
 
 abbrev Inv-loop : tie.InvT-loop
-Inv-loop out₀ at m end₀ i₀ out end i = (i ≤ m) × (length out ≡ length out₀) × Put (blankLines (m - i)) end out (sets out₀ at (blankLines m)) (at + length (blankLines m))
+Inv-loop out₀ at m end₀ i₀ out end i =
+    (i ≤ m) × (length out ≡ length out₀)
+    × Put (blankLines (m - i)) end out (sets out₀ at (blankLines m)) (at + length (blankLines m))
 
 abbrev μ-loop : tie.MeasureT-loop
 μ-loop out₀ at m end₀ i₀ out end i = m - i

@@ -29,12 +29,14 @@ loop-holds : tie.Need-loop-holds Inv-loop μ-loop
 loop-holds c =
     let entry = c .before .before .before in
     let letters = now (entry .args .letters) in
-    let given = now (entry .args .given) in (
+    let given = now (entry .args .given) in
+    let all = answersFrom (length letters) given 0 in
+    let long = lines-long (entry .args .first) letters all (entry .pre .1) (entry .pre .2) (from-long (length letters) given 0) in (
       omega arith,
       refl,
       omega arith,
       shorts-all letters given (entry .pre .2),
-      put-as (lines-all (entry .args .first) letters given) (put-start _ _ _ (omega (arith, lines-long (entry .args .first) letters (answersFrom (length letters) given 0) (entry .pre .1) (entry .pre .2) (from-long (length letters) given 0)))),
+      put-as (lines-all (entry .args .first) letters given) (put-start _ _ _ (omega (arith, long))),
     )
 
 mul-read32 : tie.Need-mul-read32 Inv-loop μ-loop
@@ -53,7 +55,8 @@ put-line-requires : tie.Need-put-line-requires Inv-loop μ-loop
 put-line-requires c κs =
     let at = c .before .before .before .before in
     let entry = at .before .before .before .before in
-    let short = shorts-more (now (entry .args .letters)) (now (entry .args .given)) (at .loop .i) (omega arith) (c .before .before .read32 .ensures) (at .loop .inv .3) in
+    let short = shorts-more (now (entry .args .letters)) (now (entry .args .given)) (at .loop .i) (omega arith)
+    (c .before .before .read32 .ensures) (at .loop .inv .3) in
     (omega arith, short .0, omega arith)
 
 add-i : tie.Need-add-i Inv-loop μ-loop
@@ -84,8 +87,10 @@ same-length c = omega arith
 returns : tie.Need-returns Inv-loop μ-loop
 returns c =
     let at = c .before in
-    let entry = at .before .before .before .before in
-    (put-end (lines-none (entry .args .first) (now (entry .args .letters)) (now (entry .args .given)) (at .loop .i) (omega arith)) (at .loop .inv .4), omega arith)
+    let entry = at .before .before .before .before in (
+      put-end (lines-none (entry .args .first) (now (entry .args .letters)) (now (entry .args .given)) (at .loop .i) (omega arith)) (at .loop .inv .4),
+      omega arith,
+    )
 
 pub put-lines-spec : {M : Type 1} → statement M
 put-lines-spec =

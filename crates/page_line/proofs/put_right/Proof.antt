@@ -28,7 +28,8 @@ returns c =
     let entry = blanks .before .before .before .before in
     let long = right-long (entry .args .width) (decimal (entry .args .v)) (entry .pre .0) in
     put-so (entry .args .width) long
-    (put-as (right-is (entry .args .width) (entry .args .v) (blanks .before .digit-count .ensures .0)) (put-both (blanks .put-blanks .ensures .0) (put .put-decimal .ensures)))
+    (put-as (right-is (entry .args .width) (entry .args .v) (blanks .before .digit-count .ensures .0))
+    (put-both (blanks .put-blanks .ensures .0) (put .put-decimal .ensures)))
 
 pub put-right-spec : {M : Type 1} → statement M
 put-right-spec =

@@ -30,14 +30,16 @@ returns-2 c =
     let past-check = c .before .before .before in
     let entry = past-check .before .before .before .before in
     c .judge-log .ensures
-    ∙ plan-read (now (entry .args .plan)) (now (entry .args .log)) (past-check .before .if1 .left) (sym (c .before .enum-told .given .1) ∙ past-check .check-up-to .ensures)
+    ∙ plan-read (now (entry .args .plan)) (now (entry .args .log)) (past-check .before .if1 .left)
+    (sym (c .before .enum-told .given .1) ∙ past-check .check-up-to .ensures)
 
 returns-3 : tie.Need-returns-3
 unfolding checkJudged
 returns-3 c =
     let past-check = c .before .before .before in
     let entry = past-check .before .before .before .before in
-    plan-read (now (entry .args .plan)) (now (entry .args .log)) (past-check .before .if1 .left) (sym (c .before .why .given .1) ∙ past-check .check-up-to .ensures)
+    plan-read (now (entry .args .plan)) (now (entry .args .log)) (past-check .before .if1 .left)
+    (sym (c .before .why .given .1) ∙ past-check .check-up-to .ensures)
 
 pub judge-spec : {M : Type 1} → statement M
 judge-spec =
