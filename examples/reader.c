@@ -4,6 +4,7 @@
 
    With a rule, say that of one day, its forest alone is walked. Keys are the letters of plan_walk (a z f l n p u s), m, which remembers the
    place, =, which asks whether the node and all below it is the same there and here, and q, which ends; blanks and line ends are passed over.
+   A key that leads nowhere says why.
    All memory is laid out here, once, for the largest plan of either format that this reader takes: the walker keeps nothing and asks for
    nothing. A table-top reader takes few rules, and turns down a plan of more before any call, so that it needs the smaller stack alone. */
 #include "mealplan.h"
@@ -56,13 +57,21 @@ static int greet(void) {
 }
 
 /* Shows the label that a key led to: up to eight digits, and the character if it is one. */
-static void show(int key, uint32_t label) {
-    if (label == MEALPLAN_NOWHERE)
-        printf("%c  nowhere\n", key);
-    else if (label < 256 && isprint((int)label))
-        printf("%c  %u %c\n", key, (unsigned)label, (int)label);
-    else
-        printf("%c  %u\n", key, (unsigned)label);
+static int show(int key, uint32_t label) {
+    if (label < 256 && isprint((int)label)) return printf("%c  %u %c\n", key, (unsigned)label, (int)label), 0;
+    return printf("%c  %u\n", key, (unsigned)label), 0;
+}
+
+/* Says why a key led nowhere: it kept the place, so the reason is asked of the cursor as it is now. */
+static int explain(int key) {
+    static const char *const reasons[] = {"it moves",    "above the forest",         "the forest is empty",
+                                          "no children", "the last of its siblings", "the first of its siblings",
+                                          "a root"};
+    uint32_t reason;
+    uint64_t position;
+    uint32_t number = plan_reason(plan, plan_len, work, sizeof work, cursor, sizeof cursor, (uint8_t)key, &reason, &position);
+    if (number) return refused(number, position);
+    return printf("%c  nowhere: %s\n", key, reasons[reason]), 0;
 }
 
 /* One key is one call: the place is in the cursor between calls, and nowhere else. */
@@ -73,8 +82,8 @@ static int press(int key) {
                                 sizeof answers, &position);
     if (number == MEALPLAN_LETTER) return printf("%c  no such key\n", isprint(key) ? key : '?'), 0;
     if (number) return refused(number, position);
-    show(key, MEALPLAN_ANSWER(answers, 0));
-    return 0;
+    uint32_t label = MEALPLAN_ANSWER(answers, 0);
+    return label == MEALPLAN_NOWHERE ? explain(key) : show(key, label);
 }
 
 /* Stands above the forest of one rule, by its number; a walk of no letters tells whether there is such a rule and it is closed. */

@@ -2,10 +2,11 @@
 
    Slices. Every slice is a pointer and a length in bytes; that of rows is a pointer to
    the first and their number. A pointer is never null, also where the length is 0. A
-   slice that is written (out, work, cursor, answers) lies apart from every other slice
-   of the call, and until the call returns nobody else reads or writes it. Slices that
-   are only read (plan, words, letters, first, second, rows) may overlap each other or
-   be one, and until the call returns nobody writes them either. Rows are aligned as C
+   slice that is written (out, work, answers, the cursor of plan_walk) lies apart from
+   every other slice of the call, and until the call returns nobody else reads or writes
+   it. Slices that are only read (plan, words, letters, first, second, rows, the cursor of
+   plan_reason) may overlap each other or be one, and until the call returns nobody writes
+   them either. Rows are aligned as C
    has it. Words of 16 bits are two bytes, low first; an odd last byte isn't counted.
    Answers are words of 32 bits, four bytes, low first; a rest of one to three isn't
    counted.
@@ -287,12 +288,36 @@ uint32_t plan_grams(const uint8_t *plan, size_t plan_len,
                     uint8_t *work, size_t work_len,
                     uint64_t *grams, uint64_t *position);
 
+/* Why a letter moves or doesn't, as plan_reason answers. Exactly one holds for each letter
+   at each place. */
+enum mealplan_reason {
+    MEALPLAN_MOVES = 0,         /* the letter moves: at a node s does, and where there are
+                                   trees a and z do from anywhere, also to where one stands */
+    MEALPLAN_ABOVE = 1,         /* above a forest with trees, and neither a nor z */
+    MEALPLAN_NO_TREES = 2,      /* the forest is empty, whichever the letter */
+    MEALPLAN_NO_CHILDREN = 3,   /* f or l at a node without children */
+    MEALPLAN_LAST_SIBLING = 4,  /* n at the last of its siblings */
+    MEALPLAN_FIRST_SIBLING = 5, /* p at the first of its siblings */
+    MEALPLAN_ROOT = 6           /* u at a root */
+};
+
+/* Why a letter moves or doesn't from the place in cursor: 1 to 6, 12, 7; 8 for work or the
+   cursor; 9 at 0 for a byte that is no letter; 10. So it is refused exactly where plan_walk
+   of that one letter is, with room for its answer. Accepted: *reason is as above, of the
+   forest of the rule that MEALPLAN_WORD(cursor) names, and it is MEALPLAN_MOVES exactly
+   where that walk doesn't answer nowhere. work as for plan_measure; the cursor is only
+   read. */
+uint32_t plan_reason(const uint8_t *plan, size_t plan_len,
+                     uint8_t *work, size_t work_len,
+                     const uint8_t *cursor, size_t cursor_len,
+                     uint8_t letter, uint32_t *reason, uint64_t *position);
+
 /* What the library takes of a device, in bytes, at most; tests/stack.sh measures it.
 
-   Code with its constants, of all ten functions, and of plan_check and plan_walk
+   Code with its constants, of all eleven functions, and of plan_check and plan_walk
    alone where the linker drops what isn't used (--gc-sections). There are no data and
    no bss, and the one function that the library calls is memset. */
-#define MEALPLAN_CODE_BYTES 26624
+#define MEALPLAN_CODE_BYTES 27648
 #define MEALPLAN_CODE_BYTES_CHECK_WALK 13312
 
 /* Stack: the deepest chain of calls (there is no recursion) with the return address,
@@ -313,6 +338,7 @@ uint32_t plan_grams(const uint8_t *plan, size_t plan_len,
 #define MEALPLAN_STACK_COMPARE 5120
 #define MEALPLAN_STACK_COPY 5120
 #define MEALPLAN_STACK_GRAMS 5120
+#define MEALPLAN_STACK_REASON 5120
 
 /* For each of these, whatever the plan or the words: */
 #define MEALPLAN_STACK_MANY 73728

@@ -16,8 +16,8 @@ static uint8_t out[MEALPLAN_PLAN_BYTES(MOST, WIDE) + MEALPLAN_COPY_BYTES(COPIED)
 static uint8_t cursor[MEALPLAN_CURSOR_BYTES(MOST) + 1], second[MEALPLAN_CURSOR_BYTES(MOST) + 1], answers[MEALPLAN_ANSWERS_BYTES(8)];
 static uint16_t record_length, n, start;
 static uint64_t trees, entries, levels, written, grams, position;
-static uint32_t verdict, count;
-static unsigned calls, seen;
+static uint32_t verdict, count, reason;
+static unsigned calls, seen, reasons_seen;
 
 /* What came is what was to come. */
 static void want(const char *what, uint64_t came, uint64_t expected) {
@@ -55,6 +55,11 @@ static uint32_t walk(const uint8_t *bytes, size_t length, const char *letters) {
 static uint32_t compare(const uint8_t *bytes, size_t length, uint32_t budget) {
     return plan_compare(bytes, length, work, MEALPLAN_WORK_BYTES(n), cursor, MEALPLAN_CURSOR_BYTES(n), second,
                         MEALPLAN_CURSOR_BYTES(n), budget, &verdict, &count, &position);
+}
+
+/* The reason of a letter from the place in cursor, likewise. */
+static uint32_t ask(const uint8_t *bytes, size_t length, uint8_t letter) {
+    return plan_reason(bytes, length, work, MEALPLAN_WORK_BYTES(n), cursor, MEALPLAN_CURSOR_BYTES(n), letter, &reason, &position);
 }
 
 /* A copy for a client of a class, likewise. */
@@ -97,6 +102,8 @@ static void lengths(const uint8_t *bytes, size_t length) {
     for (int less = 0; less < 4; less++) /* with nothing less a place above the forest is refused */
         gives("compare above the forest", plan_compare(bytes, length, work, w - (less == 1), cursor, c - (less == 2), second,
               c - (less == 3), 9, &verdict, &count, &position), less ? MEALPLAN_LENT : MEALPLAN_PLACE, 0);
+    NEEDS(w, MEALPLAN_LENT, plan_reason(bytes, length, work, LENGTH, cursor, c, 'a', &reason, &position));
+    NEEDS(c, MEALPLAN_LENT, plan_reason(bytes, length, work, w, cursor, LENGTH, 'a', &reason, &position));
     memset(cursor, 0, sizeof cursor);
     if (n > COPIED) {
         gives("a copy of too many rules", plan_copy(bytes, length, &all, 1, 0, work, 0, out, 0, &written, &position), MEALPLAN_TOO_MANY, 0);
@@ -244,6 +251,7 @@ static void orders(void) {
     gives("and compared", compare(plan, sizeof sample, 0), MEALPLAN_CYCLE, 7);
     gives("and copied", copy(plan, sizeof sample, &no_row, 0, 4), MEALPLAN_CYCLE, 7);
     gives("and weighed", weigh(plan, sizeof sample, &no_row, 0), MEALPLAN_CYCLE, 7);
+    gives("and asked about", ask(plan, sizeof sample, 'x'), MEALPLAN_CYCLE, 7);
 }
 
 /* The two formats: record lengths, marks, and what a wide plan's words may be. */
@@ -528,6 +536,86 @@ static void days(void) {
     memset(cursor, 0, sizeof cursor);
 }
 
+/* The reasons of the eight letters from the place in cursor, a digit each. Each is MEALPLAN_MOVES exactly where a walk of that letter from there doesn't
+   answer nowhere; the cursor is only read, and the needed work ends as zeros. */
+static void because(const char *what, const uint8_t *bytes, size_t length, const char *reasons) {
+    static const char letters[] = "azflnpus";
+    static uint8_t before[sizeof cursor];
+    memcpy(before, cursor, sizeof cursor);
+    want("a reason for each letter", strlen(reasons), strlen(letters));
+    for (size_t i = 0; letters[i]; i++) {
+        char letter[] = {letters[i], 0};
+        reason = 77;
+        memset(work, 3, sizeof work);
+        gives(what, ask(bytes, length, (uint8_t)letters[i]), MEALPLAN_ACCEPTED, 0);
+        want(what, reason, (uint64_t)(reasons[i] - '0'));
+        reasons_seen |= 1u << reason;
+        want("the cursor is only read", memcmp(before, cursor, sizeof cursor) == 0, 1);
+        for (size_t b = 0; b <= MEALPLAN_WORK_BYTES(n); b++) want("work", work[b], b < MEALPLAN_WORK_BYTES(n) ? 0 : 3);
+        gives(letter, walk(bytes, length, letter), MEALPLAN_ACCEPTED, 0);
+        want("0 exactly where a walk doesn't answer nowhere", reason == MEALPLAN_MOVES, MEALPLAN_ANSWER(answers, 0) != MEALPLAN_NOWHERE);
+        memcpy(cursor, before, sizeof cursor);
+    }
+}
+
+/* A letter whose reason is refused: the number is left alone and the cursor as it was, the needed work zeros past 8 and else as it was. */
+static void no_reason(const char *what, uint32_t result, uint32_t refusal, size_t cleared) {
+    gives(what, result, refusal, 0);
+    want("the reason is left alone", reason, 77);
+    want("the cursor is only read", cursor[MEALPLAN_CURSOR_BYTES(8)], 7);
+    for (size_t i = 0; i <= MEALPLAN_WORK_BYTES(8); i++) want("work", work[i], i < cleared ? 0 : 3);
+    memset(work, 3, sizeof work);
+}
+
+/* Why a letter moves or doesn't: each reason on the sample plans and by rules of theirs, and each refusal in its turn. */
+static void reasoned(void) {
+    static const struct { const uint8_t *bytes; size_t length; } plans[] = {{sample, sizeof sample}, {wide, sizeof wide}};
+    static const unsigned numbers[] = {MEALPLAN_MOVES, MEALPLAN_ABOVE, MEALPLAN_NO_TREES, MEALPLAN_NO_CHILDREN, MEALPLAN_LAST_SIBLING,
+                                       MEALPLAN_FIRST_SIBLING, MEALPLAN_ROOT};
+    /* Letters from above the forest of the rule that a word names, and the reasons of a z f l n p u s there. */
+    static const struct { uint16_t word; const char *letters, *reasons; } cases[] = {
+        {0, "", "00111111"},        {0, "a", "00000560"},    {0, "an", "00330060"},   {0, "z", "00334060"},
+        {0, "af", "00330500"},      {0, "afnn", "00000000"}, {0, "al", "00334000"},   {0, "afnnfnn", "00330000"},
+        {0, "afnnfnnn", "00334000"},
+        {MEALPLAN_RULE_WORD(7), "a", "00000560"},            {MEALPLAN_RULE_WORD(6), "a", "00004560"},
+        {MEALPLAN_RULE_WORD(3), "", "00111111"},             {MEALPLAN_RULE_WORD(3), "z", "00334060"},
+        {MEALPLAN_RULE_WORD(1), "a", "00334560"},            {MEALPLAN_RULE_WORD(0), "", "22222222"},
+    };
+    for (unsigned i = 0; i < sizeof numbers / sizeof *numbers; i++) want("the number of a reason", numbers[i], i);
+    for (int i = 0; i < 2; i++) {
+        check(plans[i].bytes, plans[i].length);
+        for (size_t c = 0; c < sizeof cases / sizeof *cases; c++) {
+            stand_in(plans[i].bytes, plans[i].length, cases[c].word, cases[c].letters);
+            because(cases[c].letters, plans[i].bytes, plans[i].length, cases[c].reasons);
+        }
+    }
+    size_t length = empty_rules(1, NARROW);
+    check(plan, length);
+    mealplan_above(cursor, 0);
+    because("an empty forest", plan, length, "22222222");
+    want("every reason came, as bits", reasons_seen, (1u << (MEALPLAN_ROOT + 1)) - 1);
+
+    /* The check before 8, that before 9 at 0, and that before 10. */
+    check(sample, sizeof sample);
+    memset(cursor, 7, sizeof cursor), memset(work, 3, sizeof work), reason = 77;
+    size_t w = MEALPLAN_WORK_BYTES(8), c = MEALPLAN_CURSOR_BYTES(8);
+    no_reason("a plan cut short, and nothing lent", plan_reason(sample, sizeof sample - 1, work, 0, cursor, 0, 'x', &reason, &position),
+              MEALPLAN_MAGIC, 0);
+    no_reason("too little work", plan_reason(sample, sizeof sample, work, w - 1, cursor, c, 'x', &reason, &position), MEALPLAN_LENT, 0);
+    no_reason("too little cursor", plan_reason(sample, sizeof sample, work, w, cursor, c - 1, 'x', &reason, &position), MEALPLAN_LENT, 0);
+    for (unsigned byte = 0; byte <= 255; byte++)
+        if (!byte || !strchr("azflnpus", (int)byte)) no_reason("a byte that is no letter", ask(sample, sizeof sample, (uint8_t)byte), MEALPLAN_LETTER, w);
+    no_reason("cells that lead nowhere", ask(sample, sizeof sample, 's'), MEALPLAN_PLACE, w);
+    mealplan_above(cursor, MEALPLAN_RULE_WORD(4));
+    no_reason("a part", ask(sample, sizeof sample, 'a'), MEALPLAN_PLACE, w);
+    mealplan_above(cursor, MEALPLAN_RULE_WORD(8));
+    no_reason("a number beyond the rules", ask(sample, sizeof sample, 'a'), MEALPLAN_PLACE, w);
+    mealplan_above(cursor, 0);
+    cursor[6] = 1;
+    no_reason("word 3 of cell 0", ask(sample, sizeof sample, 'a'), MEALPLAN_PLACE, w);
+    memset(cursor, 0, sizeof cursor);
+}
+
 /* The class of a label by so many rows; refused, the class is left alone. */
 static uint32_t class_of(const struct plan_row *rows, size_t count, uint32_t label, unsigned expected) {
     uint16_t class_ = 999;
@@ -742,6 +830,7 @@ int main(int argc, char **argv) {
     places();
     compared();
     days();
+    reasoned();
     classes();
     copied();
     weighed();

@@ -88,9 +88,11 @@ def walked():
     if not t.is_raw():
         fail("the terminal isn't raw")
     t.press(b"f")
-    t.shows("f: nowhere", "path   above the forest")
+    t.shows("f: above the forest only a and z lead in", "path   above the forest")
     t.press(b"a")
     t.shows("path   1", "label  99 c", "cells  4", "  > 99 c", "        97 a", "    97 a")
+    t.press(b"\x1b[D")  # left
+    t.shows("u: this is a root: nothing is above it", "path   1")
     t.press(b"fnnfnn")
     t.shows("path   1 / 3 / 3", "label  97 a", "cells  5", "trail  99 c / 99 c / 97 a")
     t.press(b"n")
@@ -116,15 +118,25 @@ def walked():
 
 
 def one_rule():
-    """The forest of one rule alone, and one that is holed."""
+    """The forest of one rule alone, an empty one, and one that is holed."""
     t = Terminal(SAMPLES + "/plan.bin", "--rule", "3")
     t.shows(SAMPLES + "/plan.bin: 8 narrow rules, rule 3; 2 trees, 2 entries, 1 levels", "path   above the forest")
     t.press(b"zm")
     t.shows("path   2", "label  98 b", "cells  3", "remembered: 2")
     t.press(b"n")
-    t.shows("n: nowhere", "path   2")
+    t.shows("n: this is the last of its siblings: nothing comes next", "path   2")
+    t.press(b"f")
+    t.shows("f: this has no children: nothing is below it", "path   2")
     t.press(b"p=")
     t.shows("path   1", "label  97 a", "another than remembered, at 1")
+    t.press(b"p")
+    t.shows("p: this is the first of its siblings: nothing comes before it", "path   1")
+    t.press(b"q")
+    t.ends(0)
+    t = Terminal(SAMPLES + "/plan.bin", "--rule=0")
+    t.shows("path   above the forest", "the forest is empty: no key leads anywhere")
+    t.press(b"a")
+    t.shows("a: the forest is empty: no key leads anywhere")
     t.press(b"q")
     t.ends(0)
     t = Terminal(SAMPLES + "/plan.bin", "--rule=4")

@@ -27,24 +27,31 @@ f  97 a
 n  98 b
 n  97 a
 n  98 b
-n  nowhere
+n  nowhere: the last of its siblings
 u  99 c
 n  98 b
 u  99 c
 n  97 a
 n  98 b
-n  nowhere
+n  nowhere: the last of its siblings
 x  no such key
 stopped with 3 cells
 END
 
-shows samples/plan.bin 'fnzps' 0 <<'END'
+# Why a key leads nowhere.
+shows samples/plan.bin 'fnznfplupps' 0 <<'END'
 8 rules, start 7: 3 trees, 11 entries, 3 levels
-f  nowhere
-n  nowhere
+f  nowhere: above the forest
+n  nowhere: above the forest
 z  98 b
+n  nowhere: the last of its siblings
+f  nowhere: no children
 p  97 a
-s  97 a
+l  nowhere: no children
+u  nowhere: a root
+p  99 c
+p  nowhere: the first of its siblings
+s  99 c
 stopped with 4 cells
 END
 
@@ -84,8 +91,8 @@ p  97 a
 m  remembered
 n  98 b
 =  another at 1
-n  nowhere
-u  nowhere
+n  nowhere: the last of its siblings
+u  nowhere: a root
 stopped with 3 cells
 END
 shows samples/plan.bin 'afnn' 0 7 <<'END'
@@ -100,8 +107,8 @@ END
 shows samples/wide.bin 'az' 0 0 <<'END'
 8 wide rules, start 7: 3 trees, 11 entries, 3 levels
 rule 0 alone
-a  nowhere
-z  nowhere
+a  nowhere: the forest is empty
+z  nowhere: the forest is empty
 stopped with 0 cells
 END
 for rule in 4 5 8 1023 1024 65536 99999999999999999999; do
@@ -150,13 +157,13 @@ f  65535
 n  66051
 n  65535
 n  66051
-n  nowhere
+n  nowhere: the last of its siblings
 u  16777215
 n  66051
 u  16777215
 n  65535
 n  66051
-n  nowhere
+n  nowhere: the last of its siblings
 stopped with 3 cells
 END
 
@@ -186,7 +193,7 @@ shows "$build/dividers" 'aznq' 0 <<'END'
 66 rules, start 65: more than 2^64 - 1 nodes
 a  0
 z  0
-n  nowhere
+n  nowhere: the last of its siblings
 stopped with 3 cells
 END
 
@@ -222,8 +229,8 @@ empty() { # N N-BYTES DISTANCE-BYTES MARK: so many empty narrow rules, start 0; 
 empty 1024 '\0\4' '\0\40' mp >"$build/most"
 shows "$build/most" 'az' 0 <<'END'
 1024 rules, start 0: 0 trees, 0 entries, 0 levels
-a  nowhere
-z  nowhere
+a  nowhere: the forest is empty
+z  nowhere: the forest is empty
 stopped with 0 cells
 END
 

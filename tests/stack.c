@@ -9,7 +9,7 @@
 #include <string.h>
 #include <ucontext.h>
 
-enum { MOST = MEALPLAN_MOST_RULES, LETTERS = 4096, TEXT = 1 << 20, BUDGET = 1 << 16, ROWS = 1 << 16, FUNCTIONS = 9 };
+enum { MOST = MEALPLAN_MOST_RULES, LETTERS = 4096, TEXT = 1 << 20, BUDGET = 1 << 16, ROWS = 1 << 16, FUNCTIONS = 10 };
 
 static uint8_t words[MEALPLAN_WORDS_BYTES(MOST, MEALPLAN_WIDE)], plan[MEALPLAN_PLAN_BYTES(MOST, MEALPLAN_WIDE)];
 static uint8_t work[MEALPLAN_WORK_BYTES(MOST)], cursor[MEALPLAN_CURSOR_BYTES(MOST)], root[MEALPLAN_CURSOR_BYTES(MOST)];
@@ -18,7 +18,7 @@ static uint16_t record, n, start;
 static uint16_t rules, format, first; /* of the plan that is tried: its rules, the record length, and the start that is lent to seal */
 static size_t words_len, plan_len;
 static uint64_t trees, entries, levels, written, grams, position;
-static uint32_t verdict, pairs, result;
+static uint32_t verdict, pairs, reason, result;
 
 /* The library's memset is this one, which takes no stack but its return address: so the figures are the library's own. */
 __asm__(".text\n.globl memset\n.type memset, @function\n"
@@ -49,6 +49,13 @@ static void walk(void) {
 /* The place where the walk ended, and the first tree. */
 static void compare(void) {
     CALL(plan_compare, plan, plan_len, work, sizeof work, cursor, sizeof cursor, root, sizeof root, BUDGET, &verdict, &pairs, &position);
+}
+
+/* Every letter from where the walk ended. */
+static void ask(void) {
+    for (const char *letter = "azflnpus"; *letter; letter++) {
+        CALL(plan_reason, plan, plan_len, work, sizeof work, cursor, sizeof cursor, (uint8_t)*letter, &reason, &position);
+    }
 }
 
 /* For a client who sees a part of the labels, all of which weigh something. */
@@ -94,8 +101,8 @@ static struct function {
     {"plan_seal", seal, MEALPLAN_STACK_SEAL, 0},          {"plan_check", check, MEALPLAN_STACK_CHECK, 0},
     {"plan_unseal", unseal, MEALPLAN_STACK_UNSEAL, 0},    {"plan_measure", measure, MEALPLAN_STACK_MEASURE, 0},
     {"plan_spread", spread, MEALPLAN_STACK_SPREAD, 0},    {"plan_walk", walk, MEALPLAN_STACK_WALK, 0},
-    {"plan_compare", compare, MEALPLAN_STACK_COMPARE, 0}, {"plan_grams", weigh, MEALPLAN_STACK_GRAMS, 0},
-    {"plan_copy", copy, MEALPLAN_STACK_COPY, 0},
+    {"plan_compare", compare, MEALPLAN_STACK_COMPARE, 0}, {"plan_reason", ask, MEALPLAN_STACK_REASON, 0},
+    {"plan_grams", weigh, MEALPLAN_STACK_GRAMS, 0},       {"plan_copy", copy, MEALPLAN_STACK_COPY, 0},
 };
 
 /* Any number below a bound: xorshift, the same at every run. */

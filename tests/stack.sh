@@ -14,7 +14,7 @@ build=$(mktemp -d)
 trap 'rm -rf "$build"' EXIT
 bash tests/library >"$build/log" 2>&1 || { cat "$build/log"; exit 1; }
 library=target/staticlib/libmealplan.a
-functions="check seal unseal measure spread walk compare class copy grams"
+functions="check seal unseal measure spread walk compare class copy grams reason"
 
 fail() {
     echo "stack: $1"
@@ -85,7 +85,7 @@ depths "" >"$build/any"
 depths "$many" >"$build/few"
 for sums in any few; do
     sort -o "$build/$sums" "$build/$sums"
-    [ "$(wc -l <"$build/$sums")" -eq 10 ] || fail "the chains of calls were not found"
+    [ "$(wc -l <"$build/$sums")" -eq 11 ] || fail "the chains of calls were not found"
 done
 grep -v '^class ' "$build/any" >"$build/plans"
 while read -r f bytes; do within "stack of plan_$f along its calls, any plan" "$bytes" STACK_MANY; done <"$build/plans"
@@ -95,7 +95,7 @@ gcc -std=gnu99 -O0 -Wall -Wextra -Werror -Iinclude -o "$build/stack" tests/stack
 "$build/stack" | tee "$build/painted"
 [ "${PIPESTATUS[0]}" -eq 0 ] || fail "on a painted stack"
 grep ', painted' "$build/painted" | sed 's/^plan_\([a-z]*\), painted\(, on plans of \([0-9]*\) rules\)*: \([0-9]*\) .*/\1 \4 \3/' >"$build/used"
-[ "$(wc -l <"$build/used")" -eq 20 ] || fail "the painted figures were not found"
+[ "$(wc -l <"$build/used")" -eq 22 ] || fail "the painted figures were not found"
 while read -r f bytes rules; do
     sums=any
     [ "$rules" != 1024 ] || sums=few

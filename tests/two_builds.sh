@@ -45,7 +45,7 @@ says "kit:    $(rt version)"
 says "proved: $(tail -n 1 target/ci.txt) \(the last line of rt ci\)"
 for file in libmealplan.a mealplan.h reader.c; do says "$(cd target/release && sha256sum "$file")"; done
 says 'code of all functions: [0-9]+ bytes, [0-9]+ stated'
-for f in check seal unseal measure spread walk compare copy grams; do
+for f in check seal unseal measure spread walk compare copy grams reason; do
     for rules in 1024 16384; do says "plan_$f, painted, on plans of $rules rules: [0-9]+ bytes of stack used, [0-9]+ stated"; done
 done
 says 'plan_class, painted: [0-9]+ bytes of stack used, [0-9]+ stated'

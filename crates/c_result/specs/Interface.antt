@@ -11,6 +11,8 @@ use Rattle.refusal.specs.Refusal.{numberOf, positionOf}
 use Rattle.forest.specs.declared.Compared.{Compared}
 use Rattle.forest.specs.declared.Measured.{Measured}
 use Rattle.forest.specs.declared.Walked.{Walked}
+use Rattle.reasons.specs.declared.Reasoned.{Reasoned}
+use Rattle.reasons.specs.Reason as reason
 use Rattle.label_rows.specs.declared.Classed.{Classed}
 use Rattle.label_rows.specs.declared.Weighed.{Weighed}
 
@@ -69,3 +71,8 @@ classedGives (Classed.Refused r) = Given.refused r
 unfoldable pub weighedGives : Weighed → Given
 weighedGives (Weighed.Grams g) = Given.numbers (g ∷ [])
 weighedGives (Weighed.Refused r) = Given.refused r
+
+-- Note 11: "say which holds", by its number
+unfoldable pub reasonedGives : Reasoned → Given
+reasonedGives (Reasoned.Because w) = Given.numbers (reason.numberOf w ∷ [])
+reasonedGives (Reasoned.Refused r) = Given.refused r

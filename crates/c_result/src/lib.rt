@@ -6,11 +6,12 @@ use label_rows::Classed;
 use label_rows::Weighed;
 use plan::Checked;
 use plan::Written;
+use reasons::Reasoned;
 use unseal::Unsealed;
 ghost use mathlib.Core.Path.{_≡_};
 ghost use Rattle.c_result.specs.Interface.{resultNumber, resultPosition, behind};
 ghost use Rattle.c_result.specs.Interface.{checkedGives, writtenGives, unsealedGives, measuredGives};
-ghost use Rattle.c_result.specs.Interface.{walkedGives, comparedGives, classedGives, weighedGives};
+ghost use Rattle.c_result.specs.Interface.{walkedGives, comparedGives, classedGives, weighedGives, reasonedGives};
 
 // What a checked answer leaves behind the pointers, and the result.
 pub fn give_checked(answer: Checked, n: &mut u16, start: &mut u16, position: &mut u64) -> u32
@@ -254,6 +255,27 @@ pub fn give_weighed(answer: Weighed, grams: &mut u64, position: &mut u64) -> u32
         Weighed::Refused(why) => {
             *position = why.position();
             why.number()
+        }
+    }
+}
+
+// What the answer for one letter leaves behind the pointers, and the result.
+pub fn give_reasoned(answer: Reasoned, reason: &mut u32, position: &mut u64) -> u32
+    ensures { λ r.
+        let given = reasonedGives answer in
+        ⌜ (r ≡ resultNumber given)
+        × (now (reason .exit) ≡ behind 0 given (now (reason .entry)))
+        × (now (position .exit) ≡ resultPosition given) ⌝ }
+{
+    match answer {
+        Reasoned::Because(why) => {
+            *reason = why.number();
+            *position = 0;
+            0
+        }
+        Reasoned::Refused(refusal) => {
+            *position = refusal.position();
+            refusal.number()
         }
     }
 }

@@ -2,66 +2,30 @@
 use Prim.Native.Nat.{ℕ, zero, suc, _<_}
 use native.Mathlib.Omega.{arith}
 use mathlib.Core.Path.{_≡_, refl, ap, subst, _∙_}
-use mathlib.Core.Bool.{Bool, true, false, cond}
-use mathlib.Core.List.{List, [], _∷_}
-use mathlib.Core.Option.{Option, none, some}
-use lib.Dec.{eqb}
-use Rattle.rule.specs.declared.Rule.{Rule}
+use mathlib.Core.List.{List, [], _∷_, cons≢nil}
+use mathlib.Core.Option.{none}
 use Rattle.refusal.specs.declared.Refusal.{Refusal}
 use Rattle.forest.specs.declared.Compared.{Compared}
-use Rattle.forest.specs.Expression.{Expression, expression, ruleNumber}
+use Rattle.forest.specs.Expression.{expression}
 use Rattle.forest.specs.Forest.{Forest}
-use Rattle.forest.specs.Place.{Cells, Side, cellRun, step, rowOfPart, representative}
-use Rattle.forest.specs.Sides.{pick}
-use Rattle.forest.specs.Position.{Position, Located, Named, cells, locatedOf}
+use Rattle.forest.specs.Position.{Located, Named, locatedOf}
 use Rattle.forest.specs.Reference.{Path, labelAt, nodeAt, top}
-use Rattle.forest.specs.Walk.{Begun, cellAt, cellsIn, placeJudged}
+use Rattle.forest.specs.Walk.{Begun, cellsIn, placeJudged}
 use Rattle.forest.specs.Compare.{nodeJudged, comparedAt}
 use Rattle.model.specs.Run.{Node}
-use Rattle.model.specs.Same.{Same}
 use Rattle.letter_arrival.specs.declared.Standing.{Standing}
 use Rattle.letter_moves.specs.Standing.{rulesKept}
 use Rattle.place_open.specs.declared.Opened.{Opened}
-use Rattle.place_open.specs.Open.{OpensAt, Opens}
+use Rattle.place_open.specs.Open.{OpensAt}
+use Rattle.place_open.proofs.Above.{same-above, same-cells}
 use Rattle.compare.specs.declared.Stood.{Stood}
 use Rattle.compare.specs.Places.{NodeAt, NodeOpens, StandsAt, BothOpen}
 
--- a node's place has cells
-cons-some : {A : Type 0} {x : A} {xs : List A} → x ∷ xs ≡ [] → ⊥
-cons-some q = let z : _≡_ {A = ℕ} 0 1 = cc in omega arith
-
-step-some : (s : Side) (a b : ℕ) (cs : Cells) → step s a b cs ≡ [] → ⊥
-unfolding step
-step-some s a b [] q = cons-some q
-step-some s a b (c ∷ cs) q = go (eqb (c .0) (cellRun s)) q
-  where
-    go : (t : Bool) → cond t ((c .0, c .1, b, c .3) ∷ cs) ((cellRun s, a, b, 0) ∷ c ∷ cs) ≡ [] → ⊥
-    go true g = cons-some g
-    go false g = cons-some g
-
-cells-some : (z : Position) → cells z ≡ [] → ⊥
-unfolding cells
-cells-some (Position.start e) q = cons-some q
-cells-some (Position.node-row r a c z) q = cons-some q
-cells-some (Position.part-row s r a b c z) q = cons-some q
-cells-some (Position.pair-side s r b c z) q = step-some s r (representative (pick s b c)) (cells z) q
-cells-some (Position.node-spine r a c z) q = cons-some q
-cells-some (Position.fill-spine r b c z) q = cons-some q
-cells-some (Position.join-side s r b c z) q = step-some s r (ruleNumber (pick s b c)) (cells z) q
-
+-- a node has cells in the cursor
 cells-in-some : (s : List ℕ) (k : ℕ) → 0 < k → cellsIn s k ≡ [] → ⊥
 unfolding cellsIn
 cells-in-some s zero l q = omega arith
-cells-in-some s (suc k) l q = cons-some q
-
--- the same place, above the forest or not
-same-above : {w : Expression} (x : Option Located) (m : Node) → Same w x m → m .1 ≡ [] → x ≡ none
-same-above x m Same.above q = refl
-same-above x m (Same.at {z = z} h) q = absurd (cells-some z q)
-
-same-cells : {w : Expression} (x : Option Located) (m : Node) → Same w x m → x ≡ none → m .1 ≡ []
-same-cells x m Same.above q = refl
-same-cells x m (Same.at h) q = absurd (let z : _≡_ {A = ℕ} 0 1 = cc in omega arith)
+cells-in-some s (suc k) l q = cons≢nil q
 
 -- a path that is judged
 node-judged : (g : Forest Located) (n r : ℕ) (p : Path) → (labelAt g p ≡ none → ⊥) → nodeJudged (Begun.at n r p) ≡ Begun.at n r p

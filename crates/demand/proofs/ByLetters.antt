@@ -23,7 +23,7 @@ use Rattle.forest.specs.Reference.{Path, labelAt, pathAfter}
 use Rattle.forest.specs.Walk.{cellWords, cursorWords, enoughLent, firstOther, cellsIn, usedCells, walkedRule, isClosed, headed, pathOf, Begun, stored, placeIn, placeJudged, lettersJudged, begunFrom, begun, walked, placeAt, cellsOf}
 use Rattle.forest.proofs.Cases.{by-bool, by-option}
 use Rattle.forest.proofs.Reach.{letters, letters-after}
-use Rattle.forest.proofs.Search.{path-cells, path-of-place}
+use Rattle.forest.proofs.Search.{path-cells, path-named, path-of-place}
 use Rattle.forest.proofs.WalkedRule.{closed-walked, walked-closed}
 use Rattle.forest.specs.Position.{Named}
 use Rattle.demand.specs.Calls.{Call, lent, walkOf}
@@ -37,20 +37,11 @@ use Rattle.demand.proofs.Plans.{walkable}
 -- ---- the cells
 
 module _ {n : ℕ} {g : Forest ℕ} {G : Forest Placed} (W : Walkable n g G) where
-  -- what is found is above the forest or a node
-  pub path-named : (cells : Cells) (p : Path) → pathOf G cells ≡ some p → Named G p
-  unfolding pathOf placeAt cellsOf
-  path-named [] p e = let h : [] ≡ p = cc in subst (Named G) h Named.above
-  path-named (c ∷ cs) p e =
-      by-option (labelAt G p)
-      (λ x. absurd (let h : 0 ≡ suc (length cs) = ap length (sym (ap cellsOf x) ∙ path-cells G (c ∷ cs) p e) in omega arith))
-      (λ a x. Named.node x)
-
-  -- so letters lead there
+  -- what is found is above the forest or a node, so letters lead there
   found-reached : (cells : Cells) (p : Path) → pathOf G cells ≡ some p → ¬ Unreached g G cells
   unfolding Unreached
   found-reached cells p e unreached =
-      unreached (letters p) (ap (placeAt G) (same-paths W (letters p) [] ∙ letters-after G p (path-named cells p e)) ∙ path-cells G cells p e)
+      unreached (letters p) (ap (placeAt G) (same-paths W (letters p) [] ∙ letters-after G p (path-named G cells p e)) ∙ path-cells G cells p e)
 
   -- and where nothing is found no letters lead
   none-unreached : (cells : Cells) → pathOf G cells ≡ none → Unreached g G cells

@@ -18,7 +18,7 @@ use Rattle.forest.specs.Forest.{forest}
 use Rattle.forest.specs.Place.{Cells, placedForest}
 use Rattle.forest.specs.Reference.{Path, pathAfter}
 use Rattle.forest.specs.Walk.{cellWords, cursorWords, enoughLent, lettersOf, firstOther, cellAt, cellsIn, usedCells, ruleWord, walkedRule, headed, pathOf, Begun, stored, placeIn, placeJudged, lettersJudged, begunFrom, begun, walked, placeAt, storedCursor, cursorAfter, answerWord, answersAfter, walkedWork}
-use Rattle.forest.proofs.Search.{path-cells}
+use Rattle.forest.proofs.Search.{path-cells, path-named}
 use Rattle.forest.proofs.WalkedRule.{closed-walked, walked-closed, start-by-zero, named-by-number, Holds, judged-holds}
 use Rattle.demand.specs.Calls.{Lent, Left, Call, lent, walkOf, lefts, cursorAfterCalls}
 use Rattle.demand.specs.Demand.{turnedDown, isRefused, fingerPath, fingerAnswers, walkAnswers, Above, Demand3}
@@ -26,7 +26,6 @@ use Rattle.demand.proofs.Passed.{headed-zeros, length-cellsIn}
 use Rattle.demand.proofs.Walkable.{Stands}
 use Rattle.demand.proofs.Plans.{walkable, start-closed}
 use Rattle.demand.proofs.OneCall.{Came, one-call, stands-word, refused-keeps}
-use Rattle.demand.proofs.ByLetters.{path-named}
 use Rattle.demand.proofs.Demand3.{demand3}
 
 -- ---- a place that 10 doesn't refuse
@@ -43,7 +42,7 @@ module _ (s : List ℕ) (n start : ℕ) (cursor : List ℕ) (accepted : checked 
       let there = path-cells G (cellsIn cursor k) p (H .leads) in
       let long : length (placeAt G p) ≡ k = ap length there ∙ length-cellsIn cursor k in
       record {
-        named = path-named (walkable s n start accepted r holds-closed) (cellsIn cursor k) p (H .leads);
+        named = path-named G (cellsIn cursor k) p (H .leads);
         same-length = refl;
         head = headed-zeros n cursor (H .in-order) .0 ∙ ap (λ (j : ℕ). (j, ruleWord cursor, 0, 0)) (sym long);
         cells = ap (cellsIn cursor) long ∙ sym there;

@@ -1,4 +1,4 @@
-// What walk and compare begin with: the rules of an accepted plan in the rows of work, and what is known of each.
+// What walk, compare and reason begin with: the rules of an accepted plan in the rows of work, and what is known of each.
 ghost use mathlib.Core.Path.{_≡_};
 ghost use Prim.Native.Nat.{_*_};
 ghost use lib.ListN.{take};

@@ -12,7 +12,7 @@ use Rattle.forest.specs.Algebra.{Hedge, _·_, _⟨_⟩, value}
 use Rattle.forest.specs.Forest.{Forest, append, trees, forest}
 use Rattle.forest.specs.Relabel.{relabel}
 use Rattle.forest.specs.Place.{Cells, Side, Placed, cellRow, cellSpine, rowOfNode, rowOfPart, isEmpty, representative, step, placed, placedOf, placedForest}
-use Rattle.forest.specs.Reason.{hasNone}
+use Rattle.forest.specs.Ends.{hasNone}
 use Rattle.forest.proofs.Append.{relabel-append}
 use Rattle.forest.specs.Good.{Sort, Good}
 use Rattle.forest.proofs.Values.{concat-ε, concat-⟨⟩, ⟨⟩-assoc, value-node, value-part, OneTree, tree-value}

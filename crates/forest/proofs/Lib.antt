@@ -25,7 +25,6 @@ pub mod Nodes
 pub mod Inside
 pub mod Covered
 pub mod Subtrees
-pub mod Reasons
 pub mod Search
 pub mod WalkedRule
 pub mod Listed

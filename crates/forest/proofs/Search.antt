@@ -2,9 +2,9 @@
 -- nodes have cells of their own, it finds each node by its own.
 -- Assumes nothing.
 use Prim.Native.Nat.{ℕ, zero, suc}
-use mathlib.Core.Path.{_≡_, refl, sym, ap, _∙_}
+use mathlib.Core.Path.{_≡_, refl, sym, ap, subst, _∙_}
 use mathlib.Core.Bool.{Bool, true, false, cond, true≢false, false≢true, and-eq-true-iff}
-use mathlib.Core.List.{[], _∷_}
+use mathlib.Core.List.{[], _∷_, cons≢nil}
 use mathlib.Core.Option.{Option, none, some}
 use mathlib.Core.Logic.{_⊎_, inl, inr, ⊎-elim}
 use lib.Dec.{eqb}
@@ -13,6 +13,7 @@ use Rattle.forest.specs.Forest.{Forest}
 use Rattle.forest.specs.Place.{Cell, Cells, Placed}
 use Rattle.forest.specs.Reference.{Path, later, from, below, top, childrenAt, nodeAt, labelAt}
 use Rattle.forest.specs.Walk.{sameCell, sameCells, firstOf, nodeWith, pathOf, placeAt, cellsOf}
+use Rattle.forest.proofs.Cases.{by-option}
 use Rattle.forest.proofs.Each.{Each, each-labelAt}
 use Rattle.forest.specs.Position.{Named}
 
@@ -102,6 +103,12 @@ pub path-cells : (G : Forest Placed) (cs : Cells) (p : Path) → pathOf G cs ≡
 unfolding pathOf placeAt labelAt nodeAt top cellsOf from later childrenAt
 path-cells G [] p e = let h : [] ≡ p = cc in rw (← h)
 path-cells G (c ∷ cs) p e = found-in (c ∷ cs) G G 1 [] p refl e
+
+-- what is found is above the forest or a node
+pub path-named : (G : Forest Placed) (cs : Cells) (p : Path) → pathOf G cs ≡ some p → Named G p
+unfolding pathOf placeAt cellsOf
+path-named G [] p e = let h : [] ≡ p = cc in subst (Named G) h Named.above
+path-named G (c ∷ cs) p e = by-option (labelAt G p) (λ x. absurd (cons≢nil (sym (path-cells G (c ∷ cs) p e) ∙ ap cellsOf x))) (λ a x. Named.node x)
 
 -- every node has cells, and no two nodes share theirs
 pub record Distinct (G : Forest Placed) : Type 0 where

@@ -8,7 +8,7 @@ pub mod Place
 pub mod Sides
 pub mod Letter
 pub mod Reference
-pub mod Reason
+pub mod Ends
 pub mod Outcome
 pub mod Walk
 pub mod Compare

@@ -8,11 +8,12 @@ ghost use Rattle.unseal.specs.Unseal.{unsealed, unsealedOutput};
 ghost use Rattle.forest.specs.Outcome.{measured, measuredWork, spread, spreadOutput};
 ghost use Rattle.forest.specs.Compare.{compare, comparedWork};
 ghost use Rattle.demand.specs.Calls.{walkOf, lends};
+ghost use Rattle.reasons.specs.Outcome.{reasoned, reasonedWork};
 ghost use Rattle.label_rows.specs.Class.{classed};
 ghost use Rattle.grams.specs.Grams.{weighed, weighedWork};
 ghost use Rattle.c_result.specs.Interface.{resultNumber, resultPosition, behind};
 ghost use Rattle.c_result.specs.Interface.{checkedGives, writtenGives, unsealedGives, measuredGives};
-ghost use Rattle.c_result.specs.Interface.{walkedGives, comparedGives, classedGives, weighedGives};
+ghost use Rattle.c_result.specs.Interface.{walkedGives, comparedGives, classedGives, weighedGives, reasonedGives};
 ghost use Rattle.mealplan.specs.Given.{CopyGiven};
 
 // Check.
@@ -295,4 +296,32 @@ pub extern "C" fn plan_grams(
 {
     let weighed = grams::grams(plan, rows, work);
     c_result::give_weighed(weighed, grams, position)
+}
+
+// Why a letter moves or doesn't.
+#[no_mangle]
+pub extern "C" fn plan_reason(
+    plan: &[u8],
+    work: &mut [u8],
+    cursor: &[u8],
+    letter: u8,
+    reason: &mut u32,
+    position: &mut u64,
+) -> u32
+    ensures { λ r.
+        let work′ = now (work .exit) in
+        let reason′ = now (reason .exit) in
+        let position′ = now (position .exit) in
+        let plan = now (plan .entry) in
+        let work = now (work .entry) in
+        let cursor = now (cursor .entry) in
+        let reason = now (reason .entry) in
+        let given = reasonedGives (reasoned plan work cursor letter) in
+        ⌜ (r ≡ resultNumber given)
+        × (work′ ≡ reasonedWork plan work cursor)
+        × (reason′ ≡ behind 0 given reason)
+        × (position′ ≡ resultPosition given) ⌝ }
+{
+    let answer = reason::reason(plan, work, cursor, letter);
+    c_result::give_reasoned(answer, reason, position)
 }

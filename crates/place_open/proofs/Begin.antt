@@ -13,6 +13,7 @@ use Rattle.forest.specs.Expression.{expression, ruleNumber}
 use Rattle.forest.specs.Forest.{Forest, forest}
 use Rattle.forest.specs.Relabel.{relabel}
 use Rattle.forest.specs.Place.{Cells, placedOf, placedForest}
+use Rattle.forest.specs.Letter.{Letter}
 use Rattle.forest.specs.Reference.{Path, labelAt, answers, pathAfter}
 use Rattle.forest.specs.Walk.{cellAt, cellsIn, usedCells, ruleWord, headed, pathOf, Begun, stored, placeIn, lettersOf, placeAt, storedCursor, cursorAfter, answerWord, answersBytes, answersAfter}
 use Rattle.forest.proofs.Unfold.{ruleNumber-expression}
@@ -82,14 +83,17 @@ module _ {R : List Rule} {rank : ℕ → ℕ} (S : Sound R rank) {r : ℕ} (C : 
   unfolding placedForest
   labels-forest = placedForest-forgets R r
 
+  -- the answers to letters are the walker's
+  pub answers-are : (p : Path) (x : Node) → Stood R r p x → (ls : List Letter) → answers (forest R r) ls p ≡ model.answers (factsOf R) r ls x
+  answers-are p x s ls =
+      ap (λ (g : Forest ℕ). answers g ls p) (sym labels-forest)
+      ∙ call-answers (expression R r) (good S C (factsOf R) (λ k l. facts-agree R k)) (factsOf R) (fit S C (factsOf R) (λ k l. facts-agree R k)) ls p x (s .named) (s .same)
+      ∙ ap (λ (k : ℕ). model.answers (factsOf R) k ls x) numbered
+
   pub answers-left : (n : ℕ) (p : Path) (x : Node) → Stood R r p x → (letters given : List ℕ)
       → answersAfter R (Begun.at n r p) letters given ≡ inFront (answersBytes (map answerWord (model.answers (factsOf R) r (lettersOf letters) x))) given
   unfolding answersAfter
-  answers-left n p x s letters given =
-      ap (λ (xs : List (Option ℕ)). inFront (answersBytes (map answerWord xs)) given)
-      (ap (λ (g : Forest ℕ). answers g (lettersOf letters) p) (sym labels-forest)
-      ∙ call-answers (expression R r) (good S C (factsOf R) (λ k l. facts-agree R k)) (factsOf R) (fit S C (factsOf R) (λ k l. facts-agree R k)) (lettersOf letters) p x (s .named) (s .same)
-      ∙ ap (λ (k : ℕ). model.answers (factsOf R) k (lettersOf letters) x) numbered)
+  answers-left n p x s letters given = ap (λ (xs : List (Option ℕ)). inFront (answersBytes (map answerWord xs)) given) (answers-are p x s (lettersOf letters))
 
   pub cursor-left : (n : ℕ) (p : Path) (x : Node) → Stood R r p x → (letters cursor : List ℕ)
       → cursorAfter R (Begun.at n r p) letters cursor ≡ storedCursor n (ruleWord cursor) ((model.after (factsOf R) r (lettersOf letters) x) .1) cursor

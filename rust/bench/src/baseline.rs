@@ -118,7 +118,7 @@ impl Case {
 }
 
 /// The geometric mean.
-fn mean(ratios: impl ExactSizeIterator<Item = f64>) -> f64 {
+pub fn mean(ratios: impl ExactSizeIterator<Item = f64>) -> f64 {
     let count = ratios.len() as f64;
     (ratios.map(f64::ln).sum::<f64>() / count).exp()
 }

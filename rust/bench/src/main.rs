@@ -1,14 +1,16 @@
 //! Measures the proved library against the reference by rules, in one run and on the same buffers; prints the tables and writes them to
 //! docs/bench.md, with a plot in docs/bench.svg. `bench check` only prints the times of check by the order of the rules, `bench compare` those
-//! of compare, `bench rows` those of the class of a label, `bench copy` those of copy, `bench grams` those of grams, `bench baseline` those beside
-//! the archive that `BASELINE` named when this was built. It ends in an error where a copy takes longer than five measures of the same plan, or
-//! grams longer than their bounds (grams.rs): by 256 rows of as many labels each two measures, and more of few rules or by uneven rows.
+//! of compare, `bench rows` those of the class of a label, `bench copy` those of copy, `bench grams` those of grams, `bench reason` those of the reason
+//! of a letter, `bench baseline` those beside the archive that `BASELINE` named when this was built. It ends in an error where a copy takes longer than
+//! five measures of the same plan, grams longer than their bounds (grams.rs): by 256 rows of as many labels each two measures, and more of few rules
+//! or by uneven rows, or the reason of a letter in the mean more than a tenth longer than a walk of it.
 mod archive;
 mod baseline;
 mod compares;
 mod copies;
 mod grams;
 mod plot;
+mod reasons;
 mod report;
 mod setting;
 mod timing;
@@ -52,14 +54,19 @@ fn main() -> io::Result<()> {
             "copy" => {
                 let most = copies::all(&mut report);
                 print!("{}", report.text());
-                return few_measures("a copy", most, copies::MOST_MEASURES);
+                return within("a copy", most, copies::MOST_MEASURES, "measures of the same plan");
             }
             "grams" => {
                 let held = grams::all(&mut report);
                 print!("{}", report.text());
-                return few_measures("grams", held.took, held.most);
+                return within("grams", held.took, held.most, "measures of the same plan");
             }
-            _ => return Err(io::Error::other("bench [check | compare | rows | copy | grams | baseline]")),
+            "reason" => {
+                let walks = reasons::all(&mut report);
+                print!("{}", report.text());
+                return within("a reason", walks, reasons::MOST_WALKS, "walks of one letter");
+            }
+            _ => return Err(io::Error::other("bench [check | compare | rows | copy | grams | reason | baseline]")),
         }
         print!("{}", report.text());
         return Ok(());
@@ -75,21 +82,23 @@ fn main() -> io::Result<()> {
     classes(&mut report);
     let most_of_copies = copies::all(&mut report);
     let of_grams = grams::all(&mut report);
+    let walks = reasons::all(&mut report);
     baseline::all(&mut report);
     print!("{}", report.text());
     let docs: PathBuf = [env!("CARGO_MANIFEST_DIR"), "..", "..", "docs"].iter().collect();
     fs::write(docs.join("bench.svg"), plot::by_nodes(&by_nodes))?;
     fs::write(docs.join("bench.md"), report.text())?;
-    few_measures("a copy", most_of_copies, copies::MOST_MEASURES)?;
-    few_measures("grams", of_grams.took, of_grams.most)
+    within("a copy", most_of_copies, copies::MOST_MEASURES, "measures of the same plan")?;
+    within("grams", of_grams.took, of_grams.most, "measures of the same plan")?;
+    within("a reason", walks, reasons::MOST_WALKS, "walks of one letter")
 }
 
-/// An error where something took more measures of the same plan than it may.
-fn few_measures(what: &str, took: f64, most: f64) -> io::Result<()> {
+/// An error where something took more of other calls than it may.
+fn within(what: &str, took: f64, most: f64, calls: &str) -> io::Result<()> {
     if took <= most {
         return Ok(());
     }
-    Err(io::Error::other(format!("{what} took {took:.2} measures of the same plan, more than {most}")))
+    Err(io::Error::other(format!("{what} took {took:.2} {calls}, more than {most}")))
 }
 
 /// A letter's cost on a tour: a call with its letters less one without.

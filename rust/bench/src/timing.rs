@@ -1,7 +1,7 @@
 //! The clock: two implementations in turn on the same buffers, the best of many rounds.
-use reference::Refused;
 use reference::copy::{Client, copy_bytes};
 use reference::rows::{LAST_LABEL, Row, in_order};
+use reference::{NOWHERE, Reason, Refused, answers};
 use std::collections::BTreeSet;
 use std::hint::black_box;
 use std::ops::{Div, Sub};
@@ -136,6 +136,7 @@ impl Desk {
             out: &mut call.out,
             second: &call.second,
             budget: call.budget,
+            letter: call.letter,
             rows: &call.rows,
             class: call.class,
         };
@@ -170,6 +171,22 @@ impl Desk {
             let (library, outcome) = self.round(&mut Library, operation, times);
             assert_eq!(outcome, Ok(expected), "what is known of it");
             best = best.min(Times { library, ..Times::WORST });
+        }
+        best
+    }
+
+    /// The library's time of the reason of a letter and, as the other, of a walk of that letter: the best of many rounds, by turns. One call a round, since
+    /// a walk moves.
+    pub fn time_reason(&mut self, letter: u8) -> Times {
+        self.letters(&[letter]);
+        self.call.letter = letter;
+        let mut best = Times::WORST;
+        for _ in 0..8 * self.rounds {
+            let (library, why) = self.round(&mut Library, Operation::Reason, 1);
+            let (other, _) = self.round(&mut Library, Operation::Walk, 1);
+            let moves = answers::get(&self.call.answers, 0) != NOWHERE;
+            assert_eq!(why == Ok(Values::Reason(Reason::Moves)), moves, "0 exactly where the walk doesn't say nowhere");
+            best = best.min(Times { library, other });
         }
         best
     }

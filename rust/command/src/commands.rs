@@ -14,7 +14,7 @@ struct Command {
     run: fn(&Arguments) -> Outcome,
 }
 
-const COMMANDS: [Command; 12] = [
+const COMMANDS: [Command; 13] = [
     Command {
         name: "check",
         words: "PLAN",
@@ -80,6 +80,17 @@ const COMMANDS: [Command; 12] = [
         help: "  --rule R  the forest of this rule alone; of the start if not given. A rule that isn't closed is refused with 10\n\
                Keys: a, z first, last root; f, l first, last child; n, p next, previous sibling; u parent; s stay.\n",
         run: operations::walk,
+    },
+    Command {
+        name: "why",
+        words: "[--rule R] PLAN KEYS ASKED",
+        options: Options { valued: &["--rule"], flags: &[] },
+        summary: "says why a key does nothing, or that it moves, where other keys lead to from above the forest",
+        help: "  --rule R  the forest of this rule alone; of the start if not given. A rule that isn't closed is refused with 10\n\
+               KEYS lead to the place, '' to none; ASKED are the keys asked about, each by itself. For each there is a line with the key, a\n\
+               number and words: 0 it moves, 1 above the forest and neither a nor z, 2 the forest is empty, 3 f or l without children,\n\
+               4 n on the last of its siblings, 5 p on the first, 6 u on a root.\n",
+        run: operations::why,
     },
     Command {
         name: "compare",
@@ -208,6 +219,8 @@ mod tests {
             "check --deep a",
             "show --depth x a",
             "walk --rule x a a",
+            "why a a",
+            "why --rule x a a a",
             "walk --rule 65536 a a",
             "measure --rule 3 a",
             "help mend",

@@ -126,6 +126,21 @@ pub fn walk(arguments: &Arguments) -> Outcome {
     files::print(text.as_bytes())
 }
 
+pub fn why(arguments: &Arguments) -> Outcome {
+    let [name, keys, asked] = arguments.words()?;
+    let rule = arguments.given("--rule")?;
+    let bytes = files::read(name)?;
+    let mut walker = walker_of(checked(name, &bytes)?, rule)?;
+    press(&mut walker, keys)?;
+    let mut text = String::new();
+    for key in asked.bytes() {
+        let key_told = key.escape_ascii();
+        let reason = walker.why(key).map_err(Trouble::refused(&format!("key {key_told}")))?;
+        let _ = writeln!(text, "{key_told} {} {reason}", reason.number());
+    }
+    files::print(text.as_bytes())
+}
+
 pub fn compare(arguments: &Arguments) -> Outcome {
     let [name, first, second] = arguments.words()?;
     let budget = arguments.number("--budget", BUDGET)?;

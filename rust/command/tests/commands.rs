@@ -183,6 +183,41 @@ fn walk() {
 }
 
 #[test]
+fn why() {
+    let plan = sample("plan.bin");
+    let moves = |key| format!("{key} 0 this key moves\n");
+    let above = |key| format!("{key} 1 above the forest only a and z lead in\n");
+    let none = "this has no children: nothing is below it\n";
+    let (first, last) = (
+        "this is the first of its siblings: nothing comes before it\n",
+        "this is the last of its siblings: nothing comes next\n",
+    );
+    let root = "u 6 this is a root: nothing is above it\n";
+    assert_eq!(
+        prints(&["why", &plan, "", "azflnpus"]),
+        ['a', 'z'].map(moves).concat() + &['f', 'l', 'n', 'p', 'u', 's'].map(above).concat()
+    );
+    assert_eq!(
+        prints(&["why", &plan, "a", "azpus"]),
+        ['a', 'z'].map(moves).concat() + &format!("p 5 {first}{root}") + &moves('s')
+    );
+    assert_eq!(prints(&["why", &plan, "al", "flnu"]), format!("f 3 {none}l 3 {none}n 4 {last}") + &moves('u'));
+    assert_eq!(prints(&["why", &plan, "zn", "n"]), format!("n 4 {last}"), "a key that leads nowhere keeps the place");
+    assert_eq!(prints(&["why", &plan, "a", ""]), "");
+    let empty = |key| format!("{key} 2 the forest is empty: no key leads anywhere\n");
+    assert_eq!(prints(&["why", "--rule", "0", &plan, "", "as"]), ['a', 's'].map(empty).concat());
+    assert_eq!(
+        prints(&["why", "--rule", "6", &sample("wide.bin"), "a", "npu"]),
+        format!("n 4 {last}p 5 {first}{root}")
+    );
+    assert!(says(&["why", "--rule", "4", &plan, "", "a"], 1).starts_with("mealplan: rule 4: refused 10 at 0: "));
+    assert!(says(&["why", &plan, "ax", "n"], 1).starts_with("mealplan: keys ax: refused 9 at 1: "));
+    assert!(says(&["why", &plan, "a", "nx"], 1).starts_with("mealplan: key x: refused 9 at 0: "));
+    assert!(says(&["why", &plan, "a", "é"], 1).starts_with("mealplan: key \\xc3: refused 9 at 0: "));
+    assert!(says(&["why", &plan, "a"], 2).contains("usage: mealplan why [--rule R] PLAN KEYS ASKED"));
+}
+
+#[test]
 fn compare() {
     let plan = sample("plan.bin");
     assert_eq!(prints(&["compare", &plan, "a", "a"]), "same 9\n");
@@ -304,7 +339,10 @@ fn every_command_has_help() {
         .collect();
     assert_eq!(
         names,
-        ["check", "measure", "spread", "rules", "seal", "show", "walk", "compare", "classes", "copy", "grams", "read"]
+        [
+            "check", "measure", "spread", "rules", "seal", "show", "walk", "why", "compare", "classes", "copy",
+            "grams", "read"
+        ]
     );
     for name in names {
         assert!(prints(&[name, "--help"]).starts_with(&format!("usage: mealplan {name} ")));

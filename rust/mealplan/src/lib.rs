@@ -1,9 +1,9 @@
 //! The meal plan walker for Rust, over the proved C interface (include/mealplan.h).
 //!
 //! A plan's bytes are checked once, as a [`Plan`]. A [`Walker`] stands above its forest or at a node of it and moves by methods; a [`Place`] is where
-//! it stands, to be kept and gone back to. One of [`Plan::walker_of`] walks the forest of one rule alone. [`Plan::measure`] counts, [`Plan::spread`]
-//! writes out; by a list of [`Classes`], [`Plan::copy`] makes a client's copy and [`Plan::grams`] weighs. What is turned down is [`Refused`], with its
-//! number, its position and a sentence.
+//! it stands, to be kept and gone back to. [`Walker::why`] tells why a letter moves or doesn't there. One of [`Plan::walker_of`] walks the forest of one
+//! rule alone. [`Plan::measure`] counts, [`Plan::spread`] writes out; by a list of [`Classes`], [`Plan::copy`] makes a client's copy and [`Plan::grams`]
+//! weighs. What is turned down is [`Refused`], with its number, its position and a sentence.
 //!
 //! ```
 //! use mealplan::{Format, Plan, Rule, seal_rules};
@@ -33,9 +33,9 @@
 //! ```
 //!
 //! Below that are the functions of the C interface, on slices that the caller lends: [`check`], [`seal`], [`unseal`], [`measure`], [`spread`],
-//! [`walk`], [`compare`], [`class`], [`copy`] and [`grams`]. Each answers `Ok` with the values that documents 01 and 02 give, or `Err` with the
-//! refusal. Slices of 16-bit words are bytes, two to a word, low first; an odd last byte isn't counted. Answers are 32-bit words, four bytes to each
-//! ([`labels`] reads them). How long each slice must be is told by [`work_bytes`], [`cursor_bytes`], [`answers_bytes`], [`plan_bytes`],
+//! [`walk`], [`compare`], [`class`], [`copy`], [`grams`] and [`reason`]. Each answers `Ok` with the values that documents 01 and 02 give, or `Err` with
+//! the refusal. Slices of 16-bit words are bytes, two to a word, low first; an odd last byte isn't counted. Answers are 32-bit words, four bytes to
+//! each ([`labels`] reads them). How long each slice must be is told by [`work_bytes`], [`cursor_bytes`], [`answers_bytes`], [`plan_bytes`],
 //! [`words_bytes`], [`text_bytes`] and [`copy_bytes`]. A cursor of zeros stands above the start rule's forest; [`stand_above`] puts one above that of
 //! any closed rule.
 //!
@@ -72,6 +72,7 @@ mod limits;
 #[cfg(feature = "alloc")]
 mod place;
 mod plan;
+mod reason;
 mod refused;
 mod rule;
 mod values;
@@ -79,7 +80,7 @@ mod values;
 mod walker;
 
 pub use answers::{DIVIDER, Label, NOWHERE, labels};
-pub use c::calls::{check, class, compare, copy, grams, measure, seal, spread, unseal, walk};
+pub use c::calls::{check, class, compare, copy, grams, measure, reason, seal, spread, unseal, walk};
 pub use classes::{Classes, LabelRow};
 pub use cursor::{rule_word, stand_above};
 pub use format::Format;
@@ -87,6 +88,7 @@ pub use limits::*;
 #[cfg(feature = "alloc")]
 pub use place::Place;
 pub use plan::Plan;
+pub use reason::Reason;
 pub use refused::{Refusal, Refused};
 pub use rule::Rule;
 #[cfg(feature = "alloc")]

@@ -26,7 +26,7 @@ pub const MOST_COPIED: usize = 4_096;
 pub const TRAILER: usize = 10;
 
 /// Bytes of work that [`measure`](crate::measure), [`spread`](crate::spread), [`walk`](crate::walk), [`compare`](crate::compare),
-/// [`copy`](crate::copy) and [`grams`](crate::grams) need for a plan of so many rules.
+/// [`copy`](crate::copy), [`grams`](crate::grams) and [`reason`](crate::reason) need for a plan of so many rules.
 pub const fn work_bytes(rules: usize) -> usize {
     if rules > FEW_RULES { 80 * rules } else { 64 * rules }
 }

@@ -1,7 +1,8 @@
 //! A walker that owns its buffers.
 use crate::cursor::{self, rule_word, stand_above};
 use crate::{
-    Compared, Label, Place, Plan, Refusal, Refused, answers_bytes, compare, cursor_bytes, labels, walk, work_bytes,
+    Compared, Label, Place, Plan, Reason, Refusal, Refused, answers_bytes, compare, cursor_bytes, labels, reason, walk,
+    work_bytes,
 };
 use alloc::{vec, vec::Vec};
 use core::fmt;
@@ -131,6 +132,26 @@ impl<'a> Walker<'a> {
         let answers: Vec<Option<Label>> = labels(&answers).collect();
         self.label = answers.iter().rev().find_map(|label| *label).or(self.label);
         Ok(answers)
+    }
+
+    /// Why a letter, one of a z f l n p u s, moves or doesn't from here, in the forest of the rule that is walked. Nothing moves. Refused with 9 at 0 for a
+    /// byte that is no letter.
+    ///
+    /// ```
+    /// use mealplan::Reason;
+    /// # let bytes = std::fs::read(concat!(env!("CARGO_MANIFEST_DIR"), "/../../samples/plan.bin")).unwrap();
+    /// let mut walker = mealplan::Plan::new(&bytes)?.walker();
+    /// assert_eq!(walker.why(b'f')?, Reason::Above);
+    /// walker.first_root();
+    /// assert_eq!((walker.why(b'f')?, walker.why(b'u')?), (Reason::Moves, Reason::Root));
+    /// assert_eq!(walker.parent(), None);
+    /// assert_eq!(walker.why(b'u')?.to_string(), "this is a root: nothing is above it");
+    /// assert_eq!(walker.why(b'x').unwrap_err().number, 9);
+    /// assert_eq!(walker.plan().walker_of(0)?.why(b'a')?, Reason::NoTrees);
+    /// # Ok::<(), mealplan::Refused>(())
+    /// ```
+    pub fn why(&mut self, letter: u8) -> Result<Reason, Refused> {
+        reason(self.plan.bytes(), &mut self.work, &self.cursor, letter)
     }
 
     /// The place, to be kept, with the rule that is walked.

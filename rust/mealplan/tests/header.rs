@@ -57,3 +57,15 @@ fn refusals_are_the_headers() {
         header.split("enum mealplan_refusal {").nth(1).and_then(|text| text.split("};").next()).expect("the refusals");
     assert_eq!(listed.matches("MEALPLAN_").count(), Refusal::ALL.len() + 1);
 }
+
+#[test]
+fn reasons_are_the_headers() {
+    let header = header();
+    for reason in Reason::ALL {
+        let name = in_capitals(&format!("{reason:?}"));
+        assert_eq!(number(&header, &name), reason.number().into(), "{name}");
+    }
+    let listed =
+        header.split("enum mealplan_reason {").nth(1).and_then(|text| text.split("};").next()).expect("the reasons");
+    assert_eq!(listed.matches("MEALPLAN_").count(), Reason::ALL.len());
+}

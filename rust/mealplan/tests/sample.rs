@@ -223,6 +223,46 @@ fn one_rule_alone() {
 }
 
 #[test]
+fn reasons_on_the_samples() {
+    use Reason::{Above, FirstSibling, LastSibling, Moves, NoChildren, NoTrees, Root};
+    for (bytes, ..) in samples() {
+        let plan = Plan::new(&bytes).expect("the sample");
+        // The reasons of a z f l n p u s behind these keys, in the forest of the start or of a rule.
+        for (rule, keys, expected) in [
+            (None, "", [Moves, Moves, Above, Above, Above, Above, Above, Above]),
+            (None, "a", [Moves, Moves, Moves, Moves, Moves, FirstSibling, Root, Moves]),
+            (None, "z", [Moves, Moves, NoChildren, NoChildren, LastSibling, Moves, Root, Moves]),
+            (None, "afnn", [Moves; 8]),
+            (None, "al", [Moves, Moves, NoChildren, NoChildren, LastSibling, Moves, Moves, Moves]),
+            (Some(6), "a", [Moves, Moves, Moves, Moves, LastSibling, FirstSibling, Root, Moves]),
+            (Some(0), "", [NoTrees; 8]),
+        ] {
+            let mut walker = rule.map_or(plan.walker(), |rule| plan.walker_of(rule).expect("a closed rule"));
+            walker.walk(keys.as_bytes()).expect("letters");
+            let (place, label) = (walker.place(), walker.label());
+            assert_eq!(b"azflnpus".map(|letter| walker.why(letter)), expected.map(Ok), "{keys}");
+            assert_eq!((walker.place(), walker.label()), (place, label), "nothing moves");
+            for (letter, reason) in b"azflnpus".iter().zip(expected) {
+                let moved = walker.clone().walk(&[*letter]).expect("a letter");
+                assert_eq!(moved[0].is_some(), reason.moves(), "0 exactly where a walk doesn't say nowhere");
+            }
+        }
+        // Refused as a walk of that letter is: check, 8, 9 at 0, 10.
+        let (mut work, above) = (vec![7; work_bytes(8)], vec![0; cursor_bytes(8)]);
+        assert_eq!(reason(&bytes[1..], &mut [], &[], b'x'), Err(Refusal::Distance.at(0)));
+        assert_eq!(reason(&bytes, &mut work[1..], &above, b'x'), Err(Refusal::Lent.at(0)));
+        assert_eq!(reason(&bytes, &mut work, &above[1..], b'x'), Err(Refusal::Lent.at(0)));
+        assert!(work.iter().all(|byte| *byte == 7));
+        let mut no_place = above.clone();
+        no_place[0] = 1;
+        assert_eq!(reason(&bytes, &mut work, &no_place, b'x'), Err(Refusal::Letter.at(0)));
+        assert!(work.iter().all(|byte| *byte == 0), "past 8 work is zeros");
+        assert_eq!(reason(&bytes, &mut work, &no_place, b'n'), Err(Refusal::Place.at(0)));
+        assert_eq!(reason(&bytes, &mut work, &above, b'n'), Ok(Above));
+    }
+}
+
+#[test]
 fn texts_and_copies_of_the_samples() {
     let rows = [LabelRow::new(0, 97, 0), LabelRow::new(98, 98, 2), LabelRow::new(99, LAST_LABEL, 1)];
     let classes = Classes::try_from(&rows[..]).expect("a sound list");

@@ -1,4 +1,4 @@
-//! The part of the crate that calls no C function: lengths, formats, rules, answers, places and the words of refusals. Miri can run it.
+//! The part of the crate that calls no C function: lengths, formats, rules, answers, places and the words of refusals and reasons. Miri can run it.
 use mealplan::*;
 
 #[test]
@@ -65,4 +65,16 @@ fn answers_and_words() {
     assert!(labels(&[1, 2, 3, 0, 255, 255, 255, 255, 1, 2, 3]).eq([Some(197_121), None]));
     assert_eq!(Refusal::from_number(0), None);
     assert!(Refusal::ALL.iter().all(|refusal| refusal.at(3).to_string().contains(" at 3: ")));
+}
+
+#[test]
+fn reasons_in_words() {
+    for (number, reason) in (0..).zip(Reason::ALL) {
+        assert_eq!((reason.number(), Reason::from_number(number)), (number, Some(reason)));
+        assert_eq!(reason.moves(), number == 0);
+        let text = reason.to_string();
+        assert!(Reason::ALL.iter().all(|other| *other == reason || other.to_string() != text), "{text}");
+        assert_eq!(format!("{reason:70}|"), format!("{text:70}|"));
+    }
+    assert_eq!((Reason::from_number(7), Reason::from_number(u32::MAX)), (None, None));
 }

@@ -1,4 +1,4 @@
-//! The eight operations on meal plans, written from documents 01 and 02 and Reh and Sieber's paper alone, so that the proved library has
+//! The nine operations on meal plans, written from documents 01 and 02 and Reh and Sieber's paper alone, so that the proved library has
 //! something to be compared with. It is written twice over the same format ([`plan`]):
 //!
 //! - [`unfolded`] unfolds the forest into memory, gives every node its place and walks with a finger, word for word as document 01
@@ -17,6 +17,7 @@ pub mod format;
 pub mod place;
 pub mod plan;
 mod reach;
+pub mod reason;
 pub mod refusal;
 pub mod rows;
 pub mod rules;
@@ -26,6 +27,7 @@ pub mod words;
 pub use answers::NOWHERE;
 pub use compare::Compared;
 pub use format::Format;
+pub use reason::Reason;
 pub use refusal::{Refused, Why};
 
 /// The number of rules of an accepted plan, and its start rule.

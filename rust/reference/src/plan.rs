@@ -11,7 +11,7 @@ pub const FEW_RULES: usize = 1_024;
 pub const WORDS: usize = 5;
 /// Bytes of the trailer: n, start, distance, mark.
 pub const TRAILER: usize = 10;
-/// Words of work that measure, spread, walk, compare, copy and grams need for each of n rules.
+/// Words of work that measure, spread, walk, compare, copy, grams and reason need for each of n rules.
 pub const fn work_words(n: usize) -> usize {
     if n <= FEW_RULES { 32 } else { 40 }
 }

@@ -4,7 +4,7 @@ use mealplan::LabelRow;
 use reference::copy::{Client, copy_bytes};
 use reference::rows::{LAST_LABEL, Row};
 use reference::unfolded::{Unfolded, forest::Forest};
-use reference::{Checked, Compared, Format, Measured, Refused, Unsealed, answers, rules, words};
+use reference::{Checked, Compared, Format, Measured, Reason, Refused, Unsealed, answers, rules, words};
 use reference::{plan, plan::cursor_bytes, plan::work_bytes};
 
 #[derive(Clone, Copy, PartialEq, Eq, PartialOrd, Ord, Debug)]
@@ -18,10 +18,11 @@ pub enum Operation {
     Compare,
     Copy,
     Grams,
+    Reason,
 }
 
 impl Operation {
-    pub const ALL: [Operation; 9] = [
+    pub const ALL: [Operation; 10] = [
         Operation::Check,
         Operation::Seal,
         Operation::Unseal,
@@ -31,11 +32,19 @@ impl Operation {
         Operation::Compare,
         Operation::Copy,
         Operation::Grams,
+        Operation::Reason,
     ];
 
     /// Those that are lent work.
-    pub const WORKING: [Operation; 6] =
-        [Operation::Measure, Operation::Spread, Operation::Walk, Operation::Compare, Operation::Copy, Operation::Grams];
+    pub const WORKING: [Operation; 7] = [
+        Operation::Measure,
+        Operation::Spread,
+        Operation::Walk,
+        Operation::Compare,
+        Operation::Copy,
+        Operation::Grams,
+        Operation::Reason,
+    ];
 
     pub fn works(self) -> bool {
         Operation::WORKING.contains(&self)
@@ -43,7 +52,7 @@ impl Operation {
 
     /// Whether the operation is lent a cursor; compare is lent two.
     pub fn has_place(self) -> bool {
-        matches!(self, Operation::Walk | Operation::Compare)
+        matches!(self, Operation::Walk | Operation::Compare | Operation::Reason)
     }
 
     /// Whether the operation is lent a list of rows.
@@ -62,7 +71,7 @@ pub struct Call {
     pub record_length: u16,
     pub start: u16,
     pub work: Vec<u8>,
-    /// Walk's cursor, or compare's first.
+    /// The cursor of walk and of reason, or compare's first.
     pub cursor: Vec<u8>,
     pub letters: Vec<u8>,
     pub answers: Vec<u8>,
@@ -70,6 +79,8 @@ pub struct Call {
     /// Compare's second cursor, and its budget.
     pub second: Vec<u8>,
     pub budget: u32,
+    /// Reason's letter, which may be none.
+    pub letter: u8,
     /// The list of rows of copy and of grams, and the class of copy's client.
     pub rows: Vec<LabelRow>,
     pub class: u16,
@@ -80,7 +91,7 @@ pub const EACH: Row = Row { lowest: 0, highest: LAST_LABEL, class: 0, grams: 1 }
 
 impl Call {
     /// A call on a plan of n rules with as much work, cursor and answers as it needs; a copy with the output that it needs, for a client who sees
-    /// all; grams by one gram for each node.
+    /// all; grams by one gram for each node; the reason of s.
     pub fn new(operation: Operation, plan: Vec<u8>, n: usize) -> Call {
         let mut call = Call {
             operation,
@@ -94,6 +105,7 @@ impl Call {
             out: Vec::new(),
             second: Vec::new(),
             budget: 0,
+            letter: b's',
             rows: Vec::new(),
             class: 0,
         };
@@ -148,6 +160,18 @@ impl Call {
         Call { cursor, second, budget, ..Call::new(Operation::Compare, draft.plan(), draft.n()) }
     }
 
+    /// The reason of a letter where a walk begins, with all that the walk is lent and reason is.
+    pub fn reason(walk: &Call, letter: u8) -> Call {
+        let (plan, work, cursor) = (walk.plan.clone(), walk.work.clone(), walk.cursor.clone());
+        Call { work, cursor, letter, ..Call::new(Operation::Reason, plan, 0) }
+    }
+
+    /// The walk of reason's letter from the same place, with room for its answer.
+    pub fn walk_of(reason: &Call) -> Call {
+        let (plan, work, cursor) = (reason.plan.clone(), reason.work.clone(), reason.cursor.clone());
+        Call { work, cursor, ..Call::new(Operation::Walk, plan, 0) }.with_letters(&[reason.letter])
+    }
+
     /// The seal of a draft's rules, without output.
     pub fn seal(draft: &Draft) -> Call {
         let call = Call::new(Operation::Seal, draft.words(), draft.n());
@@ -189,6 +213,7 @@ pub struct Slices<'a> {
     pub out: &'a mut [u8],
     pub second: &'a [u8],
     pub budget: u32,
+    pub letter: u8,
     pub rows: &'a [LabelRow],
     pub class: u16,
 }
@@ -203,6 +228,7 @@ pub enum Values {
     Walked,
     Compared(Compared),
     Grams(u64),
+    Reason(Reason),
 }
 
 pub type Outcome = Result<Values, Refused>;
@@ -238,6 +264,7 @@ impl Implementation for ByRules {
             }
             Operation::Copy => return None,
             Operation::Grams => rules::grams(lent.plan, &taken(lent.rows), lent.work).map(Values::Grams),
+            Operation::Reason => rules::reason(lent.plan, lent.work, lent.cursor, lent.letter).map(Values::Reason),
         })
     }
 }
@@ -285,6 +312,7 @@ impl Implementation for OnForest {
                 unfolded.compare(lent.work, lent.cursor, lent.second, lent.budget)?.map(Values::Compared)
             }
             Operation::Grams => unfolded.grams(&taken(lent.rows), lent.work).map(Values::Grams),
+            Operation::Reason => unfolded.reason(lent.work, lent.cursor, lent.letter)?.map(Values::Reason),
             _ => unfolded.walk(lent.work, lent.cursor, lent.letters, lent.answers)?.map(|()| Values::Walked),
         })
     }

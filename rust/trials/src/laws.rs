@@ -1,7 +1,7 @@
 //! What documents 01 and 02 say of the lent slices, asked of every call whatever the implementations agree on.
 use crate::call::{Call, Operation, Outcome, Values};
 use reference::plan::{TRAILER, cursor_bytes, work_bytes};
-use reference::{Compared, Format, Why, answers, words};
+use reference::{Compared, Format, Reason, Why, answers, words};
 
 /// Asks the laws of a call and of the slices after it.
 pub fn ask(before: &Call, outcome: &Outcome, after: &Call) {
@@ -35,6 +35,7 @@ pub fn ask(before: &Call, outcome: &Outcome, after: &Call) {
     match before.operation {
         Operation::Walk => ask_walk(before, outcome, after, n),
         Operation::Compare => ask_compare(before, outcome, n),
+        Operation::Reason => ask_reason(before, outcome, n),
         _ => ask_front(&before.out, outcome, &after.out),
     }
 }
@@ -93,6 +94,25 @@ fn ask_compare(call: &Call, outcome: &Outcome, n: usize) {
     let one_place = call.cursor[..8 * (cells(&call.cursor) + 1)] == call.second[..8 * (cells(&call.second) + 1)];
     assert!(!one_place || !matches!(compared, Compared::Differ(_)), "a place doesn't differ from itself");
     assert!([&call.cursor, &call.second].iter().all(|cursor| (1..=3 * n).contains(&cells(cursor))), "both are nodes");
+}
+
+/// Each reason is of its letters, and of a node or of above the forest; at a node a, z and s move.
+fn ask_reason(call: &Call, outcome: &Outcome, n: usize) {
+    let Ok(Values::Reason(reason)) = *outcome else { return };
+    let k = cells(&call.cursor);
+    assert!(k <= 3 * n, "k is at most 3 × n");
+    let (letters, above): (&[u8], Option<bool>) = match reason {
+        Reason::Moves if k == 0 => (b"az", None),
+        Reason::Moves => (b"azflnpus", None),
+        Reason::Above => (b"flnpus", Some(true)),
+        Reason::NoTrees => (b"azflnpus", Some(true)),
+        Reason::NoChildren => (b"fl", Some(false)),
+        Reason::LastSibling => (b"n", Some(false)),
+        Reason::FirstSibling => (b"p", Some(false)),
+        Reason::Root => (b"u", Some(false)),
+    };
+    assert!(letters.contains(&call.letter), "{reason:?} is no reason of {}", char::from(call.letter));
+    assert!(above.is_none_or(|above| above == (k == 0)), "{reason:?} at a place of {k} cells");
 }
 
 fn cells(cursor: &[u8]) -> usize {

@@ -33,6 +33,7 @@ pub fn try_all(trial: &mut Trial, effort: usize) {
     rounds::formats::agree(trial, 10 * effort);
     rounds::compares::agree(trial, 12 * effort);
     rounds::days::agree(trial, 12 * effort);
+    rounds::reasons::agree(trial, 12 * effort);
     rounds::wards::agree(trial, effort.div_ceil(5));
     rounds::rows::agree(trial, 2 * effort);
     rounds::copies::refuse(trial, effort);

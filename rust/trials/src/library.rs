@@ -1,7 +1,7 @@
 //! The proved library as an implementation: by the safe functions, and by the C functions themselves.
 use crate::call::{Implementation, Operation, Outcome, Slices, Values};
 use mealplan::c;
-use reference::{Checked, Compared, Measured, Refused, Unsealed};
+use reference::{Checked, Compared, Measured, Reason, Refused, Unsealed};
 
 /// The library by the safe functions of crate `mealplan`.
 pub struct Library;
@@ -25,6 +25,11 @@ fn compared(compared: mealplan::Compared) -> Values {
         mealplan::Compared::Differ(count) => Compared::Differ(count),
         mealplan::Compared::Spent(count) => Compared::Spent(count),
     })
+}
+
+/// The reason of a number that the library gives.
+fn reason(number: u32) -> Values {
+    Values::Reason(Reason::of_number(number).unwrap_or_else(|| panic!("{number} is no reason")))
 }
 
 impl Implementation for Library {
@@ -51,6 +56,10 @@ impl Implementation for Library {
                 copied.map(|length| Values::Length(length as u64))
             }
             Operation::Grams => mealplan::grams(lent.plan, lent.rows, lent.work).map(Values::Grams),
+            Operation::Reason => {
+                let came = mealplan::reason(lent.plan, lent.work, lent.cursor, lent.letter);
+                came.map(|came| reason(came.number()))
+            }
         };
         Some(answer.map_err(|refused| Refused { number: refused.number, position: refused.position }))
     }
@@ -70,8 +79,21 @@ impl Implementation for Interface {
     }
 
     fn run(&mut self, operation: Operation, lent: Slices) -> Option<Outcome> {
-        let Slices { plan, record_length, start, work, cursor, letters, answers, out, second, budget, rows, class } =
-            lent;
+        let Slices {
+            plan,
+            record_length,
+            start,
+            work,
+            cursor,
+            letters,
+            answers,
+            out,
+            second,
+            budget,
+            letter,
+            rows,
+            class,
+        } = lent;
         let mut small = [SMALL; 3];
         let mut middle = [MIDDLE; 2];
         let mut large = [LARGE; 3];
@@ -135,6 +157,17 @@ impl Implementation for Interface {
                 Operation::Grams => {
                     c::plan_grams(plan, plan_len, rows.as_ptr(), rows.len(), room, room_len, trees, &mut position)
                 }
+                Operation::Reason => c::plan_reason(
+                    plan,
+                    plan_len,
+                    room,
+                    room_len,
+                    cursor.as_ptr(),
+                    cursor.len(),
+                    letter,
+                    verdict,
+                    &mut position,
+                ),
             }
         };
         if number != 0 {
@@ -158,6 +191,7 @@ impl Implementation for Interface {
                 [verdict, _] => panic!("{verdict} is no verdict"),
             }),
             Operation::Grams => Values::Grams(trees),
+            Operation::Reason => reason(middle[0]),
         }))
     }
 }

@@ -2,7 +2,7 @@
 use crate::call::{Call, Operation, Outcome, Values};
 use crate::laws;
 use reference::plan::FEW_RULES;
-use reference::{Compared, NOWHERE, Why, answers, words};
+use reference::{Compared, NOWHERE, Reason, Why, answers, words};
 use std::collections::BTreeMap;
 use std::fmt;
 
@@ -47,6 +47,9 @@ pub const LEAST_DIVIDED: [u64; 2] = [300, 50];
 pub const LEAST_DAYS: [u64; 4] = [200; 4];
 pub const LEAST_LETTERS_OF_DAYS: u64 = 50_000;
 pub const LEAST_WORDS_COMPARED: u64 = 1_000;
+/// How often each reason must have come, and how many of them beside a walk of the letter.
+pub const LEAST_EACH_REASON: u64 = 2_000;
+pub const LEAST_BESIDE_WALKS: u64 = 100_000;
 /// The last refusal.
 const LAST: u32 = Why::TooMany as u32;
 
@@ -97,6 +100,9 @@ pub struct Tally {
     pub days: [u64; 4],
     pub letters_of_days: u64,
     pub words_compared: u64,
+    /// How often each reason came, by its number; and how often reason was asked beside a walk of the letter, those that were refused too.
+    reasons: [u64; Reason::ALL.len()],
+    pub beside_walks: u64,
     /// How often a refusal came up: by its number, the way to it, and the operation's name.
     ways: BTreeMap<(u32, String, String), u64>,
 }
@@ -121,6 +127,9 @@ impl Tally {
         }
         if let Ok(Values::Grams(grams)) = outcome {
             self.weighed += u64::from(*grams > 0);
+        }
+        if let Ok(Values::Reason(reason)) = outcome {
+            self.reasons[*reason as usize] += 1;
         }
     }
 
@@ -226,6 +235,9 @@ impl Tally {
             let Tally { days, letters_of_days, words_compared, .. } = self;
             missing.push(format!("rules by number {days:?}, {letters_of_days} letters, {words_compared} compared"));
         }
+        if self.reasons.iter().any(|count| *count < LEAST_EACH_REASON) || self.beside_walks < LEAST_BESIDE_WALKS {
+            missing.push(format!("reasons {:?}, {} beside a walk", self.reasons, self.beside_walks));
+        }
         if 3 * self.moves < self.letters {
             missing.push(format!("{} moves of {} letters", self.moves, self.letters));
         }
@@ -299,6 +311,7 @@ impl fmt::Display for Tally {
              letters on both; {} comparisons of places of two words",
             self.letters_of_days, self.words_compared
         )?;
+        writeln!(f, "reasons: by number {:?}; {} asked beside a walk of the letter", self.reasons, self.beside_walks)?;
         for number in 1..=LAST {
             let of_number = self.ways.iter().filter(|(key, _)| key.0 == number);
             let counts: Vec<u64> = of_number.map(|(_, count)| *count).collect();

@@ -168,6 +168,7 @@ impl Rooms {
             out: self.out.lend(),
             second: self.second.lend(),
             budget: call.budget,
+            letter: call.letter,
             rows: &self.rows,
             class: call.class,
         };
@@ -194,9 +195,8 @@ impl Rooms {
     /// The slices as the last call left them.
     fn taken_back(&self, call: &Call) -> Call {
         let [plan, work, cursor, letters, answers, out, second] = self.named().map(|(_, room)| room.content().to_vec());
-        let Call { operation, record_length, start, budget, class, .. } = *call;
         let rows = self.rows.clone();
-        Call { operation, record_length, start, plan, work, cursor, letters, answers, out, second, budget, rows, class }
+        Call { plan, work, cursor, letters, answers, out, second, rows, ..*call }
     }
 
     /// What the last call left is what an implementation left before, byte by byte.
@@ -240,6 +240,7 @@ impl Drop for Told<'_> {
             out,
             second,
             budget,
+            letter,
             rows,
             class,
         } = self.call;
@@ -247,7 +248,8 @@ impl Drop for Told<'_> {
         eprintln!("  plan ({} bytes) {}", plan.len(), hex(plan, 600));
         eprintln!("  cursor ({} bytes) {}", cursor.len(), hex(cursor, 200));
         eprintln!("  second cursor ({} bytes) {}, budget {budget}", second.len(), hex(second, 200));
-        eprintln!("  letters ({}) {}", letters.len(), String::from_utf8_lossy(&letters[..letters.len().min(200)]));
+        let some = String::from_utf8_lossy(&letters[..letters.len().min(200)]);
+        eprintln!("  letters ({}) {some}; reason's is {}", letters.len(), letter.escape_ascii());
         eprintln!("  bytes of work {}, answers {}, output {}", work.len(), answers.len(), out.len());
         if operation.has_list() {
             let row = |row: &LabelRow| [row.lowest, row.highest, row.class.into(), row.grams.into()];

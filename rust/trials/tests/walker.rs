@@ -82,6 +82,15 @@ fn methods_answer_as_the_reference_does() {
         assert_eq!(made(rule).and_then(|mut walker| walker.walk(&letters)), Ok(expected));
         moves += answers.iter().flatten().count();
 
+        // From there every letter has a reason, as the reference has it, and moves if that is 0.
+        for letter in LETTERS {
+            let why = walker.why(*letter).expect("a letter");
+            let expected = reference::rules::reason(&bytes, &mut work, &cursor, *letter).expect("a place");
+            assert_eq!(why.number(), expected as u32);
+            assert_eq!(walker.clone().walk(&[*letter]).map(|answers| answers[0].is_some()), Ok(why.moves()));
+        }
+        assert_eq!(walker.place(), Place::from_bytes(&cursor), "nothing has moved");
+
         // Every place that was kept is gone back to, and is the same as itself.
         for (place, label) in kept {
             assert_eq!(walker.go_to(&place), Ok(label));

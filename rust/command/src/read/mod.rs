@@ -20,7 +20,8 @@ use terminal::Event;
 pub const HELP: &str = "  --rule R  the forest of this rule alone; of the start if not given\n\
      Keys: a, z or Home, End first, last root; f or right first child; l last child; n, p or down, up next, previous\n\
      sibling; u or left parent; s stay; m remembers the place, g goes back there, = compares with it; q ends.\n\
-     It shows the path (the place among the siblings at each level, from 1), the label and how many cells the place has.\n";
+     It shows the path (the place among the siblings at each level, from 1), the label and how many cells the place has. A key\n\
+     that leads nowhere says why.\n";
 
 /// Reads a plan until q or the end of the input.
 pub fn run(arguments: &Arguments) -> Outcome {

@@ -27,14 +27,17 @@ pub struct Around {
 }
 
 impl<'a> Reader<'a> {
-    pub fn new(name: &str, walker: Walker<'a>) -> Reader<'a> {
+    pub fn new(name: &str, mut walker: Walker<'a>) -> Reader<'a> {
         Reader {
             name: name.to_owned(),
             size: measured(&walker).ok(),
+            message: match walker.why(b'a') {
+                Ok(reason) if !reason.moves() => reason.to_string(),
+                _ => "above the forest: a or z leads in".into(),
+            },
             walker,
             path: Path::default(),
             remembered: None,
-            message: "above the forest: a or z leads in".into(),
         }
     }
 
@@ -72,15 +75,17 @@ impl<'a> Reader<'a> {
         self.message = message.to_owned();
     }
 
-    /// Walks by a letter.
+    /// Walks by a letter, or says why it leads nowhere.
     pub fn go(&mut self, letter: u8) {
         let answers = self.walker.walk(&[letter]);
-        let arrived = matches!(answers.as_deref(), Ok([Some(_)]));
-        self.message = if arrived { String::new() } else { format!("{}: nowhere", char::from(letter)) };
-        if arrived {
-            let last = if matches!(letter, b'z' | b'l') { self.last(letter) } else { Step::BeforeLast(0) };
-            self.path.follow(letter, last);
+        if !matches!(answers.as_deref(), Ok([Some(_)])) {
+            let why = self.walker.why(letter).map_or_else(|refused| refused.to_string(), |reason| reason.to_string());
+            self.message = format!("{}: {why}", char::from(letter));
+            return;
         }
+        self.message = String::new();
+        let last = if matches!(letter, b'z' | b'l') { self.last(letter) } else { Step::BeforeLast(0) };
+        self.path.follow(letter, last);
     }
 
     /// The place among its siblings of the last one, where the walker stands: counted, or of the roots measured, or else told from the last.
@@ -203,7 +208,17 @@ mod tests {
         ] {
             assert_eq!(reading(&bytes, letters.as_bytes()).path().to_string(), path, "{letters}");
         }
-        assert_eq!(reading(&bytes, b"zn").message(), "n: nowhere");
+        for (letters, message) in [
+            ("", "above the forest: a or z leads in"),
+            ("zn", "n: this is the last of its siblings: nothing comes next"),
+            ("afp", "p: this is the first of its siblings: nothing comes before it"),
+            ("zu", "u: this is a root: nothing is above it"),
+            ("afl", "l: this has no children: nothing is below it"),
+            ("s", "s: above the forest only a and z lead in"),
+            ("as", ""),
+        ] {
+            assert_eq!(reading(&bytes, letters.as_bytes()).message(), message, "{letters}");
+        }
         assert_eq!(reading(&bytes, b"").title(), "x: 8 narrow rules, start 7; 3 trees, 11 entries, 3 levels");
     }
 
@@ -215,7 +230,10 @@ mod tests {
         assert_eq!(of(3, b"").title(), "x: 8 narrow rules, rule 3; 2 trees, 2 entries, 1 levels");
         assert_eq!(of(7, b"").title(), "x: 8 narrow rules, rule 7; 3 trees, 11 entries, 3 levels");
         assert_eq!(of(0, b"").title(), "x: 8 narrow rules, rule 0; 0 trees, 0 entries, 0 levels");
-        assert_eq!((of(3, b"zn").path().to_string(), of(3, b"zn").message()), ("2".into(), "n: nowhere"));
+        let last = "n: this is the last of its siblings: nothing comes next";
+        assert_eq!((of(3, b"zn").path().to_string(), of(3, b"zn").message()), ("2".into(), last));
+        assert_eq!(of(0, b"").message(), "the forest is empty: no key leads anywhere");
+        assert_eq!(of(0, b"z").message(), "z: the forest is empty: no key leads anywhere");
         let around = of(6, b"afnn").around(9, 9, 9);
         assert_eq!((around.before, around.after, around.children), (vec![98, 97], vec![98], vec![97, 98, 97, 98]));
         let mut reader = of(3, b"a");

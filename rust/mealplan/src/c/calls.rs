@@ -1,7 +1,7 @@
 //! The safe functions over the C interface: slices in, values or the refusal out. What a call writes is lent by `&mut`, so it lies apart from
 //! all else, and a Rust slice's pointer is never null: the borrow checker meets all that the header asks of a caller.
 use crate::c;
-use crate::{Checked, Compared, LabelRow, Measured, Refused, Unsealed};
+use crate::{Checked, Compared, LabelRow, Measured, Reason, Refused, Unsealed};
 
 /// The values, unless the C function returned a refusal's number.
 fn answer<T>(number: u32, position: u64, values: T) -> Result<T, Refused> {
@@ -206,4 +206,26 @@ pub fn grams(plan: &[u8], rows: &[LabelRow], work: &mut [u8]) -> Result<u64, Ref
         )
     };
     answer(number, position, grams)
+}
+
+/// Why a letter, one of a z f l n p u s, moves or doesn't from the place stored in `cursor`, which is only read. Refused as [`walk`] of that one letter is,
+/// with enough answers. The forest is that of the rule which the cursor names. `work` needs [`work_bytes`](crate::work_bytes).
+pub fn reason(plan: &[u8], work: &mut [u8], cursor: &[u8], letter: u8) -> Result<Reason, Refused> {
+    let (mut reason, mut position) = (0, 0);
+    // SAFETY: as in `spread`; the cursor is only read.
+    let number = unsafe {
+        c::plan_reason(
+            plan.as_ptr(),
+            plan.len(),
+            work.as_mut_ptr(),
+            work.len(),
+            cursor.as_ptr(),
+            cursor.len(),
+            letter,
+            &mut reason,
+            &mut position,
+        )
+    };
+    // It is one of the seven, and 0 still where the call is refused.
+    answer(number, position, Reason::from_number(reason).unwrap_or(Reason::Moves))
 }

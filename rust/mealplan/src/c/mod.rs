@@ -118,4 +118,17 @@ unsafe extern "C" {
         grams: *mut u64,
         position: *mut u64,
     ) -> u32;
+
+    /// [`reason`](crate::reason), unsafe.
+    pub fn plan_reason(
+        plan: *const u8,
+        plan_len: usize,
+        work: *mut u8,
+        work_len: usize,
+        cursor: *const u8,
+        cursor_len: usize,
+        letter: u8,
+        reason: *mut u32,
+        position: *mut u64,
+    ) -> u32;
 }

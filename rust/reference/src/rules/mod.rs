@@ -1,5 +1,6 @@
 //! The operations by rules alone: tables of rules in the lent work, nothing unfolded, and nothing allocated where rules name only
-//! lower ones; else the order of the rules is. Compare has two walkers, and allocates what the second one needs and copies of both cursors.
+//! lower ones; else the order of the rules is. Compare has two walkers, and allocates what the second one needs and copies of both cursors;
+//! reason lets a walker go on a copy of the cursor.
 //!
 //! A good walker without proofs, for plans of any size: it serves as the second opinion and as the benchmark's other side.
 mod counts;
@@ -13,7 +14,7 @@ mod text;
 
 use crate::plan::{self, Plan, cursor_bytes, work_bytes};
 use crate::rows::{self, Row};
-use crate::{Compared, Measured, Refused, Why, answers, compare::pair_by_pair, first_stranger};
+use crate::{Compared, Measured, Reason, Refused, Why, answers, compare::pair_by_pair, first_stranger};
 pub use grams::taken_out;
 use moves::Walker;
 pub use prints::visible as visible_print;
@@ -92,5 +93,18 @@ pub fn compare(plan: &[u8], work: &mut [u8], first: &[u8], second: &[u8], budget
         let first = Subtree::at(&plan, work, &mut one).ok_or(Why::Place.here())?;
         let second = Subtree::at(&plan, &mut more_work, &mut other).ok_or(Why::Place.here())?;
         Ok(pair_by_pair(first, second, budget))
+    })
+}
+
+/// Why a letter moves or doesn't: where a walk of it leads nowhere, there is one reason that its letter can have at a node.
+pub fn reason(plan: &[u8], work: &mut [u8], cursor: &[u8], letter: u8) -> Result<Reason, Refused> {
+    let plan = plan::read(plan)?;
+    let cursor = cursor.get(..cursor_bytes(plan.rules.count())).ok_or(Why::Lent.here())?;
+    with_work(&plan, work, |work| {
+        if let Some(position) = first_stranger(&[letter]) {
+            return Err(Why::Letter.at(position));
+        }
+        let mut copy = cursor.to_vec();
+        Ok(Walker::at(&plan, work, &mut copy).ok_or(Why::Place.here())?.reason(letter))
     })
 }

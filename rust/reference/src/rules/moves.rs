@@ -3,7 +3,7 @@ use super::table::{NONE, Table};
 use crate::place::{self, Cell, Over};
 use crate::plan::{Plan, Rule};
 use crate::words;
-use crate::{NOWHERE, Side};
+use crate::{NOWHERE, Reason, Side};
 
 /// A walker on a rule's forest: the cells of its place, and the rule that it stands on (kind 2 or 4).
 pub struct Walker<'a> {
@@ -73,6 +73,23 @@ impl<'a> Walker<'a> {
         match self.table.rule(self.here) {
             Rule::Node(label, _) | Rule::Part(label, _, _) if arrived => label,
             _ => NOWHERE,
+        }
+    }
+
+    /// Why one letter moves or doesn't; if it moves, the walker does.
+    pub fn reason(&mut self, letter: u8) -> Reason {
+        if self.table.representative(self.walked) == NONE {
+            return Reason::NoTrees;
+        }
+        let above = self.used == 0;
+        match letter {
+            _ if self.answer(letter) != NOWHERE => Reason::Moves,
+            _ if above => Reason::Above,
+            b'f' | b'l' => Reason::NoChildren,
+            b'n' => Reason::LastSibling,
+            b'p' => Reason::FirstSibling,
+            b'u' => Reason::Root,
+            _ => unreachable!("a, z and s lead to a node from a node"),
         }
     }
 

@@ -7,7 +7,7 @@ use crate::copy::{Client, Node};
 use crate::place;
 use crate::plan::{self, Plan, Rule, cursor_bytes, work_bytes};
 use crate::rows::{self, Row};
-use crate::{Compared, Format, Measured, Refused, Why, answers, compare::pair_by_pair, first_stranger};
+use crate::{Compared, Format, Measured, Reason, Refused, Why, answers, compare::pair_by_pair, first_stranger};
 use finger::Finger;
 use forest::{Forest, Tree};
 use std::cell::OnceCell;
@@ -133,6 +133,20 @@ impl Unfolded {
         let Some(first) = self.subtree(&first[..needed])? else { return Ok(None) };
         let Some(second) = self.subtree(&second[..needed])? else { return Ok(None) };
         Ok(Some(pair_by_pair(first.listed(), second.listed(), budget)))
+    }
+
+    /// None where the forest walked has more nodes than are unfolded.
+    pub fn reason(&self, work: &mut [u8], cursor: &[u8], letter: u8) -> Option<Result<Reason, Refused>> {
+        self.reason_unfolded(work, cursor, letter).transpose()
+    }
+
+    fn reason_unfolded(&self, work: &mut [u8], cursor: &[u8], letter: u8) -> Result<Option<Reason>, Refused> {
+        let cursor = cursor.get(..cursor_bytes(self.n)).ok_or(Why::Lent.here())?;
+        self.take_work(work)?;
+        if let Some(position) = first_stranger(&[letter]) {
+            return Err(Why::Letter.at(position));
+        }
+        Ok(self.opened(cursor)?.map(|(forest, path)| Reason::of(forest, &path, letter)))
     }
 
     /// The forest that a client sees: every node, unless it or one above it is of a higher class.

@@ -3,7 +3,7 @@
 use crate::call::{Call, Operation};
 use crate::cursors::Stored;
 use crate::draft::Draft;
-use crate::rounds::{compares, walks};
+use crate::rounds::{compares, reasons, walks};
 use crate::trial::Trial;
 use crate::{families, random_plans, rounds};
 use reference::plan::{FEW_RULES, Sort};
@@ -55,10 +55,12 @@ fn empty(trial: &mut Trial, draft: &Draft) {
     let call = Call::new(Operation::Walk, draft.plan(), draft.n()).with_word(word).with_letters(&LETTERS);
     let after = trial.accepted(&call, "an empty rule is closed");
     assert!((0..LETTERS.len()).all(|index| answers::get(&after.answers, index) == NOWHERE), "it has no tree");
+    reasons::of_no_trees(trial, &call);
     trial.tally.days[3] += 1;
 }
 
-/// 10 for each word that names no closed rule, whatever the letters and the rest of cell 0, in a walk and in either cursor of compare; 9 comes first.
+/// 10 for each word that names no closed rule, whatever the letters and the rest of cell 0, in a walk, of a reason and in either cursor of compare; 9
+/// comes first.
 fn refuse(trial: &mut Trial) {
     let draft = families::sample();
     let draft = rounds::in_any_form(&mut trial.random, draft);
@@ -84,6 +86,9 @@ fn refuse(trial: &mut Trial) {
         trial.refused(&call.clone().with_letters(&letters), way, Why::Place.here());
         let strange = call.clone().with_letters(&[&letters[..], b"x"].concat());
         trial.refused(&strange, &format!("a byte that is no letter, and {way}"), Why::Letter.at(count));
+        let letter = trial.random.pick(&LETTERS);
+        trial.refused(&Call::reason(&call, letter), way, Why::Place.here());
+        trial.refused(&Call::reason(&call, b'x'), &format!("a byte that is no letter, and {way}"), Why::Letter.at(0));
         let closed = rounds::word(&mut trial.random, &draft);
         let mut other = Call::new(Operation::Walk, draft.plan(), draft.n()).with_word(closed).with_letters(b"a");
         other = trial.accepted(&other, "a closed rule");

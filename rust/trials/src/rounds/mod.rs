@@ -7,6 +7,7 @@ pub mod grams;
 pub mod orders;
 pub mod places;
 pub mod plans;
+pub mod reasons;
 pub mod rows;
 pub mod sizes;
 pub mod slices;

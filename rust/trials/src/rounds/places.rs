@@ -1,8 +1,8 @@
-//! Refusal 10 of walk and of compare, and walks from every place of small forests.
+//! Refusal 10 of walk, of compare and of reason, and walks from every place of small forests, with the reason of each letter there.
 use crate::call::{Call, Operation};
 use crate::cursors::{self, Known, Stored};
 use crate::draft::Draft;
-use crate::rounds;
+use crate::rounds::{self, reasons};
 use crate::trial::Trial;
 use reference::place::Cell;
 use reference::plan::Rule;
@@ -22,7 +22,8 @@ pub fn refuse(trial: &mut Trial, rounds: usize) {
             let applied = (damage.apply)(&mut stored, &known, &mut trial.random).is_some();
             let walk = call_from(trial, &known.draft, &stored);
             let other = Stored::of(&trial.random.pick(&places)).with_word(word);
-            for call in [compared_with(trial, &walk, &other), walk] {
+            let letter = trial.random.pick(&LETTERS);
+            for call in [compared_with(trial, &walk, &other), Call::reason(&walk, letter), walk] {
                 if applied {
                     trial.perhaps_refused(&call, &damage.way, Why::Place as u32);
                 } else {
@@ -45,15 +46,16 @@ pub fn walk_from_every(trial: &mut Trial, forests: usize) {
         for place in &places {
             let stored = Stored::of(place).with_word(word);
             for letter in LETTERS {
-                call = from_place(call, &stored).with_letters(&[letter]);
-                trial.accepted(&call, "every node's place is accepted");
+                call = from_place(call, &stored);
+                let judged = reasons::beside_walk(trial, &Call::reason(&call, letter));
+                assert!(judged.outcome.is_ok(), "every node's place is accepted");
             }
             change_every_word(trial, call.clone(), &stored, draft.n() as u16);
         }
     }
 }
 
-/// One word of the place at a time, cell 0 among them, to its neighbours and to a few others.
+/// One word of the place at a time, cell 0 among them, to its neighbours and to a few others; now and then with the reason of the letter.
 fn change_every_word(trial: &mut Trial, mut call: Call, stored: &Stored, n: u16) {
     for cell in 0..=stored.cells.len() {
         for word in 0..4 {
@@ -67,7 +69,11 @@ fn change_every_word(trial: &mut Trial, mut call: Call, stored: &Stored, n: u16)
                 }
                 let letter = trial.random.pick(&LETTERS);
                 call = from_place(call, &changed).with_letters(&[letter]);
-                trial.judge(&call);
+                if trial.random.once_in(4) {
+                    reasons::beside_walk(trial, &Call::reason(&call, letter));
+                } else {
+                    trial.judge(&call);
+                }
             }
         }
     }
@@ -145,6 +151,7 @@ fn empty_forest(trial: &mut Trial) {
     ] {
         let call = call_from(trial, &draft, &Stored::of(&cells));
         trial.refused(&call, way, Why::Place.here());
+        trial.refused(&Call::reason(&call, b'a'), way, Why::Place.here());
         let call = compared_with(trial, &call, &Stored::of(&cells));
         trial.refused(&call, way, Why::Place.here());
     }

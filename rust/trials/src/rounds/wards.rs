@@ -4,7 +4,7 @@ use crate::call::{Call, Operation};
 use crate::cursors::{self, Known, Stored};
 use crate::draft::Draft;
 use crate::families::{self, Growth};
-use crate::rounds::{self, compares, copies, grams, plans, sizes, walks};
+use crate::rounds::{self, compares, copies, grams, plans, reasons, sizes, walks};
 use crate::trial::Trial;
 use crate::{cycles, random_plans};
 use reference::copy::MOST_COPIED;
@@ -124,11 +124,12 @@ fn places(trial: &mut Trial, draft: &Draft) {
     call = trial.accepted(&call.with_letters(&letters), "a walk from above");
     let Ok(cells) = place::used(&call.cursor) else { panic!("a walk leaves a place") };
     for letter in LETTERS {
-        let mut call = call.clone().with_letters(&[letter]);
+        let mut call = call.clone();
         let past = 8 * (cells.len() + 1);
         let rest = trial.random.leftovers(call.cursor.len() - past);
         call.cursor[past..].copy_from_slice(&rest);
-        trial.accepted(&call, "a place that a walk left, whatever stands behind it");
+        let judged = reasons::beside_walk(trial, &Call::reason(&call, letter));
+        assert!(judged.outcome.is_ok(), "a place that a walk left, whatever stands behind it");
     }
     let known = Known::of(draft.clone());
     for damage in trial.random.some(cursors::all(), 4) {
@@ -136,7 +137,7 @@ fn places(trial: &mut Trial, draft: &Draft) {
         if (damage.apply)(&mut stored, &known, &mut trial.random).is_some() {
             let mut call = call.clone().with_letters(b"s");
             stored.write(&mut call.cursor);
-            trial.judge(&call);
+            reasons::beside_walk(trial, &Call::reason(&call, b's'));
         }
     }
 }

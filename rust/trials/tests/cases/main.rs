@@ -180,10 +180,15 @@ impl Lent {
                 call.class = word(class)?;
                 call.out = out;
             }
+            (Operation::Reason, Some(letter)) => {
+                let [letter] = letter.as_bytes() else { return Err(format!("'{letter}' isn't one byte")) };
+                call.letter = *letter;
+            }
             (Operation::Grams, None) => call.rows = self.rows.clone(),
             (Operation::Copy, None) => return Err("copy needs a class".to_string()),
             (Operation::Compare, None) => return Err("compare needs a budget".to_string()),
             (Operation::Walk, None) => return Err("walk needs letters".to_string()),
+            (Operation::Reason, None) => return Err("reason needs a letter".to_string()),
             (Operation::Seal, None) => return Err("seal needs a record length and a start".to_string()),
             (_, Some(tail)) => return Err(format!("{name} doesn't take {tail}")),
             (_, None) => call.out = out,
@@ -210,6 +215,7 @@ fn made(call: &mut Call) -> Outcome {
         out: &mut call.out,
         second: &call.second,
         budget: call.budget,
+        letter: call.letter,
         rows: &call.rows,
         class: call.class,
     };
@@ -227,6 +233,7 @@ fn operation(name: &str) -> Result<Operation, String> {
         "compare" => Operation::Compare,
         "copy" => Operation::Copy,
         "grams" => Operation::Grams,
+        "reason" => Operation::Reason,
         _ => return Err(format!("{name} is no operation")),
     })
 }

@@ -13,8 +13,8 @@ pub fn line(before: &Call, after: &Call, outcome: &Outcome) -> String {
         Operation::Measure | Operation::Grams => work,
         Operation::Spread => format!(" {}{work}", text(&after.out)),
         Operation::Walk => all_answers(&after.answers) + &cells(&after.cursor) + &work,
-        Operation::Compare if before.cursor != after.cursor => ", cursor changed".to_string(),
-        Operation::Compare => work,
+        Operation::Compare | Operation::Reason if before.cursor != after.cursor => ", cursor changed".to_string(),
+        Operation::Compare | Operation::Reason => work,
         Operation::Copy => return copied(after, outcome) + &work,
     };
     answer(outcome) + &left
@@ -68,6 +68,7 @@ fn answer(outcome: &Outcome) -> String {
         Ok(Values::Compared(Compared::Differ(count))) => format!("differ {count}"),
         Ok(Values::Compared(Compared::Spent(count))) => format!("spent {count}"),
         Ok(Values::Grams(grams)) => format!("accepted {grams}"),
+        Ok(Values::Reason(reason)) => format!("reason {}", *reason as u32),
         Err(refused) => format!("refused {} at {}", refused.number, refused.position),
     }
 }

@@ -7,30 +7,33 @@ use mathlib.Core.Bool.{Bool, true, false, cond, not, _&&_, true≢false}
 use mathlib.Core.List.{[], _∷_}
 use mathlib.Core.Option.{Option, some, Option·none-ne-some, Option·some-ne-none}
 use lib.Dec.{leb, leb·zero, leb·suc-zero, leb·suc-suc}
 use Rattle.forest.specs.Forest.{Forest, count}
 use Rattle.forest.specs.Place.{Side}
-use Rattle.forest.specs.Position.{orElse, above, node, Named}
+use Rattle.forest.specs.Position.{orElse, node, Named}
 use Rattle.forest.specs.Letter.{Letter, isRoot}
 use Rattle.forest.specs.Reference.{Path, later, from, below, top, childrenAt, labelAt, shifted, tried, isAbove, answer}
-use Rattle.forest.specs.Reason.{Reason, hasNone, atEnd, reasonAt, reasonAbove, reason}
+use Rattle.forest.specs.Ends.{hasNone, atEnd}
+use Rattle.reasons.specs.declared.Reason.{Reason}
+use Rattle.reasons.specs.Reason.{endReason, reasonAt, reasonAbove, reasonOf}
 use Rattle.forest.proofs.Neighbours.{edge, top-end, answer-edge}
 use Rattle.forest.proofs.Reach.{earlier, parent-named}
 
-isMoves : Reason → Bool
-isMoves Reason.moves = true
-isMoves Reason.above = false
-isMoves Reason.no-trees = false
-isMoves Reason.no-children = false
-isMoves (Reason.end-sibling s) = false
-isMoves Reason.root = false
+unfoldable pub isMoves : Reason → Bool
+isMoves Reason.Moves = true
+isMoves Reason.Above = false
+isMoves Reason.NoTrees = false
+isMoves Reason.NoChildren = false
+isMoves Reason.LastSibling = false
+isMoves Reason.FirstSibling = false
+isMoves Reason.Root = false
 
 -- a reason and an answer that say the same
-data Agrees (A : Type 0) : Reason → Option A → Type 0 where
-  leads : {r : Reason} {x : Option A} {a : A} → r ≡ Reason.moves → x ≡ some a → Agrees A r x
+pub data Agrees (A : Type 0) : Reason → Option A → Type 0 where
+  leads : {r : Reason} {x : Option A} {a : A} → r ≡ Reason.Moves → x ≡ some a → Agrees A r x
   stops : {r : Reason} {x : Option A} → isMoves r ≡ false → x ≡ Option.none → Agrees A r x
 
 module _ {A : Type 0} where
-  agrees-moves : {r : Reason} {x : Option A} → Agrees A r x → (r ≡ Reason.moves) ↔ (x ≢ Option.none)
+  agrees-moves : {r : Reason} {x : Option A} → Agrees A r x → (r ≡ Reason.Moves) ↔ (x ≢ Option.none)
   unfolding isMoves
   agrees-moves (leads p q) = (λ m e. Option·some-ne-none _ (sym q ∙ e), λ m. p)
   agrees-moves (stops p q) = (λ m e. true≢false (sym (ap isMoves m) ∙ p), λ m. absurd (m q))
@@ -47,7 +50,7 @@ module _ {A : Type 0} where
   childrenAt-none [] = refl
   childrenAt-none (i ∷ p) = ap (λ g. below (from i g)) (childrenAt-none p) ∙ ap below (from-none i)
 
-  labelAt-none : (p : Path) → labelAt {A = A} Forest.none p ≡ Option.none
+  pub labelAt-none : (p : Path) → labelAt {A = A} Forest.none p ≡ Option.none
   unfolding labelAt
   labelAt-none [] = refl
   labelAt-none (i ∷ p) = ap (λ g. top (from i g)) (childrenAt-none p) ∙ ap top (from-none i)
@@ -67,21 +70,22 @@ module _ {A : Type 0} where
       go (some b) = (b, refl)
 
   -- the end on the right
-  agrees-later : (n : ℕ) (g : Forest A) → Agrees A (cond (leb (count g) n) (Reason.end-sibling Side.right) Reason.moves) (top (later n g))
+  agrees-later : (n : ℕ) (g : Forest A) → Agrees A (cond (leb (count g) n) Reason.LastSibling Reason.Moves) (top (later n g))
   unfolding isMoves count top later
   agrees-later zero Forest.none = stops refl refl
   agrees-later (suc n) Forest.none = rw (leb·zero (suc n)) (stops refl refl)
   agrees-later zero (Forest.tree a c f) = rw (leb·suc-zero (count f)) (leads refl refl)
   agrees-later (suc n) (Forest.tree a c f) = rw (leb·suc-suc (count f) n) (agrees-later n f)
 
-  agrees-end : (s : Side) (g : Forest A) → Agrees A (cond (hasNone g) Reason.no-children Reason.moves) (edge s g)
+  agrees-end : (s : Side) (g : Forest A) → Agrees A (cond (hasNone g) Reason.NoChildren Reason.Moves) (edge s g)
   unfolding isMoves hasNone edge
   agrees-end s Forest.none = stops refl refl
   agrees-end s (Forest.tree a c f) = leads refl ((edge-some s a c f) .1)
 
   -- the end on a side
-  agrees-sibling : {a : A} (s : Side) (i : ℕ) (g : Forest A) → top (later i g) ≡ some a → Agrees A (cond (atEnd s g (suc i)) (Reason.end-sibling s) Reason.moves) (top (from (shifted s (suc i)) g))
-  unfolding isMoves atEnd from shifted top
+  agrees-sibling : {a : A} (s : Side) (i : ℕ) (g : Forest A) → top (later i g) ≡ some a
+      → Agrees A (cond (atEnd s g (suc i)) (endReason s) Reason.Moves) (top (from (shifted s (suc i)) g))
+  unfolding isMoves endReason atEnd from shifted top
   agrees-sibling Side.left zero g e = stops refl refl
   agrees-sibling Side.left (suc i) g e = rw (leb·suc-suc (suc i) 0, leb·suc-zero i) (leads refl ((earlier i g e) .1))
   agrees-sibling Side.right i g e = agrees-later (suc i) g
@@ -94,7 +98,7 @@ module _ {A : Type 0} where
       go : Named g (j ∷ p) → Agrees A (reasonAt g Letter.parent i (j ∷ p)) (labelAt g (j ∷ p))
       go (node d) = leads refl d
 
-  agrees-root : (s : Side) (a : A) (c f : Forest A) (p : Path) → Agrees A Reason.moves (answer (Forest.tree a c f) (Letter.root s) p)
+  agrees-root : (s : Side) (a : A) (c f : Forest A) (p : Path) → Agrees A Reason.Moves (answer (Forest.tree a c f) (Letter.root s) p)
   agrees-root s a c f p = leads refl (answer-edge (Forest.tree a c f) s p ∙ (edge-some s a c f) .1)
 
   agrees-above : (x : A) (d f : Forest A) (c : Letter) → Agrees A (reasonAbove c) (answer (Forest.tree x d f) c [])
@@ -105,21 +109,23 @@ module _ {A : Type 0} where
   agrees-above x d f Letter.parent = stops refl refl
   agrees-above x d f Letter.stay = stops refl refl
 
-  agrees-node : {b : A} (x : A) (d f : Forest A) (c : Letter) (i : ℕ) (p : Path) → labelAt (Forest.tree x d f) (suc i ∷ p) ≡ some b → Agrees A (reasonAt (Forest.tree x d f) c (suc i) p) (answer (Forest.tree x d f) c (suc i ∷ p))
+  agrees-node : {b : A} (x : A) (d f : Forest A) (c : Letter) (i : ℕ) (p : Path) → labelAt (Forest.tree x d f) (suc i ∷ p) ≡ some b
+      → Agrees A (reasonAt (Forest.tree x d f) c (suc i) p) (answer (Forest.tree x d f) c (suc i ∷ p))
   unfolding reasonAt answer tried
   agrees-node x d f (Letter.root s) i p e = agrees-root s x d f (suc i ∷ p)
-  agrees-node x d f (Letter.child s) i p e = rw (top-end s (childrenAt (Forest.tree x d f) (suc i ∷ p))) (agrees-end s (childrenAt (Forest.tree x d f) (suc i ∷ p)))
+  agrees-node x d f (Letter.child s) i p e =
+      rw (top-end s (childrenAt (Forest.tree x d f) (suc i ∷ p))) (agrees-end s (childrenAt (Forest.tree x d f) (suc i ∷ p)))
   agrees-node x d f (Letter.sibling s) i p e = agrees-sibling s i (childrenAt (Forest.tree x d f) p) e
   agrees-node x d f Letter.parent i p e = agrees-parent (Forest.tree x d f) (suc i) p e
   agrees-node x d f Letter.stay i p e = leads refl e
 
-  agrees : (g : Forest A) (c : Letter) (p : Path) → Named g p → Agrees A (reason g c p) (answer g c p)
-  unfolding isMoves reason answer labelAt
+  pub agrees : (g : Forest A) (c : Letter) (p : Path) → Named g p → Agrees A (reasonOf g c p) (answer g c p)
+  unfolding isMoves reasonOf answer labelAt
   agrees Forest.none c p n = stops refl (cond-none (isAbove p && not (isRoot c)) (labelAt-none (tried Forest.none c p)))
   agrees (Forest.tree x d f) c [] n = agrees-above x d f c
   agrees (Forest.tree x d f) c (zero ∷ p) (node e) = absurd (Option·none-ne-some _ e)
   agrees (Forest.tree x d f) c (suc i ∷ p) (node e) = agrees-node x d f c i p e
 
   -- a letter's reason is that it moves exactly if its answer is a node
-  pub moves-answer : (g : Forest A) (c : Letter) (p : Path) → Named g p → (reason g c p ≡ Reason.moves) ↔ (answer g c p ≢ Option.none)
+  pub moves-answer : (g : Forest A) (c : Letter) (p : Path) → Named g p → (reasonOf g c p ≡ Reason.Moves) ↔ (answer g c p ≢ Option.none)
   moves-answer g c p n = agrees-moves (agrees g c p n)

@@ -1,0 +1,4 @@
+pub mod Reason
+pub mod Says
+pub mod Decided
+pub mod Outcome
