@@ -35,6 +35,18 @@ pub enum Rule {
     Join(u16, u16),
 }
 
+/// The rules of document 01's sample plan, whose start is the last: label 97 four times in its forest, 98 five times, 99 twice.
+pub const SAMPLE: [Rule; 8] = [
+    Rule::Empty,
+    Rule::Node(97, 0),
+    Rule::Node(98, 0),
+    Rule::Pair(1, 2),
+    Rule::Part(99, 3, 2),
+    Rule::Join(4, 4),
+    Rule::Fill(5, 1),
+    Rule::Pair(6, 3),
+];
+
 /// What a word that names a rule asks of it: a bit for each kind that the rule may have.
 #[derive(Clone, Copy, PartialEq, Eq, Debug)]
 pub struct Sort(u8);

@@ -1,7 +1,7 @@
 //! Rules in any order (document 02, Note 1), in both formats: refusals 4 to 7 and 12 against a closure of what is named, and the sample plan
 //! with its rules numbered in every way.
 use reference::place::Cell;
-use reference::plan::{self, Rule, Sort, WORDS, cursor_bytes, work_bytes};
+use reference::plan::{self, Rule, SAMPLE, Sort, WORDS, cursor_bytes, work_bytes};
 use reference::unfolded::Unfolded;
 use reference::{Checked, Format, Measured, NOWHERE, Refused, Why, answers, place, rules};
 
@@ -174,18 +174,6 @@ fn long_ones() {
         }
     }
 }
-
-/// The sample plan of document 01.
-const SAMPLE: [Rule; 8] = [
-    Rule::Empty,
-    Rule::Node(97, 0),
-    Rule::Node(98, 0),
-    Rule::Pair(1, 2),
-    Rule::Part(99, 3, 2),
-    Rule::Join(4, 4),
-    Rule::Fill(5, 1),
-    Rule::Pair(6, 3),
-];
 
 /// A rule of the sample plan with other numbers for the rules named.
 fn renamed(rule: Rule, of: impl Fn(u16) -> u16) -> Rule {

@@ -3,7 +3,7 @@
 //! their order, and what becomes of work.
 use reference::compare::Listed;
 use reference::place::{self, Cell};
-use reference::plan::{self, Rule, Sort, WORDS, cursor_bytes, work_bytes};
+use reference::plan::{self, Rule, SAMPLE, Sort, WORDS, cursor_bytes, work_bytes};
 use reference::unfolded::Unfolded;
 use reference::{Compared, Format, NOWHERE, Refused, Why, answers, rules};
 
@@ -102,18 +102,6 @@ fn every_pair(desk: &Desk, unfolded: &Unfolded, mut some: impl FnMut() -> bool) 
     }
     came
 }
-
-/// The sample plan of document 01.
-const SAMPLE: [Rule; 8] = [
-    Rule::Empty,
-    Rule::Node(97, 0),
-    Rule::Node(98, 0),
-    Rule::Pair(1, 2),
-    Rule::Part(99, 3, 2),
-    Rule::Join(4, 4),
-    Rule::Fill(5, 1),
-    Rule::Pair(6, 3),
-];
 
 #[test]
 fn every_two_places_of_the_sample_plan() {

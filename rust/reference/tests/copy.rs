@@ -2,7 +2,7 @@
 //! parts struck out, and their grams and those of what is taken out (Note 8); prints of forests beside the forests themselves; refusals in their
 //! order.
 use reference::copy::{self, Client, MOST_COPIED, copy_bytes};
-use reference::plan::{self, Rule, Sort, WORDS, work_bytes};
+use reference::plan::{self, Rule, SAMPLE, Sort, WORDS, work_bytes};
 use reference::rows::{LAST_LABEL, Row};
 use reference::unfolded::Unfolded;
 use reference::{Checked, Format, Why, rules};
@@ -57,18 +57,6 @@ fn text(forest: &[copy::Node]) -> String {
 fn grams(text: &str) -> u64 {
     text.bytes().filter(u8::is_ascii_lowercase).map(|letter| u64::from(letter).pow(2)).sum()
 }
-
-/// The sample plan of document 01.
-const SAMPLE: [Rule; 8] = [
-    Rule::Empty,
-    Rule::Node(97, 0),
-    Rule::Node(98, 0),
-    Rule::Pair(1, 2),
-    Rule::Part(99, 3, 2),
-    Rule::Join(4, 4),
-    Rule::Fill(5, 1),
-    Rule::Pair(6, 3),
-];
 
 #[test]
 fn the_sample_plan() {

@@ -2,21 +2,10 @@
 //! those of the same plan started there; the word stays; a number beyond the rules or of a holed rule is refused with 10; and each cursor of compare
 //! has its own word.
 use reference::place::{self, Cell};
-use reference::plan::{self, MAX_RULES, Rule, WORDS, cursor_bytes, work_bytes};
+use reference::plan::{self, MAX_RULES, Rule, SAMPLE, WORDS, cursor_bytes, work_bytes};
 use reference::unfolded::Unfolded;
 use reference::{Compared, Format, NOWHERE, Refused, Why, answers, rules, words};
 
-/// The sample plan of document 01.
-const SAMPLE: [Rule; 8] = [
-    Rule::Empty,
-    Rule::Node(97, 0),
-    Rule::Node(98, 0),
-    Rule::Pair(1, 2),
-    Rule::Part(99, 3, 2),
-    Rule::Join(4, 4),
-    Rule::Fill(5, 1),
-    Rule::Pair(6, 3),
-];
 const CLOSED: [u16; 6] = [0, 1, 2, 3, 6, 7];
 
 /// Strings of letters that lead everywhere in the sample plan, and nowhere in many ways.

@@ -1,7 +1,7 @@
 //! Grams (document 02, Note 8), in both formats: the sample plan, sums on both sides of 2^64 − 1, forests of more nodes than that, and refusals in
 //! their order. Those of plans at random are beside their copies.
 use reference::copy::Client;
-use reference::plan::{self, Rule, WORDS, work_bytes};
+use reference::plan::{self, Rule, SAMPLE, WORDS, work_bytes};
 use reference::rows::{LAST_LABEL, Row};
 use reference::unfolded::Unfolded;
 use reference::{Format, Refused, Why, rules};
@@ -13,18 +13,6 @@ fn plan_of(format: Format, rules: &[Rule], start: u16) -> Vec<u8> {
     plan.extend(plan::trailer(format, rules.len(), start));
     plan
 }
-
-/// The sample plan of document 01: label 97 four times, 98 five times, 99 twice.
-const SAMPLE: [Rule; 8] = [
-    Rule::Empty,
-    Rule::Node(97, 0),
-    Rule::Node(98, 0),
-    Rule::Pair(1, 2),
-    Rule::Part(99, 3, 2),
-    Rule::Join(4, 4),
-    Rule::Fill(5, 1),
-    Rule::Pair(6, 3),
-];
 
 const fn row(lowest: u32, highest: u32, class: u16, grams: u16) -> Row {
     Row { lowest, highest, class, grams }

@@ -1,21 +1,10 @@
 //! Why a letter moves or doesn't (document 02, Note 11), in both formats and by both references: each reason on the sample plan, 0 exactly where a walk
 //! of the letter leads to a node, refusals in their order as in a walk of that letter, and the cursor as it was.
 use reference::place::{self, Cell};
-use reference::plan::{self, FEW_RULES, MAX_RULES, Rule, WORDS, cursor_bytes, work_bytes};
+use reference::plan::{self, FEW_RULES, MAX_RULES, Rule, SAMPLE, WORDS, cursor_bytes, work_bytes};
 use reference::unfolded::Unfolded;
 use reference::{Format, LETTERS, NOWHERE, Reason, Refused, Why, answers, rules, words};
 
-/// The sample plan of document 01.
-const SAMPLE: [Rule; 8] = [
-    Rule::Empty,
-    Rule::Node(97, 0),
-    Rule::Node(98, 0),
-    Rule::Pair(1, 2),
-    Rule::Part(99, 3, 2),
-    Rule::Join(4, 4),
-    Rule::Fill(5, 1),
-    Rule::Pair(6, 3),
-];
 const CLOSED: [u16; 6] = [0, 1, 2, 3, 6, 7];
 
 fn plan_of(format: Format, rules: &[Rule], start: u16) -> Vec<u8> {
