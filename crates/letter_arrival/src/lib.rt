@@ -75,7 +75,7 @@ fn put_short(work: &[u8], cursor: &mut [u8], k: usize, side: Side, above: u16, t
 }
 
 // The run on top of k cells one step shorter, then a step to the side, then the longest run back.
-fn put_turn(work: &[u8], cursor: &mut [u8], k: usize, side: Side, above: u16) -> Standing
+pub fn put_turn(work: &[u8], cursor: &mut [u8], k: usize, side: Side, above: u16) -> Standing
     requires { ⌜ Turns (now work) (now cursor) k (sideOf side)
         × (above ≡ aboveTop (now work) (now cursor) k (sideOf side))
         × Lies (now cursor) (length ((turnedAt (factsIn (now work)) (sideOf side) above (cellsIn (now cursor) k)) .1)) ⌝ }
@@ -93,7 +93,7 @@ fn put_turn(work: &[u8], cursor: &mut [u8], k: usize, side: Side, above: u16) ->
 }
 
 // The root of a tree, whose spine goes on top of k cells, with the run down it.
-fn put_tree(work: &[u8], cursor: &mut [u8], k: usize, tree: u16) -> Standing
+pub fn put_tree(work: &[u8], cursor: &mut [u8], k: usize, tree: u16) -> Standing
     requires { ⌜ Closes (now work) × In (now work) tree
         × Lies (now cursor) (length ((opened (factsIn (now work)) tree (cellsIn (now cursor) k)) .1)) ⌝ }
     ensures { λ r.
@@ -109,7 +109,14 @@ fn put_tree(work: &[u8], cursor: &mut [u8], k: usize, tree: u16) -> Standing
 }
 
 // The root of the first or last tree of a row over a representative, opened on top of k cells with a number.
-fn put_row(work: &[u8], cursor: &mut [u8], k: usize, side: Side, number: u16, over: u16) -> Standing
+pub fn put_row(
+    work: &[u8],
+    cursor: &mut [u8],
+    k: usize,
+    side: Side,
+    number: u16,
+    over: u16,
+) -> Standing
     requires { ⌜ Closes (now work) × In (now work) over
         × Lies (now cursor) (length ((entered (factsIn (now work)) (sideOf side) number over (cellsIn (now cursor) k)) .1)) ⌝ }
     ensures { λ r.

@@ -10,6 +10,7 @@ use Rattle.words.specs.Number.{bytes}
 use Rattle.words.proofs.Laws.{four-put}
 use Rattle.record.proofs.RecordBytes.{Bytes}
 use Rattle.forest.specs.Outcome.{cleared}
+use Rattle.forest.specs.Place.{Cells}
 use Rattle.forest.specs.Walk.{cellLength, cellsIn, cellBytes, cellsBytes, storedCursor}
 use Rattle.forest.proofs.Stored.{gap, length-cell, cells-bytes, stored-parts}
 use Rattle.place_cells.specs.declared.Cell.{Cell as Words}
@@ -87,3 +88,8 @@ module _ (s : List ℕ) (k n w : ℕ) (b : Bytes s) (fits : cellLength * (k + 1)
       ∙ ap₂ (λ (x y : List ℕ). x ++ (replicate (gap n k) 0 ++ y)) head-take (drop-past head s cellLength (cursorLength n) head-length (omega arith))
       ∙ append-assoc head (cellsBytes (cellsIn s k)) (replicate (gap n k) 0 ++ drop (cursorLength n) s)
       ∙ sym stored-here
+
+-- what lies past the words that n rules need is all that a stored cursor keeps
+pub stored-same : (n w : ℕ) (cs : Cells) (s s′ : List ℕ) → cellLength * (length cs + 1) ≤ cursorLength n → drop (cursorLength n) s′ ≡ drop (cursorLength n) s
+    → storedCursor n w cs s′ ≡ storedCursor n w cs s
+stored-same n w cs s s′ room e = stored-parts n w cs s′ room ∙ rw e (sym (stored-parts n w cs s room))

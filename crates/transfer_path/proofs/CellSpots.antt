@@ -68,11 +68,11 @@ module _ (F : Facts) (E : ℕ → Expression) where
       ∙ sym (cell-right x a t)))
 
 -- whatever stands at a position, and what continues it, is what E gives for its rule
-abbrev KnownAt : (ℕ → Expression) → Expression → Position → Type 0
+abbrev pub KnownAt : (ℕ → Expression) → Expression → Position → Type 0
 KnownAt E e z = Known E e × ((c : Expression) → continues z ≡ some c → Known E c)
 
 module _ (E : ℕ → Expression) where
-  known-number : {e : Expression} → Known E e → E (ruleNumber e) ≡ e
+  pub known-number : {e : Expression} → Known E e → E (ruleNumber e) ≡ e
   unfolding ruleNumber
   known-number (Known.empty q) = q
   known-number (Known.pair q kb kc) = q
@@ -103,7 +103,7 @@ module _ (E : ℕ → Expression) where
   known-join Side.left z (Known.join q kb kc) f = (kb, ends-there)
   known-join Side.right z (Known.join q kb kc) f = (kc, f)
 
-  known-at : {w : Expression} → Known E w → {k : Where} {e : Expression} {z : Position} → At w k e z → KnownAt E e z
+  pub known-at : {w : Expression} → Known E w → {k : Where} {e : Expression} {z : Position} → At w k e z → KnownAt E e z
   unfolding continues pick
   known-at x At.start = (x, ends-there)
   known-at x (At.side s h u v) = (known-pair s ((known-at x h) .0), ends-there)

@@ -5,7 +5,7 @@ use Prim.Native.Nat.{ℕ, zero, suc, _+_, _≤_}
 use native.Mathlib.Omega.{arith}
 use mathlib.Core.Path.{_≡_, refl, sym, _∙_, ap, ap₂}
 use mathlib.Core.Bool.{true, false, and-eq-true-iff, false≢true}
-use mathlib.Core.List.{_∷_}
+use mathlib.Core.List.{[], _∷_}
 use mathlib.Core.Option.{none, some, Option·none-ne-some, Option·some-injective}
 use Rattle.forest.specs.Expression.{Expression}
 use Rattle.forest.specs.Forest.{Forest, append, count}
@@ -306,7 +306,11 @@ module _ {w : Expression} where
   spot-path g (At.node k) = node-spotted ((reaches g (At.node k)) .1 .1)
   spot-path g (At.part k) = node-spotted ((reaches g k) .spotted)
 
-  -- how many children a node has
+  -- how many roots there are, and how many children a node has
+  pub roots : Good Sort.row w → count (childrenAt (locatedOf w) []) ≡ tops w
+  unfolding childrenAt locatedOf
+  roots g = located-count g (Position.start w) (λ around. Forest.none)
+
   pub node-children : {r a : ℕ} {c : Expression} {z : Position} → Good Sort.row w → At w Where.here (Expression.node r a c) z
       → count (childrenAt (locatedOf w) (pathTo (spot z))) ≡ tops c
   unfolding Reaches Here

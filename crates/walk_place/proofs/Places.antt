@@ -4,14 +4,13 @@ use Prim.Native.Nat.{ℕ, _+_, _*_, _≤_}
 use native.Mathlib.Omega.{arith}
 use mathlib.Core.Path.{_≡_, sym, ap, ap₂, subst, _∙_}
 use mathlib.Core.List.{List, map}
-use lib.ListN.{length, drop}
+use lib.ListN.{length}
 use Rattle.rule.specs.declared.Rule.{Rule}
 use Rattle.refusal.specs.declared.Refusal.{Refusal}
 use Rattle.words.specs.Front.{inFront}
 use Rattle.forest.specs.declared.Walked.{Walked}
 use Rattle.forest.specs.Place.{Cells}
 use Rattle.forest.specs.Walk.{cellLength, cursorWords, cellAt, cellsIn, ruleWord, Begun, placeJudged, walked, storedCursor, cursorAfter, answersAfter, lettersOf, answerWord, answersBytes}
-use Rattle.forest.proofs.Stored.{stored-parts}
 use Rattle.model.specs.Facts.{Facts, factsOf}
 use Rattle.model.specs.Walk.{answers, after}
 use Rattle.work_rows.proofs.Rows.{within-both, within-wider}
@@ -22,11 +21,12 @@ use Rattle.place_cells.specs.Cells.{cursorLength, mostCells}
 use Rattle.place_cells.proofs.Writes.{length-cells}
 use Rattle.place_store.specs.declared.Head.{Head}
 use Rattle.place_store.specs.Head.{headOf}
+use Rattle.place_store.proofs.Stores.{stored-same}
 use Rattle.letter_arrival.specs.declared.Standing.{Standing}
 use Rattle.letter_moves.specs.Standing.{Valid, rulesKept, Stands}
 use Rattle.letter_moves.proofs.Stands.{stands-few}
 use Rattle.letter_run.specs.Ran.{Ran}
-use Rattle.place_open.specs.Open.{Openable, OpensAt}
+use Rattle.place_open.specs.Open.{OpensAt}
 use Rattle.place_open.proofs.Begin.{answers-left, cursor-left}
 use Rattle.walk_place.specs.Travel.{Travels, Walks}
 
@@ -34,11 +34,6 @@ use Rattle.walk_place.specs.Travel.{Travels, Walks}
 pub refused-walks : (R : List Rule) {b : Begun} (why : Refusal) (letters cursor given : List ℕ) → b ≡ Begun.refused why → Walks R b letters cursor cursor given given (Walked.Refused why)
 unfolding walked cursorAfter answersAfter
 refused-walks R why letters cursor given e = record { answer = rw e; cursor-left = rw e; answers-left = rw e }
-
--- what lies past the words that n rules need is all that a stored cursor keeps
-stored-same : (n w : ℕ) (cs : Cells) (s s′ : List ℕ) → cellLength * (length cs + 1) ≤ cursorLength n → drop (cursorLength n) s′ ≡ drop (cursorLength n) s
-    → storedCursor n w cs s′ ≡ storedCursor n w cs s
-stored-same n w cs s s′ room e = stored-parts n w cs s′ room ∙ rw e (sym (stored-parts n w cs s room))
 
 module _ {start n : ℕ} {t s letters given : List ℕ} (J : Travels start n t s letters given) {r : ℕ} {h : Standing} (O : OpensAt t n start s r h) where
   -- there is room for the links of every place, and so for those of this one

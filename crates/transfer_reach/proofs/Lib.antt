@@ -1,0 +1,4 @@
+pub mod Short
+pub mod Turning
+pub mod Reaching
+pub mod Entering
