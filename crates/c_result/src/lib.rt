@@ -1,4 +1,6 @@
 // Answers given as numbers: each function gives the result for an answer and writes behind pointers what belongs there.
+#![tactic(auto)]
+
 ghost use Rattle.std.specs.Prelude.{◌≡◌};
 ghost use Rattle.c_result.specs.Interface.{result_number, result_position, behind};
 ghost use Rattle.c_result.specs.Interface.{checked_gives, written_gives, unsealed_gives, measured_gives};

@@ -1,5 +1,7 @@
 // Runs every case of document 01, "One sample plan", on the library, and prints a line for each: "ok" and what came, or "FAILED", what came
 // and what document 01 gives. The file stdout holds the lines as they are to be, so a case that fails fails the gate.
+#![tactic(auto)]
+
 use runs::{answers, cells, check, check_empty, measure, seal, spread, stroll};
 
 mod runs;

@@ -1,4 +1,6 @@
 // Compare (document 02, Note 4): whether two places of a plan carry the same meals.
+#![tactic(auto)]
+
 ghost use Rattle.std.specs.Prelude.{◌≡◌, ◌*◌};
 ghost use Rattle.plan.specs.declared.Checked.{Checked};
 ghost use Rattle.plan.specs.Check.{checked, rules_of};
@@ -16,7 +18,7 @@ use refusal::Refusal;
 use work_rows::Row;
 
 // Where two places stand, or why one of them is turned down.
-#[derive(Drop)]
+#[derive(Clone, Copy)]
 enum Stood {
     At { first: Standing, second: Standing },
     Refused(Refusal),

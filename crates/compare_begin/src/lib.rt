@@ -1,5 +1,7 @@
 // The tasks that compare begins with at a place (document 02, Note 4): those of the subtree there, put on a stack in the lent work. The
 // stack grows at both ends.
+#![tactic(auto)]
+
 ghost use Rattle.std.specs.Prelude.{◌≡◌, [], ◌∷◌, ◌+◌, ◌*◌, ◌≤◌, ◌<◌, length};
 ghost use Rattle.forest.specs.Walk.{cell_at};
 ghost use Rattle.count_passes.specs.Says.{whole, before, after};
@@ -15,7 +17,7 @@ use rule::Rule;
 use spread_step::Step;
 
 // A stack of tasks in the lent work: where it begins, and how many there are.
-#[derive(Drop)]
+#[derive(Clone, Copy)]
 pub struct Begun {
     pub from: usize,
     pub tasks: usize,

@@ -1,4 +1,6 @@
 // The nodes before each rule's hole and those after it, in columns of the rows of work (document 02, Note 4).
+#![tactic(auto)]
+
 ghost use Rattle.std.specs.Prelude.{◌≡◌, ◌+◌, ◌*◌, ◌≤◌, length};
 ghost use Rattle.work_rows.specs.Rows.{row_length};
 ghost use Rattle.count_capped.specs.Count.{capped_sum, number_of};

@@ -1,5 +1,7 @@
 // Two stacks of tasks in the lent work compared by their tokens (document 02, Note 4): tasks that both have on top are skipped, with the
 // count of their nodes; others are replaced by what they come to, until both say a token.
+#![tactic(auto)]
+
 ghost use Rattle.std.specs.Prelude.{◌≡◌, true, false, ◌+◌, ◌-◌, ◌*◌, ◌≤◌, ◌<◌, min, length, leb};
 ghost use Rattle.forest.specs.Compare.{within};
 ghost use Rattle.count_capped.specs.Count.{capped, number_of};
@@ -12,7 +14,7 @@ use forest::Compared;
 use spread_step::{Said, Step};
 
 // How far compare has come: the tasks left on each stack, whether all pairs agreed, and how many pairs of nodes that is.
-#[derive(Drop)]
+#[derive(Clone, Copy)]
 struct Progress {
     one: usize,
     two: usize,

@@ -1,4 +1,6 @@
 // The client's copy (document 02, Note 6): a new plan without the entries that a client of a class must not see, nor anything under them.
+#![tactic(auto)]
+
 ghost use Rattle.std.specs.Prelude.{ℕ, ◌≡◌, ◌&&◌, List, length, leb};
 ghost use Rattle.plan.specs.Check.{checked};
 ghost use Rattle.forest.specs.Outcome.{enough_work};

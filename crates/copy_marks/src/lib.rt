@@ -1,4 +1,6 @@
 // The variants that the copy's start reaches, marked, numbered and written (document 02, Note 6).
+#![tactic(auto)]
+
 ghost use Rattle.std.specs.Prelude.{◌≡◌, ◌+◌, ◌-◌, ◌*◌, ◌≤◌, ◌<◌, length};
 ghost use Rattle.words.specs.Put.{put};
 ghost use Rattle.rule.specs.Rule.{encode};

@@ -1,4 +1,6 @@
 // The variants of each rule, of which the client's copy is made, in its row behind the rule (document 02, Note 6).
+#![tactic(auto)]
+
 ghost use Rattle.std.specs.Prelude.{◌≡◌, cond, ◌*◌, ◌≤◌, ◌<◌};
 ghost use Rattle.rule.specs.Rule.{holed, tree};
 ghost use Rattle.rule.specs.declared.Rule.{Rule};

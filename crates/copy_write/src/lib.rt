@@ -1,5 +1,7 @@
 // The client's copy written (document 02, Note 6): of the variants of the rules in the rows of work, those that the copy's start reaches,
 // and behind them the trailer.
+#![tactic(auto)]
+
 ghost use Rattle.copy_write.specs.Write.{Copyable, CopyWritten};
 
 use plan::{Trailer, Written};

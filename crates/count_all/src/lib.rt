@@ -1,4 +1,6 @@
 // The counts that measure asks for: nodes, entries, trees and levels of every rule, in one pass over the rows of work.
+#![tactic(auto)]
+
 ghost use Rattle.std.specs.Prelude.{◌≡◌, ◌+◌, ◌<◌, ◌≤◌, min, max, length};
 ghost use Rattle.words.specs.Number.{number};
 ghost use Rattle.words.specs.Put.{put};
@@ -14,7 +16,7 @@ use work_rows::Row;
 
 // A rule's counts, as long as 64 bits hold its nodes; where they don't, the most nodes and no tops. The tops of a closed rule are its trees,
 // those of a rule with a hole the nodes above the hole.
-#[derive(Drop)]
+#[derive(Clone, Copy)]
 pub struct Counts {
     pub nodes: u64,
     pub entries: u64,

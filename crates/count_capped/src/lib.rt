@@ -1,4 +1,6 @@
 // A count that stops at 2^64, and counts in columns of the rows of work.
+#![tactic(auto)]
+
 ghost use Rattle.std.specs.Prelude.{◌≡◌, ◌+◌, ◌*◌, ◌≤◌, length};
 ghost use Rattle.words.specs.Number.{number};
 ghost use Rattle.words.specs.Put.{put};
@@ -8,7 +10,7 @@ ghost use Rattle.count_capped.specs.Count.{count_limit, capped, number_of, count
 use work_rows::Row;
 
 // A count with a flag of its own: below 2^64 it is low, and over is 0; from 2^64 on low is 0 and over is 1.
-#[derive(Drop)]
+#[derive(Clone, Copy)]
 pub struct Count {
     pub low: u64,
     pub over: u16,

@@ -1,5 +1,7 @@
 // A weight of labels summed over all nodes of a rule, without spreading it: one pass over the rows of work, which hold the weight of each
 // rule's own label (document 02, Note 8).
+#![tactic(auto)]
+
 ghost use Rattle.std.specs.Prelude.{◌≡◌, ◌<◌};
 ghost use Rattle.work_rows.specs.Rows.{put_field};
 ghost use Rattle.count_capped.specs.Count.{capped_sum, number_of, count_length};

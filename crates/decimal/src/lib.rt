@@ -1,4 +1,6 @@
 // Texts and numbers in decimal, written into a lent slice.
+#![tactic(auto)]
+
 ghost use Rattle.std.specs.Prelude.{◌≡◌, ◌∷◌, [], ◌+◌, ◌≤◌, length};
 ghost use Rattle.decimal.specs.Decimal.{decimal, digit as Decimal·digit};
 ghost use Rattle.decimal.specs.Put.{Put, most_digits, Spelt};

@@ -1,1 +1,3 @@
 // Demand 3 (specs/Demand.antt): definitions and theorems alone.
+#![tactic(auto)]
+

@@ -1,4 +1,6 @@
 // What is known of each rule, in rows of the lent work.
+#![tactic(auto)]
+
 ghost use Rattle.std.specs.Prelude.{◌≡◌, ◌+◌, ◌-◌, ◌≤◌};
 ghost use Rattle.work_rows.specs.Rows.{field};
 ghost use Rattle.model.specs.Run.{along, one_above};
@@ -12,7 +14,7 @@ use rule::Rule;
 use side::Side;
 
 // The way of one side from a rule: one step, the end of the longest run, its number of steps, and a rule further on.
-#[derive(Drop)]
+#[derive(Clone, Copy)]
 pub struct Link {
     pub toward: u16,
     pub last: u16,

@@ -1,4 +1,6 @@
 // What is known of each rule, made from the rows of the rules that it names and written into its row.
+#![tactic(auto)]
+
 ghost use Rattle.std.specs.Prelude.{◌≡◌};
 ghost use Rattle.work_rows.specs.Rows.{first_rules};
 ghost use Rattle.facts.specs.Facts.{Built, In};
@@ -12,7 +14,7 @@ use rule::Rule;
 use side::Side;
 
 // What is known of a rule.
-#[derive(Drop)]
+#[derive(Clone, Copy)]
 struct RuleFacts {
     representative: u16,
     empty: bool,

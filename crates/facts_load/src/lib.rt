@@ -1,4 +1,6 @@
 // What walk, compare and reason begin with: the rules of an accepted plan in the rows of work, and what is known of each.
+#![tactic(auto)]
+
 ghost use Rattle.std.specs.Prelude.{◌≡◌, ◌*◌, take};
 ghost use Rattle.plan.specs.Check.{rules_of};
 ghost use Rattle.reach.specs.Order.{Orders};

@@ -1,4 +1,6 @@
 // The grams of a plan (document 02, Note 8), without spreading it: the sum over all nodes of its forest of what each label's row says.
+#![tactic(auto)]
+
 ghost use Rattle.std.specs.Prelude.{ℕ, ◌≡◌};
 ghost use Rattle.count_capped.specs.Count.{capped, number_of};
 ghost use Rattle.grams.specs.Grams.{sum_judged, weighed, weighed_work};

@@ -1,4 +1,6 @@
 // The test of a plan's rules (document 01, "Check", refusals 4 to 7, and document 02, Note 1, refusal 12), which check and seal share.
+#![tactic(auto)]
+
 ghost use Rattle.std.specs.Prelude.{◌≡◌, ◌+◌, ◌*◌, ◌≤◌, ◌<◌, ◌&&◌, length, ltb};
 ghost use Rattle.record.specs.Record.{length_of_record};
 ghost use Rattle.rule.specs.Rule.{kind_empty, kind_pair, kind_node, closed, holed, tree, rules_in};
@@ -14,14 +16,14 @@ use refusal::Refusal;
 use rule::Rule;
 
 // What a test of rules comes to.
-#[derive(Drop)]
+#[derive(Clone, Copy)]
 pub enum Judged {
     Fine,
     Refused(Refusal),
 }
 
 // What the test of one rule comes to: it names only lower rules, or others too, or it is turned down.
-#[derive(Drop)]
+#[derive(Clone, Copy)]
 enum Tested {
     Lower,
     Mixed,
@@ -29,7 +31,7 @@ enum Tested {
 }
 
 // What the test of all rules comes to: each names only lower ones, or some name others too, or one is turned down.
-#[derive(Drop)]
+#[derive(Clone, Copy)]
 enum Rules {
     Lower,
     Mixed,

@@ -1,5 +1,7 @@
 // Which rules' labels a client may see (document 02, Note 6), and their grams (Note 8): a lent list of the labels' rows, looked up for each
 // rule in the rows of work.
+#![tactic(auto)]
+
 ghost use Rattle.std.specs.Prelude.{◌≡◌, cond, ◌+◌, ◌*◌, ◌≤◌, length};
 ghost use Rattle.model.specs.Walk.{label};
 ghost use Rattle.work_rows.specs.Rows.{row_length, rule_in};

@@ -1,5 +1,7 @@
 // Who may read which label (document 02, Note 5): a lent list of rows, walked once for gaps and overlaps, and searched for the row of a
 // label.
+#![tactic(auto)]
+
 ghost use Rattle.std.specs.Prelude.{◌≡◌, ◌+◌, ◌^◌, ◌<◌, ◌≤◌, if◌then◌else◌, nat_lt};
 ghost use Rattle.rule.specs.Rule.{largest_label};
 ghost use Rattle.label_rows.specs.Coverage.{invalid, extended, ended, coverage};
@@ -19,7 +21,7 @@ const BEYOND: usize = 8589934592;
 
 // A row of the list: the labels from the lowest to the highest have the class, and an entry with one of them weighs so many grams.
 #[repr(C)]
-#[derive(Drop)]
+#[derive(Clone, Copy)]
 pub struct LabelRow {
     pub lowest: u32,
     pub highest: u32,
@@ -28,28 +30,28 @@ pub struct LabelRow {
 }
 
 // What the check of a list comes to: its rows cover every label once, or why not.
-#[derive(Drop)]
+#[derive(Clone, Copy)]
 pub enum Coverage {
     Whole,
     Refused(Refusal),
 }
 
 // The class of a label, or why there is none.
-#[derive(Drop)]
+#[derive(Clone, Copy)]
 pub enum Classed {
     Class(u16),
     Refused(Refusal),
 }
 
 // The grams of a plan, or why it isn't weighed (document 02, Note 8).
-#[derive(Drop)]
+#[derive(Clone, Copy)]
 pub enum Weighed {
     Grams(u64),
     Refused(Refusal),
 }
 
 // How far the rows before some row cover the labels: those below a label, each once, or the first row at fault.
-#[derive(Drop)]
+#[derive(Clone, Copy)]
 pub enum Front {
     UpTo(u32),
     Refused(Refusal),

@@ -1,10 +1,12 @@
 // A letter, and the letter of a byte (document 01, "Letters").
+#![tactic(auto)]
+
 ghost use Rattle.std.specs.Prelude.{◌≡◌, ◌≤◌, ◌<◌};
 ghost use Rattle.forest.specs.Letter.{letter_of};
 ghost use Rattle.letter.specs.Letter.{read_as};
 
 // A letter.
-#[derive(Drop)]
+#[derive(Clone, Copy)]
 pub enum Letter {
     A,
     Z,
@@ -25,7 +27,7 @@ impl Letter {
 }
 
 // What a byte is: a letter, or something else.
-#[derive(Drop)]
+#[derive(Clone, Copy)]
 pub enum Read {
     Move(Letter),
     Other,

@@ -1,4 +1,6 @@
 // What a letter that leads to a node comes to: its cells are written, and its label is the answer.
+#![tactic(auto)]
+
 ghost use Rattle.std.specs.Prelude.{◌≡◌, length};
 ghost use Rattle.forest.specs.Letter.{Letter};
 ghost use Rattle.forest.specs.Place as place;
@@ -22,14 +24,14 @@ use rule::Rule;
 use side::Side;
 
 // Where a walk stands: the used cells and the standing rule, which change together.
-#[derive(Drop)]
+#[derive(Clone, Copy)]
 pub struct Standing {
     pub used: usize,
     pub rule: u16,
 }
 
 // What a letter comes to: where the walk stands then, and the answer.
-#[derive(Drop)]
+#[derive(Clone, Copy)]
 pub struct Landing {
     pub at: Standing,
     pub answer: u32,

@@ -1,5 +1,7 @@
 // What each letter comes to (document 01, "Letters"): where it leads is decided on the cells as they are, nowhere is dealt with first,
 // and then the cells are written.
+#![tactic(auto)]
+
 ghost use Rattle.std.specs.Prelude.{◌≡◌};
 ghost use Rattle.forest.specs.Letter as spec;
 ghost use Rattle.forest.specs.Walk.{nowhere};

@@ -1,4 +1,6 @@
 // Why a letter moves or doesn't from a place (document 02, Note 11), decided on the cells as they are. Nothing is written.
+#![tactic(auto)]
+
 ghost use Rattle.std.specs.Prelude.{◌≡◌, ◌<◌};
 ghost use Rattle.forest.specs.Letter as spec;
 ghost use Rattle.forest.specs.Walk.{cells_in};

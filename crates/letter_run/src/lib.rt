@@ -1,4 +1,6 @@
 // A string of letters from a place (document 01, "Letters").
+#![tactic(auto)]
+
 ghost use Rattle.letter_moves.specs.Standing.{Stands};
 ghost use Rattle.letter_run.specs.Ran.{Ran, Answerable};
 

@@ -1,4 +1,6 @@
 // One letter from a place: the state of a walk, and a function for each letter (document 01, "Letters").
+#![tactic(auto)]
+
 ghost use Rattle.letter.specs.Letter.{move_of};
 ghost use Rattle.letter_moves.specs.Standing.{Stands, Stepped};
 ghost use Rattle.letter_step.specs.Landed.{landed};

@@ -1,4 +1,6 @@
 // A list of label rows judged behind a plan (document 02, Note 5: "after the plan's own check where a plan is lent too").
+#![tactic(auto)]
+
 ghost use Rattle.std.specs.Prelude.{◌≡◌};
 ghost use Rattle.label_rows.specs.Coverage.{coverage};
 ghost use Rattle.list_judge.specs.Listed.{list_judged};

@@ -1,5 +1,7 @@
 // Listing (document 02, Note 14): prints, for bench trials, every plan of up to three rules with labels 0, one a line in hexadecimal. What
 // it prints is plan_list's `list_output`; which plans these are is plan_list's `members`.
+#![tactic(auto)]
+
 ghost use Rattle.std.specs.Prelude.{◌≡◌, [], ◌∷◌, ◌+◌, ◌*◌, ◌≤◌, ◌<◌, length, drop};
 ghost use Rattle.decimal.specs.Put.{Put, Next};
 ghost use Rattle.plan.specs.Check.{checked};

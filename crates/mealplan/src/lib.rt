@@ -1,5 +1,7 @@
 // The C interface: each function takes byte slices and numbers apart for one of the operations and gives its answer as numbers.
 // include/mealplan.h says the same to a C programmer.
+#![tactic(auto)]
+
 ghost use Rattle.std.specs.Prelude.{◌≡◌};
 ghost use Rattle.plan.specs.Check.{checked};
 ghost use Rattle.seal.specs.Seal.{sealed, sealed_output};

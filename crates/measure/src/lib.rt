@@ -1,4 +1,6 @@
 // Measure (document 01): the trees, entries and levels of a plan's forest.
+#![tactic(auto)]
+
 ghost use Rattle.std.specs.Prelude.{◌≡◌};
 ghost use Rattle.forest.specs.Outcome.{measured, measured_work};
 ghost use Rattle.count_all.specs.Rows.{Countable};

@@ -1,4 +1,6 @@
 // The pieces of a move: what stands beside within a row or spine, the tree that is entered, the ways into a hole and out of it.
+#![tactic(auto)]
+
 ghost use Rattle.std.specs.Prelude.{◌≡◌, ℕ, List};
 ghost use Rattle.std.proofs.Math.Option.{map};
 ghost use Rattle.forest.specs.Place as place;
@@ -16,14 +18,14 @@ use rule::Rule;
 use side::Side;
 
 // The rule above the last of a run that turns, if one does.
-#[derive(Drop)]
+#[derive(Clone, Copy)]
 pub enum Above {
     Rule(u16),
     Off,
 }
 
 // The part in whose hole a node stands, if it stands in one: a run that turns, or cells that are kept, and its rule.
-#[derive(Drop)]
+#[derive(Clone, Copy)]
 pub enum Reach {
     Turn { keep: usize, above: u16 },
     Kept { keep: usize, rule: u16 },
@@ -33,7 +35,7 @@ pub enum Reach {
 // What a letter changes: the number of cells that it keeps, and what the others are made of. A run on top that turns is one step
 // shorter then, with a step from the rule above its last, and the longest run back; a tree is opened by its spine, and a row with a
 // number by its opening over a representative.
-#[derive(Drop)]
+#[derive(Clone, Copy)]
 pub enum Change {
     Kept {
         keep: usize,
@@ -65,7 +67,7 @@ pub enum Change {
 }
 
 // Where a letter leads.
-#[derive(Drop)]
+#[derive(Clone, Copy)]
 pub enum Outcome {
     Node(Change),
     Nowhere,

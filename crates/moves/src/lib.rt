@@ -1,4 +1,6 @@
 // The moves on the cells of the stored place, by the table in the lent work.
+#![tactic(auto)]
+
 ghost use Rattle.std.specs.Prelude.{◌≡◌, ℕ, List, not, ◌&&◌, eqb};
 ghost use Rattle.std.proofs.Math.Option.{some};
 ghost use Rattle.forest.specs.Place as place;
@@ -25,14 +27,14 @@ use rule::Rule;
 use side::Side;
 
 // An L or R: over its representative, if it has a tree.
-#[derive(Drop)]
+#[derive(Clone, Copy)]
 enum Arm {
     Over(u16),
     Empty,
 }
 
 // Where ↑(v) = u, the L or R of u: it has a tree, with what leads there, or it is empty. Off where ↑(v) = ⊥.
-#[derive(Drop)]
+#[derive(Clone, Copy)]
 enum UpArm {
     HasTree(Change),
     IsEmpty,

@@ -1,4 +1,6 @@
 // The lines of a page (document 02, Note 13), written into a lent slice; each writer gives the offset after what it wrote.
+#![tactic(auto)]
+
 ghost use Rattle.std.specs.Prelude.{◌≡◌, ◌+◌, ◌*◌, ◌≤◌, length, replicate};
 ghost use Rattle.decimal.specs.Decimal.{decimal};
 ghost use Rattle.decimal.specs.Put.{Put};

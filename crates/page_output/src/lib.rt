@@ -1,4 +1,6 @@
 // What pages prints (document 02, Note 13): a log judged whole, and a page of it.
+#![tactic(auto)]
+
 ghost use Rattle.std.specs.Prelude.{◌≡◌, ℕ, ◌*◌, ◌≤◌, length};
 ghost use Rattle.plan.specs.Check.{rules_of};
 ghost use Rattle.forest.specs.Forest.{forest};

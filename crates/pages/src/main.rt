@@ -1,5 +1,7 @@
 // Pages (document 02, Note 13): walks the plan in file plan.bin by the log of letters in file keys.log, from above the forest, and prints it
 // on pages. What it prints is page_output's `pages_output`; here it is read, and written page by page.
+#![tactic(auto)]
+
 ghost use Rattle.std.specs.Prelude.{◌≡◌, [], ◌+◌, ◌<◌, ◌≤◌, length, drop};
 ghost use Rattle.io.specs.Counts.{IsPrefixLen};
 ghost use Rattle.decimal.specs.Put.{Next};

@@ -1,4 +1,6 @@
 // The cells of the stored place, in the lent cursor: what each holds, and how they change.
+#![tactic(auto)]
+
 ghost use Rattle.std.specs.Prelude.{◌≡◌, ℕ, ◌+◌, ◌*◌, ◌≤◌, List, length};
 ghost use Rattle.words.specs.Put.{put};
 ghost use Rattle.record.specs.Record.{word_length};
@@ -12,7 +14,7 @@ ghost use Rattle.place_cells.specs.Changes.{add, high, Wrote};
 use side::Side;
 
 // The four 16-bit words of a cell.
-#[derive(Drop)]
+#[derive(Clone, Copy)]
 pub struct Cell {
     pub kind: u16,
     pub one: u16,

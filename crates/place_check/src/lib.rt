@@ -1,4 +1,6 @@
 // The test of stored cells: one pass from cell 1 up, by the table in the lent work.
+#![tactic(auto)]
+
 ghost use Rattle.std.specs.Prelude.{◌≡◌};
 ghost use Rattle.forest.specs.Walk.{cells_in};
 ghost use Rattle.model.specs.Model.{inner_of};
@@ -15,7 +17,7 @@ use side::Side;
 use work_rows::Row;
 
 // A rule, or nothing.
-#[derive(Drop)]
+#[derive(Clone, Copy)]
 enum Found {
     Rule(u16),
     Nothing,
@@ -23,7 +25,7 @@ enum Found {
 
 // What the cells so far lead to: above the forest; or a rule, the kind of the last cell, and the tree that the spine opens if the
 // rule is its last part; or wrong.
-#[derive(Drop)]
+#[derive(Clone, Copy)]
 enum State {
     Above,
     At { rule: u16, kind: u16, inner: Found },

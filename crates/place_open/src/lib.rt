@@ -1,4 +1,6 @@
 // The stored place opened: judged (document 01, "Walk", refusal 10), and where the walk then stands. Nothing is written.
+#![tactic(auto)]
+
 ghost use Rattle.std.specs.Prelude.{◌≡◌};
 ghost use Rattle.rule.specs.Rule.{encode, closed};
 ghost use Rattle.forest.specs.Walk.{cells_in, rule_named};
@@ -13,7 +15,7 @@ use refusal::Refusal;
 use rule::Rule;
 
 // What a stored place comes to: the rule whose forest is walked and where the walk stands in it, or the refusal.
-#[derive(Drop)]
+#[derive(Clone, Copy)]
 pub enum Opened {
     At { walked: u16, at: Standing },
     Refused(Refusal),

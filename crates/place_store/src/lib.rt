@@ -1,4 +1,6 @@
 // The stored place: its number of used cells in cell 0 with the word that names the walked rule, and zeros past them.
+#![tactic(auto)]
+
 ghost use Rattle.std.specs.Prelude.{◌≡◌, ◌+◌, ◌*◌, ◌%◌, ◌≤◌, length};
 ghost use Rattle.forest.specs.Walk.{cell_length, cell_at, cells_in, headed, stored_cursor};
 ghost use Rattle.place_cells.specs.Cells.{cell, put_cell, cursor_length};
@@ -18,7 +20,7 @@ fn clear_past(cursor: &mut [u8], k: usize, n: u16)
 }
 
 // Cell 0: the number of used cells, the word that names the walked rule (document 02, Note 10), then two words, which are 0.
-#[derive(Drop)]
+#[derive(Clone, Copy)]
 pub struct Head {
     pub used: u16,
     pub word: u16,

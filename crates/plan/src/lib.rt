@@ -1,4 +1,6 @@
 // The plan's format (document 01, "A plan's bytes" and "Check", and document 02, Note 2): the trailer and check.
+#![tactic(auto)]
+
 ghost use Rattle.std.specs.Prelude.{◌≡◌, ◌++◌, ◌+◌, ◌-◌, ◌*◌, ◌≤◌, length, take, drop, ◌&&◌, leb, eqb};
 ghost use Rattle.std.proofs.lemmas.List.Edits.{sets};
 ghost use Rattle.record.specs.Format.{length_of_record};
@@ -13,21 +15,21 @@ use record::Format;
 use refusal::Refusal;
 
 // What check answers: document 01's n and start, or the refusal.
-#[derive(Drop)]
+#[derive(Clone, Copy)]
 pub enum Checked {
     Accepted { n: u16, start: u16 },
     Refused(Refusal),
 }
 
 // What an operation answers that writes bytes: how many it wrote, or the refusal.
-#[derive(Drop)]
+#[derive(Clone, Copy)]
 pub enum Written {
     Length(usize),
     Refused(Refusal),
 }
 
 // The last bytes of a plan: how many rules, the start rule, and how far back the first rule is.
-#[derive(Drop)]
+#[derive(Clone, Copy)]
 pub struct Trailer {
     n: u16,
     start: u16,

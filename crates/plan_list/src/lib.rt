@@ -1,1 +1,3 @@
 // Every plan of up to three rules with labels 0, in order (specs/), and that it is all of them, each once (proofs/).
+#![tactic(auto)]
+

@@ -1,4 +1,6 @@
 // An order of a plan's rules in which each stands after those that it names, or a rule that reaches itself (document 02, Note 1).
+#![tactic(auto)]
+
 ghost use Rattle.std.specs.Prelude.{◌≡◌, ◌+◌, ◌*◌, ◌≤◌, ◌<◌, length};
 ghost use Rattle.std.proofs.Math.Option.{some};
 ghost use Rattle.words.specs.Within.{Within};
@@ -13,14 +15,14 @@ use record::{Format, Record};
 use rule::{Decoded, Rule};
 
 // The rules that a rule names: none, or two, which may be the same.
-#[derive(Drop)]
+#[derive(Clone, Copy)]
 enum Named {
     None,
     Two(u16, u16),
 }
 
 // What the rules that the top of the stack names ask for: that one is opened first, the end since one is open, or that the top is closed.
-#[derive(Drop)]
+#[derive(Clone, Copy)]
 enum Next {
     Open(u16),
     Stop,
@@ -28,7 +30,7 @@ enum Next {
 }
 
 // What a turn of the search did.
-#[derive(Drop)]
+#[derive(Clone, Copy)]
 enum Step {
     Opened,
     Closed,
@@ -36,7 +38,7 @@ enum Step {
 }
 
 // What the search from one rule came to: so many rules are done, or some rule reaches itself.
-#[derive(Drop)]
+#[derive(Clone, Copy)]
 enum Searched {
     Done(usize),
     Cycle,

@@ -1,4 +1,6 @@
 // Why a key does nothing (document 02, Note 11): for a plan, a cursor and one letter, which of the reasons holds. The cursor is only read.
+#![tactic(auto)]
+
 ghost use Rattle.std.specs.Prelude.{◌≡◌, ◌*◌};
 ghost use Rattle.plan.specs.Check.{rules_of};
 ghost use Rattle.forest.specs.Letter.{letter_of};

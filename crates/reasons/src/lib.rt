@@ -1,11 +1,13 @@
 // Why a key does nothing (document 02, Note 11): the reasons, and what is answered to who asks.
+#![tactic(auto)]
+
 ghost use Rattle.std.specs.Prelude.{◌≡◌};
 ghost use Rattle.reasons.specs.Reason.{number_of};
 
 use refusal::Refusal;
 
 // Why a letter moves or doesn't; specs/Reason.antt gives the number that document 02 has for each.
-#[derive(Drop)]
+#[derive(Clone, Copy)]
 pub enum Reason {
     Moves,
     Above,
@@ -17,7 +19,7 @@ pub enum Reason {
 }
 
 // What reason answers: why, or the refusal.
-#[derive(Drop)]
+#[derive(Clone, Copy)]
 pub enum Reasoned {
     Because(Reason),
     Refused(Refusal),

@@ -1,4 +1,6 @@
 // A rule's record (document 01, "A plan's bytes", and document 02, Note 2): its words as they stand in the bytes.
+#![tactic(auto)]
+
 ghost use Rattle.std.specs.Prelude.{◌≡◌, ◌++◌, ◌+◌, ◌*◌, ◌≤◌, length, take, drop};
 ghost use Rattle.words.specs.Front.{in_front};
 ghost use Rattle.words.specs.Number.{number};
@@ -8,7 +10,7 @@ ghost use Rattle.record.specs.Record.{record_at, record_bytes};
 ghost use Rattle.record.specs.Records.{records_from, records_bytes};
 
 // The formats of a plan: rules of four words with labels of a byte, or rules of five with labels of three bytes (document 02, Note 2).
-#[derive(Drop)]
+#[derive(Clone, Copy)]
 pub enum Format {
     Narrow,
     Wide,
@@ -84,7 +86,7 @@ impl Format {
 }
 
 // The 16-bit words of a rule; the fifth is 0 where rules have four.
-#[derive(Drop)]
+#[derive(Clone, Copy)]
 pub struct Record {
     pub kind: u16,
     pub one: u16,

@@ -1,9 +1,11 @@
 // Why an operation turns its input down (document 01, "Operations and what they turn down"): one type for all of them.
+#![tactic(auto)]
+
 ghost use Rattle.std.specs.Prelude.{◌≡◌};
 ghost use Rattle.refusal.specs.Refusal.{number_of, position_of};
 
 // Why an operation turns its input down; specs/Refusal.antt gives the number and position that documents 01 and 02 have for each.
-#[derive(Drop)]
+#[derive(Clone, Copy)]
 pub enum Refusal {
     Magic,
     Count,

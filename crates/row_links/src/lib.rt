@@ -1,5 +1,7 @@
 // Links to the openings of rows, in the cursor behind the cells of a place: the link of a row's opening leads to the opening of the
 // row below it, and the link of cell 0 to that of the row which the place ends in.
+#![tactic(auto)]
+
 ghost use Rattle.std.specs.Prelude.{◌≡◌, ◌+◌, ◌-◌, ◌*◌, ◌≤◌, ◌<◌, length};
 ghost use Rattle.words.specs.Put.{put};
 ghost use Rattle.record.specs.Record.{word_length};

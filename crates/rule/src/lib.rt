@@ -1,4 +1,6 @@
 // The rule of a plan (document 01, "A plan's bytes", and document 02, Note 2): what a record means, by the table of kinds.
+#![tactic(auto)]
+
 ghost use Rattle.std.specs.Prelude.{◌≡◌, ◌<◌, ◌&&◌, leb, ltb};
 ghost use Rattle.record.specs.Format.{most_label};
 ghost use Rattle.rule.specs.Rule.{kind_node, label_in, decode, whole};
@@ -6,7 +8,7 @@ ghost use Rattle.rule.specs.Rule.{kind_node, label_in, decode, whole};
 use record::{Format, Record};
 
 // A rule as the paper's right-hand side; the numbers are those of the rules it names.
-#[derive(Drop)]
+#[derive(Clone, Copy)]
 pub enum Rule {
     Empty,
     Pair { first: u16, second: u16 },
@@ -17,7 +19,7 @@ pub enum Rule {
 }
 
 // What a record means: a rule, or none.
-#[derive(Drop)]
+#[derive(Clone, Copy)]
 pub enum Decoded {
     Whole(Rule),
     Malformed,

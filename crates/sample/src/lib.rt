@@ -1,5 +1,7 @@
 // The sample plan: 0 empty; 1 node 97 over 0; 2 node 98 over 0; 3 pair 1 2; 4 node 99 over 3, hole, 2; 5 = 4 filled by 4;
 // 6 = 5 filled by 1; 7 pair 6 3; start 7.
+#![tactic(auto)]
+
 ghost use Rattle.std.specs.Prelude.{◌≡◌};
 ghost use Rattle.forest.specs.Sample.{sample};
 

@@ -1,4 +1,6 @@
 // Document 01, "Seal", and document 02, Note 2.
+#![tactic(auto)]
+
 ghost use Rattle.std.specs.Prelude.{ℕ, ◌*◌, ◌%◌, ◌≤◌, ◌≡◌, ◌&&◌, List, length, eqb};
 ghost use Rattle.words.specs.Number.{word_count};
 ghost use Rattle.record.specs.Format.{length_of_record, record_words};

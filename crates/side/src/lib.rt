@@ -1,10 +1,12 @@
 // Left and right, as every move and every link of a row has them.
+#![tactic(auto)]
+
 ghost use Rattle.std.specs.Prelude.{◌≡◌};
 ghost use Rattle.forest.specs.Sides.{other, pick};
 ghost use Rattle.side.specs.Side.{side_of};
 
 // Left and right.
-#[derive(Drop)]
+#[derive(Clone, Copy)]
 pub enum Side {
     Left,
     Right,

@@ -1,4 +1,6 @@
 // Spread (document 01): the text of a plan's forest.
+#![tactic(auto)]
+
 ghost use Rattle.std.specs.Prelude.{◌≡◌};
 ghost use Rattle.spread.specs.Answer.{Fitting, Answerable, Answered};
 ghost use Rattle.forest.specs.Outcome.{spread, measured_work, spread_output};

@@ -1,4 +1,6 @@
 // The tasks of spread (document 01): one for each whole rule, and the stack of those still to be done.
+#![tactic(auto)]
+
 ghost use Rattle.std.specs.Prelude.{◌≡◌, ◌+◌, ◌*◌, ◌≤◌, length};
 ghost use Rattle.words.specs.Put.{put};
 ghost use Rattle.record.specs.Format.{label_length};
@@ -13,7 +15,7 @@ use spread_step::{Said, Step};
 use work_rows::Row;
 
 // How far spread has come: the task in hand, how many tasks there are with it, and bytes written.
-#[derive(Drop)]
+#[derive(Clone, Copy)]
 struct State {
     task: u16,
     tasks: usize,

@@ -1,4 +1,6 @@
 // What a task of spread (document 01) comes to: bytes to write, and up to three tasks to do after them.
+#![tactic(auto)]
+
 ghost use Rattle.std.specs.Prelude.{◌≡◌, cond, ℕ, ◌+◌, ◌*◌, ◌≤◌, ◌<◌, eqb, length};
 ghost use Rattle.rule.specs.declared.Rule.{Rule};
 ghost use Rattle.work_rows.specs.Rows.{row_length};
@@ -9,7 +11,7 @@ use rule::Rule;
 use work_rows::Row;
 
 // What a step writes.
-#[derive(Drop)]
+#[derive(Clone, Copy)]
 pub enum Said {
     Nothing,
     Opening(u32),
@@ -17,7 +19,7 @@ pub enum Said {
 }
 
 // What a task comes to: bytes to write, and up to three tasks to do after them, the last one first.
-#[derive(Drop)]
+#[derive(Clone, Copy)]
 pub struct Step {
     pub said: Said,
     pub low: u16,

@@ -1,5 +1,7 @@
 // Stroll (document 01, "One sample plan"): walks the plan in file plan.bin by the letters on standard input, from above the
 // forest, and prints a line for each. What it prints is the contract of stroll_output::stroll; here it is read and written.
+#![tactic(auto)]
+
 ghost use Rattle.io.specs.Counts.{IsPrefixLen};
 
 use libc::{STDIN_FILENO, STDOUT_FILENO};

@@ -1,5 +1,7 @@
 // The lines of letters and of a refusal (document 01, "One sample plan"), written into a lent slice; each writer gives the offset
 // after what it wrote.
+#![tactic(auto)]
+
 ghost use Rattle.std.specs.Prelude.{◌+◌, ◌*◌, ◌≤◌, length};
 ghost use Rattle.forest.specs.Walk.{answer_length};
 ghost use Rattle.stroll_line.specs.Lines.{shown, line, lines, refused_line, refused_length};

@@ -1,4 +1,6 @@
 // The lines that stroll prints (document 01, "One sample plan").
+#![tactic(auto)]
+
 ghost use Rattle.std.specs.Prelude.{◌*◌, ◌≤◌, length};
 ghost use Rattle.plan.specs.Check.{checked_up_to};
 ghost use Rattle.forest.specs.Walk.{answer_length};

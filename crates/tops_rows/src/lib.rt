@@ -1,4 +1,6 @@
 // The trees of each rule in a word of its row of work, and of a rule with a hole the nodes above the hole (document 02, Note 12).
+#![tactic(auto)]
+
 ghost use Rattle.std.specs.Prelude.{◌≡◌, ◌+◌, ◌*◌, ◌≤◌, length};
 ghost use Rattle.work_rows.specs.Rows.{row_length};
 ghost use Rattle.count_passes.specs.Tally.{Ready, NamedRows, Readable};

@@ -1,4 +1,6 @@
 // The path of the node that a place's cells lead to (document 02, Note 12), read off the cells by counts of trees; nothing is written but the path.
+#![tactic(auto)]
+
 ghost use Rattle.std.specs.Prelude.{◌≡◌, List, ℕ, ◌+◌, ◌-◌, ◌<◌, ◌≤◌, min, length, get_or};
 ghost use Rattle.forest.specs.Good.{Sort, Good};
 ghost use Rattle.forest.specs.Walk.{cell_at, cells_in};
@@ -14,21 +16,21 @@ use rule::Rule;
 use side::Side;
 
 // How far the cells up to one lead: the trees before the spot among its siblings, and the levels above it, whose numbers are written; or too far.
-#[derive(Drop)]
+#[derive(Clone, Copy)]
 enum Climbed {
     At { before: u16, levels: usize },
     Far,
 }
 
 // A node's path: how many levels are written, or that it is too far.
-#[derive(Drop)]
+#[derive(Clone, Copy)]
 pub enum Traced {
     Levels(usize),
     Far,
 }
 
 // A part of a join: a part of one of its sides. Of a part: the trees before its hole.
-#[derive(Drop)]
+#[derive(Clone, Copy)]
 enum Down {
     On { rule: u16, part: u16 },
     Before(u16),

@@ -1,4 +1,6 @@
 // A path followed in a forest as far as each step exists (document 02, Note 12), by counts of trees, and the place stored where it stops.
+#![tactic(auto)]
+
 ghost use Rattle.std.specs.Prelude.{◌≡◌, [], ◌<◌};
 ghost use Rattle.words.specs.Words.{words_at};
 ghost use Rattle.forest.specs.Forest.{forest};
@@ -17,7 +19,7 @@ use place_cells::Cell;
 use rule::Rule;
 
 // Where a child with a number stands: in a row with a number of a rule, behind so many of its trees; in the hole; or nowhere.
-#[derive(Drop)]
+#[derive(Clone, Copy)]
 enum Branch {
     Row { number: u16, rule: u16, rest: u16 },
     Hole,
@@ -25,7 +27,7 @@ enum Branch {
 }
 
 // One level taken, or missing.
-#[derive(Drop)]
+#[derive(Clone, Copy)]
 enum Step {
     There(Standing),
     Missing,

@@ -1,4 +1,6 @@
 // The node with a number in a row (document 02, Note 12), reached by counts of trees: step by step down the row's pairs, and its tree opened.
+#![tactic(auto)]
+
 ghost use Rattle.std.specs.Prelude.{ℕ, ◌+◌, ◌<◌};
 ghost use Rattle.forest.specs.Place.{step};
 ghost use Rattle.forest.specs.Walk.{cells_in};
@@ -20,7 +22,7 @@ use rule::Rule;
 use side::Side;
 
 // Where a tree of a rule stands: on a side, behind so many trees of that side's rule; or the rule is the tree's.
-#[derive(Drop)]
+#[derive(Clone, Copy)]
 enum Turn {
     On { side: Side, to: u16, rest: u16 },
     Tree,

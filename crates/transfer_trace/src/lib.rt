@@ -1,4 +1,6 @@
 // The path of the node that a stored place leads to (document 02, Note 12), past the tests of the plan and of what is lent with it.
+#![tactic(auto)]
+
 ghost use Rattle.std.specs.Prelude.{◌*◌};
 ghost use Rattle.plan.specs.Check.{rules_of};
 ghost use Rattle.forest.specs.Walk.{place_judged};
@@ -12,7 +14,7 @@ use transfer_climb::Traced;
 use work_rows::Row;
 
 // Where a place is taken over from: the path of its node, or why the place is turned down.
-#[derive(Drop)]
+#[derive(Clone, Copy)]
 pub enum Origin {
     From(Traced),
     Refused(Refusal),

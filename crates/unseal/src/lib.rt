@@ -1,4 +1,6 @@
 // Document 01, "Unseal", and document 02, Note 2.
+#![tactic(auto)]
+
 ghost use Rattle.std.specs.Prelude.{◌*◌, ◌≡◌, leb};
 ghost use Rattle.words.specs.Number.{word_count};
 ghost use Rattle.record.specs.Format.{record_words};
@@ -9,7 +11,7 @@ use record::{Format, copy_records};
 use refusal::Refusal;
 
 // What unseal answers: the record length that seal is told, document 01's n and start, or the refusal.
-#[derive(Drop)]
+#[derive(Clone, Copy)]
 pub enum Unsealed {
     Words { length: u16, n: u16, start: u16 },
     Refused(Refusal),

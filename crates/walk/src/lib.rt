@@ -1,4 +1,6 @@
 // Walk (document 01).
+#![tactic(auto)]
+
 ghost use Rattle.std.specs.Prelude.{◌≡◌, ◌*◌};
 ghost use Rattle.plan.specs.declared.Checked.{Checked};
 ghost use Rattle.plan.specs.Check.{checked, rules_of};

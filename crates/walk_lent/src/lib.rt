@@ -1,4 +1,6 @@
 // What a walk is lent, tested: enough of each slice (8), and no byte that is no letter (9); and what is lent where no letters are answered.
+#![tactic(auto)]
+
 ghost use Rattle.std.specs.Prelude.{◌≡◌};
 ghost use Rattle.plan.specs.Check.{checked};
 ghost use Rattle.forest.specs.Walk.{first_other, enough_cursor, enough_answers, enough_lent, lent_judged};
@@ -10,7 +12,7 @@ use plan::Checked;
 use refusal::Refusal;
 
 // Where the first byte that is no letter stands, if there is one.
-#[derive(Drop)]
+#[derive(Clone, Copy)]
 pub enum Found {
     At(usize),
     Nothing,

@@ -1,1 +1,3 @@
 // A log of letters walked in parts (specs/Parted.antt): definitions and theorems alone.
+#![tactic(auto)]
+

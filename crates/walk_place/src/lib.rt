@@ -1,4 +1,6 @@
 // Letters from the stored place, on the rows of the rules: the place is judged, the letters run, and the new place is stored.
+#![tactic(auto)]
+
 ghost use Rattle.forest.specs.Walk.{place_judged};
 ghost use Rattle.letter_moves.specs.Standing.{rules_kept};
 ghost use Rattle.walk_place.specs.Travel.{Travels, Walks};

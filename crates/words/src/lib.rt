@@ -1,4 +1,6 @@
 // Words inside a byte slice, low byte first.
+#![tactic(auto)]
+
 ghost use Rattle.std.specs.Prelude.{◌≡◌, ◌+◌, ◌≤◌, ◌<◌, length};
 ghost use Rattle.words.specs.Number.{number, word_count};
 ghost use Rattle.words.specs.Put.{put};

@@ -1,5 +1,7 @@
 // What every operation that is lent work begins with: a plan's rules in the rows of the work, and behind them an order in which each stands
 // after those that it names; for measure and spread with their refusals (document 01, "As check; 8").
+#![tactic(auto)]
+
 ghost use Rattle.std.specs.Prelude.{◌≡◌};
 ghost use Rattle.plan.specs.Check.{checked, rules_of};
 ghost use Rattle.reach.specs.Order.{lower_below};

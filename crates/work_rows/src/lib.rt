@@ -1,4 +1,6 @@
 // The rows of the lent work: a row for each rule, which begins with the rule itself.
+#![tactic(auto)]
+
 ghost use Rattle.std.specs.Prelude.{◌≡◌, ◌+◌, ◌-◌, ◌*◌, ◌≤◌, ◌<◌, length, get_or, eqb, ltb, ◌&&◌, ◌||◌};
 ghost use Rattle.record.specs.Format.{word_length, length_of_record};
 ghost use Rattle.rule.specs.Rule.{kind_empty, rules_in};
@@ -16,7 +18,7 @@ use record::{Format, Record};
 use rule::Rule;
 
 // What a row keeps of its rule: the kind, the label and the rules named.
-#[derive(Drop)]
+#[derive(Clone, Copy)]
 pub struct Row {
     kind: u16,
     label: u32,
