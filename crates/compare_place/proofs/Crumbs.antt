@@ -14,7 +14,7 @@ use Rattle.forest.specs.Position.{Position, At, Where, continues}
 -- the left steps of a spine's crumbs
 unfoldable pub lefts : Position → ℕ
 lefts (Position.start e) = 0
-lefts (Position.Node-row r a c z) = 0
+lefts (Position.node_row r a c z) = 0
 lefts (Position.part_row s r a b c z) = 0
 lefts (Position.pair_side s r b c z) = 0
 lefts (Position.node_spine r a c z) = 0
@@ -38,7 +38,7 @@ pub record Low (Q : Expression → Type 0) (N k : ℕ) (e : Expression) : Type 0
 -- of what stands in the hole at z
 abbrev pub Crumbed : (Expression → Type 0) → ℕ → Position → Type 0
 Crumbed Q N (Position.start e) = Unit {0}
-Crumbed Q N (Position.Node-row r a c z) = Unit {0}
+Crumbed Q N (Position.node_row r a c z) = Unit {0}
 Crumbed Q N (Position.part_row s r a b c z) = Unit {0}
 Crumbed Q N (Position.pair_side s r b c z) = Unit {0}
 Crumbed Q N (Position.node_spine r a c z) = Unit {0}
@@ -65,7 +65,7 @@ module _ (Q : Expression → Type 0) (N : ℕ) where
   crumbed-continues : (z : Position) (e : Expression) → Crumbed Q N z → continues z ≡ some e → Low Q N 0 e
   unfolding continues
   crumbed-continues (Position.start d) e x q = absurd (none-ne-some e q)
-  crumbed-continues (Position.Node-row r a c z) e x q = absurd (none-ne-some e q)
+  crumbed-continues (Position.node_row r a c z) e x q = absurd (none-ne-some e q)
   crumbed-continues (Position.part_row s r a b c z) e x q = absurd (none-ne-some e q)
   crumbed-continues (Position.pair_side s r b c z) e x q = absurd (none-ne-some e q)
   crumbed-continues (Position.node_spine r a c z) e x q = absurd (none-ne-some e q)

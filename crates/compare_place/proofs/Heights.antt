@@ -83,7 +83,7 @@ ruled-inside E n =
 hole-length : (z : Position) → length (part_tasks (in_hole z)) ≤ 2 * lefts z + 1
 unfolding in_hole lefts
 hole-length (Position.start e) = omega arith
-hole-length (Position.Node-row r a c z) = omega arith
+hole-length (Position.node_row r a c z) = omega arith
 hole-length (Position.part_row s r a b c z) = omega arith
 hole-length (Position.pair_side s r b c z) = omega arith
 hole-length (Position.node_spine r a c z) = omega arith
@@ -123,7 +123,7 @@ module _ (E : ℕ → Expression) (n : ℕ) where
       → Stacked E n (3 * n) (part_tasks (in_hole z) ++ vs)
   unfolding in_hole lefts
   hole-stacked (Position.start e) k vs h s = s
-  hole-stacked (Position.Node-row r a c z) k vs h s = s
+  hole-stacked (Position.node_row r a c z) k vs h s = s
   hole-stacked (Position.part_row t r a b c z) k vs h s = s
   hole-stacked (Position.pair_side t r b c z) k vs h s = s
   hole-stacked (Position.node_spine r a c z) k vs h s = s
@@ -163,7 +163,7 @@ module _ (E : ℕ → Expression) (n : ℕ) where
   hole-wordable : (z : Position) → Crumbed (Ruled E n) n z → AllWordable E (in_hole z)
   unfolding in_hole
   hole-wordable (Position.start e) k = tt
-  hole-wordable (Position.Node-row r a c z) k = tt
+  hole-wordable (Position.node_row r a c z) k = tt
   hole-wordable (Position.part_row s r a b c z) k = tt
   hole-wordable (Position.pair_side s r b c z) k = tt
   hole-wordable (Position.node_spine r a c z) k = tt

@@ -43,7 +43,7 @@ module _ (x : Spelling) where
   pub hole-spoken : (z : Position) → Crumbs z → parts_spoken x (in_hole z) ≡ spelled x (trees (filling z))
   unfolding in_hole filling parts_spoken spelled trees
   hole-spoken (Position.start e) k = refl
-  hole-spoken (Position.Node-row r a c z) k = refl
+  hole-spoken (Position.node_row r a c z) k = refl
   hole-spoken (Position.part_row s r a b c z) k = refl
   hole-spoken (Position.pair_side s r b c z) k = refl
   hole-spoken (Position.node_spine r a c z) k = refl

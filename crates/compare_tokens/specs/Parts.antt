@@ -19,7 +19,7 @@ around x y zs = x ∷ (zs ++ (y ∷ []))
 -- what stands in the hole of the part at z: a fill's C; at the left of a join, the join's C around what stands in the join's own hole
 unfoldable pub in_hole : Position → List Part
 in_hole (Position.start e) = []
-in_hole (Position.Node-row r a c z) = []
+in_hole (Position.node_row r a c z) = []
 in_hole (Position.part_row s r a b c z) = []
 in_hole (Position.pair_side s r b c z) = []
 in_hole (Position.node_spine r a c z) = []

@@ -267,7 +267,7 @@ module _ (v : ℕ → Bool) {R : List Rule} {rank : ℕ → ℕ} (S : Sound R ra
     sided-from Rule.Empty e s y f =
         closed-sided r Rule.Empty Rule.Empty (fit-empty) (unfold closed encode in tt) (λ u. u)
     sided-from (Rule.Pair b c) e s y f =
-        sided-pair b c (f b Names.Pair-one) (f c Names.pair_two) (T-left (closed (kind_in R b)) (closed (kind_in R c)) s) (T-right (closed (kind_in R b)) (closed (kind_in R c)) s)
+        sided-pair b c (f b Names.pair_one) (f c Names.pair_two) (T-left (closed (kind_in R b)) (closed (kind_in R c)) s) (T-right (closed (kind_in R b)) (closed (kind_in R c)) s)
     sided-from (Rule.Node a c) e s y f = sided-node a c (f c Names.node_one) s y
     sided-from (Rule.Fill b c) e s y f =
         sided-fill b c (f b Names.fill_one) (f c Names.fill_two) (T-left (holed (kind_in R b)) (tree (kind_in R c)) s) (T-right (holed (kind_in R b)) (tree (kind_in R c)) s)

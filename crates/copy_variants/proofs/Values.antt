@@ -178,7 +178,7 @@ module _ (v : ℕ → Bool) {R : List Rule} {rank : ℕ → ℕ} (S : Sound R ra
     means-from (Rule.Pair b c) e s q f =
         unfold variants_from meaning in
         closed-means (Rule.Pair (whole_name b) (whole_name c)) (value (expression R b) · value (expression R c)) (q tt)
-        (ap₂ ◌·◌ (whole-value b (f b Names.Pair-one).0 (f b Names.Pair-one).1) (whole-value c (f c Names.pair_two).0 (f c Names.pair_two).1)
+        (ap₂ ◌·◌ (whole-value b (f b Names.pair_one).0 (f b Names.pair_one).1) (whole-value c (f c Names.pair_two).0 (f c Names.pair_two).1)
         ∙ sym (shown-concat v (value (expression R b)) (value (expression R c))))
     means-from (Rule.Node a c) e s q f =
         unfold variants_from in

@@ -28,7 +28,7 @@ module _ (t : List ℕ) (r b c : ℕ) where
 
   -- what the steps look at is there
   pub pair-both : Ready (Rule.Pair b c) t → BothSteps t ((facts_in t).representative b) ((facts_in t).representative c)
-  pair-both h = record { left = (h.reads b Names.Pair-one).represents Side.left; right = (h.reads c Names.pair_two).represents Side.right }
+  pair-both h = record { left = (h.reads b Names.pair_one).represents Side.left; right = (h.reads c Names.pair_two).represents Side.right }
 
   pub join-both : Ready (Rule.Join b c) t → BothSteps t b c
   join-both h = record { left = (h.reads b Names.join_one).steps Side.left; right = (h.reads c Names.join_two).steps Side.right }

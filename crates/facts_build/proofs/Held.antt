@@ -123,7 +123,7 @@ module _ (R : List Rule) (Done : ℕ → Type 0) (t : List ℕ) (T : FactsHeld R
   empty-true : (r : ℕ) (x : Rule) → expression R r ≡ rhs r x (expression R) → ((k : ℕ) → Names x k → Done k) → empty_of t x ≡ F.is_empty r
   unfolding empty_of facts_of is_empty rhs
   empty-true r Rule.Empty q h = rw q
-  empty-true r (Rule.Pair b c) q h = rw q (ap₂ (λ (x y : Bool). x && y) (T.is_empty b (h b Names.Pair-one)) (T.is_empty c (h c Names.pair_two)))
+  empty-true r (Rule.Pair b c) q h = rw q (ap₂ (λ (x y : Bool). x && y) (T.is_empty b (h b Names.pair_one)) (T.is_empty c (h c Names.pair_two)))
   empty-true r (Rule.Node a c) q h = rw q
   empty-true r (Rule.Fill b c) q h = rw q
   empty-true r (Rule.Part a b c) q h = rw q
@@ -133,7 +133,7 @@ module _ (R : List Rule) (Done : ℕ → Type 0) (t : List ℕ) (T : FactsHeld R
   unfolding representative_of facts_of representative rhs
   representative-true r Rule.Empty q h = rw q
   representative-true r (Rule.Pair b c) q h =
-      let b' = h b Names.Pair-one in
+      let b' = h b Names.pair_one in
       let c' = h c Names.pair_two in
       rw (q, T.is_empty b b', T.is_empty c c', T.representative b b', T.representative c c')
   representative-true r (Rule.Node a c) q h = rw q
@@ -145,7 +145,7 @@ module _ (R : List Rule) (Done : ℕ → Type 0) (t : List ℕ) (T : FactsHeld R
   unfolding way_of
   way-true s Rule.Empty h = refl
   way-true s (Rule.Pair b c) h =
-      let b' = h b Names.Pair-one in
+      let b' = h b Names.pair_one in
       let c' = h c Names.pair_two in
       rw (T.is_empty b b', T.is_empty c c', T.representative (pick s b c) (picked Done s b c b' c'))
   way-true s (Rule.Node a c) h = refl

@@ -113,7 +113,7 @@ module _ (R : List Rule) (r : ℕ) where
       rw e (copies-both (h c Names.pair_two s) (copies-back (pair-copies-second s b c q u))))
       (λ u. by_bool (is_empty (E c))
       (λ v. let e : representative (E r) ≡ representative (E b) = rw (q, u, v) in
-      rw e (copies-both (h b Names.Pair-one s) (copies-back (pair-copies-first s b c q u v))))
+      rw e (copies-both (h b Names.pair_one s) (copies-back (pair-copies-first s b c q u v))))
       (λ v. let e : representative (E r) ≡ r = rw (q, u, v) in rw e (copies-same F s r)))
   represents (Rule.Node a c) q h s = rw (ap representative q) (copies-same F s r)
   represents (Rule.Fill b c) q h s = rw (ap representative q) (copies-same F s r)
@@ -130,7 +130,7 @@ module _ (R : List Rule) (r : ℕ) where
       (λ v. rw (u, v) (pair-steps s b c q u v (picked-names s b c h))))
     where
       picked-names : (s : Side) (b c : ℕ) → ((k : ℕ) → Names (Rule.Pair b c) k → (s : Side) → Copies F s (F.representative k) k) → Copies F s (F.representative (pick s b c)) (pick s b c)
-      picked-names s b c h = picked (λ (k : ℕ). Copies F s (F.representative k) k) s b c (h b Names.Pair-one s) (h c Names.pair_two s)
+      picked-names s b c h = picked (λ (k : ℕ). Copies F s (F.representative k) k) s b c (h b Names.pair_one s) (h c Names.pair_two s)
   follows_by (Rule.Node a c) q h s = record { toward = rw q; last = rw q; depth = rw q }
   follows_by (Rule.Fill b c) q h s = record { toward = rw q; last = rw q; depth = rw q }
   follows_by (Rule.Part a b c) q h s = record { toward = rw q; last = rw q; depth = rw q }
@@ -142,8 +142,8 @@ unfolding way_of
 every_way F P s Rule.Empty h g = tt
 every_way F P s (Rule.Pair b c) h g =
     by_bool (F.is_empty b) (λ u. rw u (h c Names.pair_two))
-    (λ u. by_bool (F.is_empty c) (λ v. rw (u, v) (h b Names.Pair-one))
-    (λ v. rw (u, v) (picked (λ (k : ℕ). P (F.representative k)) s b c (g b Names.Pair-one) (g c Names.pair_two))))
+    (λ u. by_bool (F.is_empty c) (λ v. rw (u, v) (h b Names.pair_one))
+    (λ v. rw (u, v) (picked (λ (k : ℕ). P (F.representative k)) s b c (g b Names.pair_one) (g c Names.pair_two))))
 every_way F P s (Rule.Node a c) h g = tt
 every_way F P s (Rule.Fill b c) h g = tt
 every_way F P s (Rule.Part a b c) h g = tt
@@ -158,7 +158,7 @@ represents-in R P r (Rule.Pair b c) q own h =
     by_bool (is_empty (expression R b))
     (λ u. let e : representative (expression R r) ≡ representative (expression R c) = rw (q, u) in rw e (h c Names.pair_two))
     (λ u. by_bool (is_empty (expression R c))
-    (λ v. let e : representative (expression R r) ≡ representative (expression R b) = rw (q, u, v) in rw e (h b Names.Pair-one))
+    (λ v. let e : representative (expression R r) ≡ representative (expression R b) = rw (q, u, v) in rw e (h b Names.pair_one))
     (λ v. let e : representative (expression R r) ≡ r = rw (q, u, v) in rw e own))
 represents-in R P r (Rule.Node a c) q own h = rw (ap representative q) own
 represents-in R P r (Rule.Fill b c) q own h = rw (ap representative q) own

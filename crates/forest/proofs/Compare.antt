@@ -220,4 +220,6 @@ pub listed-length : (d : ℕ) (g : Forest ℕ) → length (listed d g) ≡ weigh
 unfolding listed weigh
 listed-length d Forest.none = refl
 listed-length d (Forest.tree a c f) =
-    rw (length-append, listed-length _ c, listed-length _ f) (omega arith)
+    let below = listed-length (suc d) c in
+    let after = listed-length d f in
+    rw (length-append (listed (suc d) c) (listed d f)) (omega arith)

@@ -59,7 +59,7 @@ record Threaded (w e : Expression) (z : Position) : Type 0 where
 record Standing (w : Expression) (r a : ℕ) (c : Expression) (z : Position) : Type 0 where
   good : Good Sort.row c
   hole : Position → Forest Located
-  inside : Inside Located (Forest.tree (Expression.node r a c, z) (located c (Position.Node-row r a c z) hole) Forest.none) (located_of w)
+  inside : Inside Located (Forest.tree (Expression.node r a c, z) (located c (Position.node_row r a c z) hole) Forest.none) (located_of w)
 
 Here : Expression → Expression → Position → Type 0
 Here w (Expression.empty r) z = ⊥
@@ -115,7 +115,7 @@ module _ {w : Expression} where
   found-tree : {e : Expression} {z : Position} → Found w Sort.row e z → Good Sort.tree e → Found w Sort.tree e z
   found-tree k g = record { good = g; hole = k.hole; inside = k.inside }
 
-  found-under : {r a : ℕ} {c : Expression} {z : Position} → Standing w r a c z → Found w Sort.row c (Position.Node-row r a c z)
+  found-under : {r a : ℕ} {c : Expression} {z : Position} → Standing w r a c z → Found w Sort.row c (Position.node_row r a c z)
   found-under k = record { good = k.good; hole = k.hole; inside = inside-below k.inside }
 
   found-node : {r a : ℕ} {c : Expression} {z : Position} → Found w Sort.tree (Expression.node r a c) z → Standing w r a c (Position.node_spine r a c z)

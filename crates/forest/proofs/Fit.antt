@@ -28,7 +28,7 @@ Below N (Expression.join r b c) = (r < N) × Below N b × Below N c
 below-rhs : (N r : ℕ) (x : Rule) (E : ℕ → Expression) → r < N → ((k : ℕ) → Names x k → Below N (E k)) → Below N (rhs r x E)
 unfolding rhs
 below-rhs N r Rule.Empty E l h = l
-below-rhs N r (Rule.Pair b c) E l h = (l, h b Names.Pair-one, h c Names.pair_two)
+below-rhs N r (Rule.Pair b c) E l h = (l, h b Names.pair_one, h c Names.pair_two)
 below-rhs N r (Rule.Node a c) E l h = (l, h c Names.node_one)
 below-rhs N r (Rule.Fill b c) E l h = (l, h b Names.fill_one, h c Names.fill_two)
 below-rhs N r (Rule.Part a b c) E l h = (l, h b Names.part_one, h c Names.part_two)

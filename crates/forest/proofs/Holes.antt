@@ -80,7 +80,7 @@ unfolding edge or_else
 one {x} {c} d k =
     record {
       knows = Knows.tree refl refl refl d k Knows.none;
-      root = λ s. elim s [ Side.left ↦ refl | Side.right ↦ refl ];
+      root = λ s. elim s as (λ k. edge k (Forest.tree x c Forest.none) ≡ some x) [ Side.left ↦ refl | Side.right ↦ refl ];
     }
 
 -- the hole of the part q holds one tree, which stands in q's hole and is reached inward from q

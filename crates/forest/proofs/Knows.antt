@@ -31,7 +31,7 @@ holds-pair r b c g h x y z hole n =
 holds-node : (r a : ℕ) (c : Expression) → Holds Sort.row c → Holds Sort.tree (Expression.node r a c)
 unfolding Holds located opened child part_at row_parent leave
 holds-node r a c x z hole =
-    let y : Row c (Position.Node-row r a c (Position.node_spine r a c z)) (located c (Position.Node-row r a c (Position.node_spine r a c z)) hole) = x (Position.Node-row r a c (Position.node_spine r a c z)) hole refl in
+    let y : Row c (Position.node_row r a c (Position.node_spine r a c z)) (located c (Position.node_row r a c (Position.node_spine r a c z)) hole) = x (Position.node_row r a c (Position.node_spine r a c z)) hole refl in
     one (λ s. sym (y.root s)) y.knows
 
 holds-fill : (r : ℕ) (b c : Expression) → Good Sort.spine b → Good Sort.tree c → Holds Sort.spine b → Holds Sort.tree c → Holds Sort.tree (Expression.fill r b c)

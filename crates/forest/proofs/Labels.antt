@@ -31,7 +31,7 @@ module _ (P : ℕ → Type 0) where
       ((k : ℕ) → Names y k → Each P (trees (value (E k)))) → Each P (trees (value (rhs r y E)))
   unfolding rhs value labelled_to trees
   each-rhs m own r Rule.Empty E t h = tt
-  each-rhs m own r (Rule.Pair b c) E t h = each-concat (value (E b)) (value (E c)) (h b Names.Pair-one) (h c Names.pair_two)
+  each-rhs m own r (Rule.Pair b c) E t h = each-concat (value (E b)) (value (E c)) (h b Names.pair_one) (h c Names.pair_two)
   each-rhs m own r (Rule.Node a c) E t h = each-⟨⟩ (single a) (value (E c)) (own a (leb→le a m t), tt, tt) (h c Names.node_one)
   each-rhs m own r (Rule.Fill b c) E t h = each-⟨⟩ (value (E b)) (value (E c)) (h b Names.fill_one) (h c Names.fill_two)
   each-rhs m own r (Rule.Part a b c) E t h =

@@ -49,11 +49,14 @@ pub data Knows (A : Type 0) (N : Neighbours A) : Option A → Option A → Optio
 
 module _ {A : Type 0} {N : Neighbours A} where
   -- a list of trees before another: each is beside the other's edge
-  pub knows-append : {u l r : Option A} {f g : Forest A} → Knows A N u l (or_else (edge Side.left g) r) f → Knows A N u (or_else (edge Side.right f) l) r g → Knows A N u l r (append f g)
+  knows-append-as : {u : Option A} (l : Option A) {r : Option A} {f g : Forest A} {v : Option A} → Knows A N u l v f → v ≡ or_else (edge Side.left g) r → Knows A N u (or_else (edge Side.right f) l) r g → Knows A N u l r (append f g)
   unfolding edge append or_else pick
-  knows-append none k = k
-  knows-append {r = r} {g = g} (tree {f = f} p q n d b h) k =
-      tree p q (n ∙ sym (ap (λ x. or_else x r) (edge-append Side.left f g) ∙ or-or (edge Side.left f) (edge Side.left g) r)) d b (knows-append h (rw or-or at k))
+  knows-append-as l none e k = k
+  knows-append-as l {r = r} {g = g} (tree {a = a} {f = f} p q n d b h) e k =
+      tree p q (n ∙ ap (or_else (edge Side.left f)) e ∙ sym (ap (λ x. or_else x r) (edge-append Side.left f g) ∙ or-or (edge Side.left f) (edge Side.left g) r)) d b (knows-append-as (some a) h e (rw or-or at k))
+
+  pub knows-append : {u l r : Option A} {f g : Forest A} → Knows A N u l (or_else (edge Side.left g) r) f → Knows A N u (or_else (edge Side.right f) l) r g → Knows A N u l r (append f g)
+  knows-append {l = l} h k = knows-append-as l h refl k
 
   -- one tree between two lists
   pub knows-around : {u l r : Option A} {x : A} {f h g : Forest A} → ((s : Side) → edge s h ≡ some x) → Knows A N u l (some x) f → Knows A N u (or_else (edge Side.right f) l) (or_else (edge Side.left g) r) h → Knows A N u (some x) r g → Knows A N u l r (append f (append h g))
@@ -125,11 +128,14 @@ module _ {A : Type 0} {N : Neighbours A} where
   stands {a = a} (tree {a = x} {f = f} p q n d b h) e =
       rw (← some-injective x a e) (record { parent = p; left = q; right = rw (← top-edge f) n; child = d })
 
-  knows-later : {u l r : Option A} {g : Forest A} (i : ℕ) → Knows A N u l r g → Knows A N u (before i l g) r (later i g)
+  knows-later-as : {u r : Option A} (l : Option A) {g : Forest A} (i : ℕ) → Knows A N u l r g → Knows A N u (before i l g) r (later i g)
   unfolding before later
-  knows-later zero k = k
-  knows-later (suc i) none = none
-  knows-later (suc i) (tree {a = a} {c = c} {f = f} p q n d b h) = rw (← before-suc i a c f) (knows-later i h)
+  knows-later-as l zero k = k
+  knows-later-as l (suc i) none = none
+  knows-later-as l (suc i) (tree {a = a} {c = c} {f = f} p q n d b h) = rw (← before-suc i a c f) (knows-later-as (some a) i h)
+
+  knows-later : {u l r : Option A} {g : Forest A} (i : ℕ) → Knows A N u l r g → Knows A N u (before i l g) r (later i g)
+  knows-later {l = l} i k = knows-later-as l i k
 
   knows-below : {u l r : Option A} {g : Forest A} → Knows A N u l r g → Knows A N (top g) Option.none Option.none (below g)
   unfolding top below

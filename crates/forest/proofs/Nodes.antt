@@ -50,7 +50,7 @@ module _ (w : Expression) where
   everywhere Good.empty = λ z hole k. tt
   everywhere (Good.pair {r} {b = b} {c = c} g h) = every-pair r b c (everywhere g) (everywhere h)
   everywhere (Good.grown g) = λ z hole k. everywhere g z hole (at-tree g k)
-  everywhere (Good.node {r} {a} {c} g) = λ z hole k. (At.node k, everywhere g (Position.Node-row r a c (Position.node_spine r a c z)) hole (At.under (At.node k)), tt)
+  everywhere (Good.node {r} {a} {c} g) = λ z hole k. (At.node k, everywhere g (Position.node_row r a c (Position.node_spine r a c z)) hole (At.under (At.node k)), tt)
   everywhere (Good.fill {r} {b = b} {c = c} g h) =
       λ z hole k. everywhere g (Position.fill_spine r b c z) (λ last. located c last hole) (At.fill k) (everywhere h (last_part b (Position.fill_spine r b c z)).1 hole (at_last_lem g (At.fill k) refl))
   everywhere (Good.part {r} {a} {b} {c} g h) =

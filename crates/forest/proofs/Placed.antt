@@ -35,7 +35,7 @@ unfolding placed located cells label_of relabel pick
 placed-located (Expression.empty r) z hole fill h = refl
 placed-located (Expression.pair r b c) z hole fill h = cells-pair r b c z hole fill (λ y. placed-located b y hole fill h) (λ y. placed-located c y hole fill h)
 placed-located (Expression.node r a c) z hole fill h =
-    ap (λ x. Forest.tree (a, cells (Position.node_spine r a c z)) x Forest.none) (placed-located c (Position.Node-row r a c (Position.node_spine r a c z)) hole fill h)
+    ap (λ x. Forest.tree (a, cells (Position.node_spine r a c z)) x Forest.none) (placed-located c (Position.node_row r a c (Position.node_spine r a c z)) hole fill h)
 placed-located (Expression.fill r b c) z hole fill h =
     placed-located b (Position.fill_spine r b c z) (λ last. located c last hole) (λ last. placed c last fill) (λ y. placed-located c y hole fill h)
 placed-located (Expression.part r a b c) z hole fill h =

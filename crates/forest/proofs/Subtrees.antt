@@ -27,7 +27,7 @@ use Rattle.forest.proofs.Rows.{located-right-only, located-left-only, located-pa
 -- what stands in the hole of the part at z
 unfoldable pub filling : Position → Hedge
 filling (Position.start e) = Hedge.ε
-filling (Position.Node-row r a c z) = Hedge.ε
+filling (Position.node_row r a c z) = Hedge.ε
 filling (Position.part_row s r a b c z) = Hedge.ε
 filling (Position.pair_side s r b c z) = Hedge.ε
 filling (Position.node_spine r a c z) = Hedge.ε
@@ -38,7 +38,7 @@ filling (Position.join_side Side.right r b c z) = filling z
 -- what the crumbs of a spine put into its hole is well sorted
 abbrev pub Crumbs : Position → Type 0
 Crumbs (Position.start e) = Unit {0}
-Crumbs (Position.Node-row r a c z) = Unit {0}
+Crumbs (Position.node_row r a c z) = Unit {0}
 Crumbs (Position.part_row s r a b c z) = Unit {0}
 Crumbs (Position.pair_side s r b c z) = Unit {0}
 Crumbs (Position.node_spine r a c z) = Unit {0}
@@ -97,8 +97,8 @@ whole_pair r b c x y z hole =
 whole-node : (r a : ℕ) (c : Expression) → Good Sort.row c → Whole Sort.row c → Whole Sort.tree (Expression.node r a c)
 unfolding located relabel label_of filling
 whole-node r a c g x z hole =
-    let y : Worth (located c (Position.Node-row r a c (Position.node_spine r a c z)) hole) (value c) =
-    x (Position.Node-row r a c (Position.node_spine r a c z)) hole in
+    let y : Worth (located c (Position.node_row r a c (Position.node_spine r a c z)) hole) (value c) =
+    x (Position.node_row r a c (Position.node_spine r a c z)) hole in
     let e = ap (λ (f : Forest ℕ). Forest.tree a f Forest.none) y.forgets ∙ sym (node-trees r a c) in
     record {
       nodes = (record { stands = node (Good.node g); crumbs = tt; whole = e ∙ sym (trees-⟨ε⟩ (value (Expression.node r a c))) }, y.nodes, tt);

@@ -30,7 +30,7 @@ module _ {A : Type 0} {N : Neighbours A} {g : Forest A} (k : Knows A N Option.no
       let c : (c : A) × (label_at g (suc i ∷ p) ≡ some c) = sibling-before g i p e in
       none-ne-some c.0 (left-label zero p d ∙ q ∙ sym (left-label (suc i) p e) ∙ c.1)
 
-  same_number : {a b : A} (i j : ℕ) (p : Path) → label_at g (suc i ∷ p) ≡ some a → label_at g (suc j ∷ p) ≡ some b → N.next Side.left a ≡ N.next Side.left b → i ≡ j
+  same_number : (i j : ℕ) (p : Path) {a b : A} → label_at g (suc i ∷ p) ≡ some a → label_at g (suc j ∷ p) ≡ some b → N.next Side.left a ≡ N.next Side.left b → i ≡ j
   same_number zero zero p d e q = refl
   same_number zero (suc j) p d e q = absurd (left-first j p d e q)
   same_number (suc i) zero p d e q = absurd (left-first i p e d (sym q))
@@ -45,7 +45,7 @@ module _ {A : Type 0} {N : Neighbours A} {g : Forest A} (k : Knows A N Option.no
   same-named (i ∷ p) q (node d) n e f = f _ d (sym e ∙ d)
 
   -- nodes with one parent and one previous sibling have one path
-  pub same-path : {a b : A} (p q : Path) → label_at g p ≡ some a → label_at g q ≡ some b → N.up a ≡ N.up b → N.next Side.left a ≡ N.next Side.left b → p ≡ q
+  pub same-path : (p q : Path) {a b : A} → label_at g p ≡ some a → label_at g q ≡ some b → N.up a ≡ N.up b → N.next Side.left a ≡ N.next Side.left b → p ≡ q
   unfolding label_at
   same-path [] q d e u l = absurd (none-ne-some _ d)
   same-path (zero ∷ p) q d e u l = absurd (none-ne-some _ d)

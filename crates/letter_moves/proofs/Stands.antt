@@ -19,7 +19,7 @@ use Rattle.work_rows.proofs.Rows.{within_none}
 use Rattle.work_rows.proofs.Kept.{first-length}
 use Rattle.letter_arrival.specs.declared.Landing.{Landing}
 use Rattle.facts.specs.Closes.{Closes}
-use Rattle.move_parts.specs.Moves.{Held, Kept, Node-has, Each, Fits}
+use Rattle.move_parts.specs.Moves.{Held, Kept, node_has, Each, Fits}
 use Rattle.place_cells.specs.Cells.{Lies, most_cells, place_length}
 use Rattle.move_parts.specs.declared.Change.{Change}
 use Rattle.move_parts.specs.Change.{change_node, Able, keep_of}
@@ -100,7 +100,7 @@ module _ {r : ℕ} {t s : List ℕ} {k p : ℕ} (S : Placed r t s k p) where
   pub at-rule : (k ≡ 0 → ⊥) → In t p
   at-rule more = rule-in S.rows (p, cells_in s k) S.valid (λ e. more (no_cells s k e))
 
-  here : (cells_in s k ≡ [] → ⊥) → Node-has (In t) (p, cells_in s k)
+  here : (cells_in s k ≡ [] → ⊥) → node_has (In t) (p, cells_in s k)
   here e = (rule-in S.rows (p, cells_in s k) S.valid e, numbers S.rows (p, cells_in s k) S.valid)
 
   move-kept : (l : Letter) → Kept (In t) (move (facts_in t) r l (p, cells_in s k))

@@ -126,7 +126,7 @@ fill-seen : (F : Facts) (r x : ℕ) (b c : Expression) (z : Position) → Fit F 
 unfolding cells continues top_kind shape rule_number inner_of
 fill-seen F r x b c z (Fit.fill t gb gc) q = spine-state F r x (cells z) q ∙ rw (fill-outer F x b c t, t.rule)
 
-under-seen : (F : Facts) (r x a : ℕ) (c : Expression) (z : Position) → Here F (Expression.node x a c) → Seen F r Where.here (Expression.node x a c) z → Seen F r Where.row c (Position.Node-row x a c z)
+under-seen : (F : Facts) (r x a : ℕ) (c : Expression) (z : Position) → Here F (Expression.node x a c) → Seen F r Where.here (Expression.node x a c) z → Seen F r Where.row c (Position.node_row x a c z)
 unfolding cells top_kind row_in row_under shape rule_number is_node
 under-seen F r x a c z (Here.node t gc) q =
     (row-state F r row_of_node c (cells z) (tells F Sort.row c gc) (rw (q.0, t.rule, let k : eqb (top_kind (cells z)) cell_spine ≡ true = rw t.rule at q.1 in k)), refl)

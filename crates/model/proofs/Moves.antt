@@ -110,7 +110,7 @@ module _ (F : Facts) (w : Expression) (g : Fit F Sort.row w) where
   node-child : (s : Side) (r a : ℕ) (c : Expression) (z : Position) → Here F (Expression.node r a c) → At w Where.here (Expression.node r a c) z → Agree w (P.child s (Expression.node r a c) z) (M.child F s (r, cells z))
   unfolding P.child M.child M.child_of rule_number shape cells
   node-child s r a c z (Here.node t gc) h =
-      rw (t.rule, enter-number F s row_of_node c (cells z) gc) (enters F w s c gc (Position.Node-row r a c z) (At.under h))
+      rw (t.rule, enter-number F s row_of_node c (cells z) gc) (enters F w s c gc (Position.node_row r a c z) (At.under h))
 
   arm-enters : (s u : Side) (r a : ℕ) (b c : Expression) (z : Position) → Here F (Expression.part r a b c) → At w Where.here (Expression.part r a b c) z → Agree w (P.enter s (pick u b c) (Position.part_row u r a b c z)) (M.enter F s (row_of_part u) (pick u (rule_number b) (rule_number c)) (cells z))
   unfolding cells

@@ -48,7 +48,7 @@ step-filled s a b (c ∷ cs) = go (eqb c.0 (cell_run s))
 cells-filled : (z : Position) → filled (cells z)
 unfolding cells filled
 cells-filled (Position.start e) = tt
-cells-filled (Position.Node-row r a c z) = tt
+cells-filled (Position.node_row r a c z) = tt
 cells-filled (Position.part_row s r a b c z) = tt
 cells-filled (Position.pair_side s r b c z) = step-filled s r (representative (pick s b c)) (cells z)
 cells-filled (Position.node_spine r a c z) = tt

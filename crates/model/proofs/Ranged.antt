@@ -99,7 +99,7 @@ module _ (P : ℕ → Type 0) where
   fill-ranged r b c z (fill p hb hc) h =
       record { here = hb; ahead = λ x q. rw (some-injective c x q) at hc; numbers = spine p h }
 
-  under-ranged : (r a : ℕ) (c : Expression) (z : Position) → Every P (Expression.node r a c) → Numbers P (cells z) → Ranged P c (Position.Node-row r a c z)
+  under-ranged : (r a : ℕ) (c : Expression) (z : Position) → Every P (Expression.node r a c) → Numbers P (cells z) → Ranged P c (Position.node_row r a c z)
   unfolding continues cells
   under-ranged r a c z (node p hc) h = record { here = hc; ahead = λ x q. absurd (none-ne-some x q); numbers = row (representative-in P c hc) h }
 

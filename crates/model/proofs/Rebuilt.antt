@@ -94,7 +94,7 @@ unfolding row_under cells after_row shape rule_number
 node_opens F w z r a c d v t gc h f =
     by_bool (eqb d row_of_node)
     (λ u. rw (t.rule, eqb→eq d row_of_node (rw u tt))
-    (opens F w c (Position.Node-row r a c (Position.node_spine r a c z)) row_of_node v ((cell_spine, r, 0, 0) ∷ cells z) (some (rule_number c)) gc (At.under (At.node h)) refl refl (rw (t.rule, u) at f)))
+    (opens F w c (Position.node_row r a c (Position.node_spine r a c z)) row_of_node v ((cell_spine, r, 0, 0) ∷ cells z) (some (rule_number c)) gc (At.under (At.node h)) refl refl (rw (t.rule, u) at f)))
     (λ u. absurd (rw (t.rule, u) at f))
 
 row-stood : (F : Facts) (w : Expression) → Fit F Sort.row w → (st : State) (cs : Cells) → Stood F w st cs → (d v : ℕ) → Fine (after_row F (row_in F (rule_number w) st d) v) → Stood F w (after_row F (row_in F (rule_number w) st d) v) ((cell_row, d, v, 0) ∷ cs)

@@ -31,7 +31,7 @@ core (Expression.join r b c) = Expression.join r b c
 -- what stands at a position
 content : Position → Expression
 content (Position.start e) = core e
-content (Position.Node-row r a c z) = core c
+content (Position.node_row r a c z) = core c
 content (Position.part_row s r a b c z) = core (pick s b c)
 content (Position.pair_side s r b c z) = core (pick s b c)
 content (Position.node_spine r a c z) = Expression.node r a c
@@ -108,7 +108,7 @@ opening (some (Expression.join r b c)) z = z
 made : Cell → Expression → Option Expression → Position → Position
 made x (Expression.empty r) o z = z
 made x (Expression.pair r b c) o z = Position.pair_side (side_of_run x.0) r b c z
-made x (Expression.node r a c) o z = cond (eqb x.0 cell_row) (Position.Node-row r a c z) (opening (some (Expression.node r a c)) z)
+made x (Expression.node r a c) o z = cond (eqb x.0 cell_row) (Position.node_row r a c z) (opening (some (Expression.node r a c)) z)
 made x (Expression.fill r b c) o z = opening (some (Expression.fill r b c)) z
 made x (Expression.part r a b c) o z = cond (eqb x.0 cell_row) (Position.part_row (side_of_row x.1) r a b c z) (opening o z)
 made x (Expression.join r b c) o z = Position.join_side (side_of_run x.0) r b c z
@@ -147,9 +147,9 @@ unfolding cells core made
 join-climbs F w s r b c y g t q h =
     over {z = Position.join_side s r b c y} y h (peel-step F s r (rule_number (pick s b c)) (cells y) g t) (rw (← q, side-step))
 
-under-climbs : (F : Facts) (w : Expression) (r a : ℕ) (c : Expression) (y : Position) → Expression.node r a c ≡ content y → Climbs F w y → Climbs F w (Position.Node-row r a c y)
+under-climbs : (F : Facts) (w : Expression) (r a : ℕ) (c : Expression) (y : Position) → Expression.node r a c ≡ content y → Climbs F w y → Climbs F w (Position.node_row r a c y)
 unfolding cells made top_cell peel cell_run
-under-climbs F w r a c y q h = over {z = Position.Node-row r a c y} y h refl (rw (← q))
+under-climbs F w r a c y q h = over {z = Position.node_row r a c y} y h refl (rw (← q))
 
 arm-climbs : (F : Facts) (w : Expression) (s : Side) (r a : ℕ) (b c : Expression) (y : Position) → Expression.part r a b c ≡ content y → Climbs F w y → Climbs F w (Position.part_row s r a b c y)
 unfolding cells made top_cell peel cell_run
@@ -200,7 +200,7 @@ run-kind Side.right q = omega arith
 full : (z : Position) → top_kind (cells z) ≡ 0 → ⊥
 unfolding cells top_kind
 full (Position.start e) q = omega arith
-full (Position.Node-row r a c z) q = omega arith
+full (Position.node_row r a c z) q = omega arith
 full (Position.part_row s r a b c z) q = omega arith
 full (Position.pair_side s r b c z) q = run-kind s (sym (top_kind-step s r (representative (pick s b c)) (cells z)) ∙ q)
 full (Position.node_spine r a c z) q = omega arith

@@ -18,7 +18,7 @@ use Rattle.model.specs.Facts.{Facts}
 use Rattle.model.specs.Model.{Node, one_above, outer, inner_of, standing, tail, pop_run, run, shrunk, turned, beside_top, beside, opened, enter, continuing, inward, under, part_at, is_part, outward, child, child_of, beside_hole, sibling, below_row, node_at, parent, root}
 use Rattle.model.proofs.Stages.{ended, follow, sibling_from, sibling-stages}
 use Rattle.facts.specs.Closes.{Names, Closed}
-use Rattle.move_parts.specs.Moves.{Each, Fits, Node-has, Kept}
+use Rattle.move_parts.specs.Moves.{Each, Fits, node_has, Kept}
 use Rattle.forest.proofs.Cases.{by_bool}
 use Rattle.place_cells.proofs.Stack.{run-no-row}
 use Rattle.facts.proofs.Closes.{above-has, outer-has}
@@ -33,7 +33,7 @@ unfolding Kept or_else
 else-kept P none y a b = b
 else-kept P (some x) y a b = a
 
-map-kept : (P : ℕ → Type 0) (f : Node → Node) → ((x : Node) → Node-has P x → Node-has P (f x)) → (x : Option Node) → Kept P x → Kept P (map f x)
+map-kept : (P : ℕ → Type 0) (f : Node → Node) → ((x : Node) → node_has P x → node_has P (f x)) → (x : Option Node) → Kept P x → Kept P (map f x)
 unfolding Kept
 map-kept P f g none a = tt
 map-kept P f g (some x) a = g x a
@@ -69,7 +69,7 @@ module _ (F : Facts) (P : ℕ → Type 0) (h : Closed F P) where
       (λ u. rw u e.1)
       (λ u. rw u (record { one = e.0.one; two = above-has h s c.1 c.2 p }, e.1))
 
-  turned-kept : (s : Side) (v : ℕ) (cs : Cells) → P v → Each (Fits P) cs → Node-has P (turned F s v cs)
+  turned-kept : (s : Side) (v : ℕ) (cs : Cells) → P v → Each (Fits P) cs → node_has P (turned F s v cs)
   unfolding turned
   turned-kept s v cs p e =
       let q = h.steps s v p in
@@ -85,7 +85,7 @@ module _ (F : Facts) (P : ℕ → Type 0) (h : Closed F P) where
       turned-kept s (one_above F (other s) c.1 c.2) (shrunk F (other s) (c ∷ cs)) (above-has h (other s) c.1 c.2 p) (shrunk-kept (other s) c cs p e)))
       (λ u. rw u tt)
 
-  pub opened-kept : (a : ℕ) (cs : Cells) → P a → Each (Fits P) cs → Node-has P (opened F a cs)
+  pub opened-kept : (a : ℕ) (cs : Cells) → P a → Each (Fits P) cs → node_has P (opened F a cs)
   unfolding Each opened
   opened-kept a cs p e =
       let q = outer-has h a p in
@@ -164,7 +164,7 @@ module _ (F : Facts) (P : ℕ → Type 0) (h : Closed F P) where
       else-kept P (enter F s (row_of_part s) (pick s b c) cs) (inward F cs) (enter-kept s (row_of_part s) (pick s b c) cs (picked P s b c n.0 n.1) e) (inward-kept cs e)
   child-of s (Rule.Join b c) cs n e = tt
 
-  pub child-kept : (s : Side) (x : Node) → Node-has P x → Kept P (child F s x)
+  pub child-kept : (s : Side) (x : Node) → node_has P x → Kept P (child F s x)
   unfolding child
   child-kept s x e = child-of s (F.rule x.0) x.1 (h.names x.0 e.0) e.1
 
@@ -182,7 +182,7 @@ module _ (F : Facts) (P : ℕ → Type 0) (h : Closed F P) where
   sibling-from s none cs k e = follow-kept s (under cs) (tail-kept (pop_run Side.left cs) (pop_kept Side.left cs e))
   sibling-from s (some x) cs k e = hole-kept s (F.rule x.0) x.1 (h.names x.0 k.0) k.1
 
-  pub sibling-kept : (s : Side) (x : Node) → Node-has P x → Kept P (sibling F s x)
+  pub sibling-kept : (s : Side) (x : Node) → node_has P x → Kept P (sibling F s x)
   sibling-kept s x e = rw sibling-stages (sibling-from s (outward F x.1) x.1 (outward-kept x.1 e.1) e.1)
 
   below-kept : (cs : Cells) → Each (Fits P) cs → Each (Fits P) (below_row cs)
@@ -199,7 +199,7 @@ module _ (F : Facts) (P : ℕ → Type 0) (h : Closed F P) where
   node_kept [] e = tt
   node_kept (c ∷ cs) e = (standing-kept (c ∷ cs) e, e)
 
-  pub parent-kept : (x : Node) → Node-has P x → Kept P (parent F x)
+  pub parent-kept : (x : Node) → node_has P x → Kept P (parent F x)
   unfolding parent under
   parent-kept x e =
       else-kept P (outward F x.1) (node_at F (below_row (under x.1))) (outward-kept x.1 e.1)

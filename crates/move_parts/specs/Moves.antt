@@ -21,13 +21,13 @@ pub record Fits (P : ℕ → Type 0) (c : Cell) : Type 0 where
   pub two : P c.2
 
 -- P holds of a node: of its rule and of the rules in its cells
-abbrev pub Node-has : (ℕ → Type 0) → Node → Type 0
-Node-has P x = P x.0 × Each (Fits P) x.1
+abbrev pub node_has : (ℕ → Type 0) → Node → Type 0
+node_has P x = P x.0 × Each (Fits P) x.1
 
 -- of a node, if there is one
 unfoldable pub Kept : (ℕ → Type 0) → Option Node → Type 0
 Kept P none = Unit {0}
-Kept P (some x) = Node-has P x
+Kept P (some x) = node_has P x
 
 -- the table closes and can be climbed, and cells 1 to k lie in the cursor and name only rules that have rows
 pub record Held (t s : List ℕ) (k : ℕ) : Type 0 where

@@ -27,7 +27,7 @@ step-some s a b (c ∷ cs) q = go (eqb c.0 (cell_run s)) q
 cells-some : (z : Position) → cells z ≡ [] → ⊥
 unfolding cells
 cells-some (Position.start e) q = cons≢nil q
-cells-some (Position.Node-row r a c z) q = cons≢nil q
+cells-some (Position.node_row r a c z) q = cons≢nil q
 cells-some (Position.part_row s r a b c z) q = cons≢nil q
 cells-some (Position.pair_side s r b c z) q = step-some s r (representative (pick s b c)) (cells z) q
 cells-some (Position.node_spine r a c z) q = cons≢nil q

@@ -173,7 +173,7 @@ module _ {t s : List ℕ} {start : ℕ} (f : Followable t s start) where
       unfolding under_rule cells spot shape rule_number Names
       node-leads i few =
           let q = node-inside (known-here h) in
-          row-leads row_of_node (rule_number c) i (Position.Node-row r a c z) (i, path_to (spot z)) (named_in inside (rule-is h)) few (rw q (At.under h))
+          row-leads row_of_node (rule_number c) i (Position.node_row r a c z) (i, path_to (spot z)) (named_in inside (rule-is h)) few (rw q (At.under h))
           (rw q (ap (λ (cs : Cells). (cell_row, row_of_node, representative c, 0) ∷ cs) there)) (zero_more i (path_to (spot z)))
           (λ l. past-children (located_of w) (path_to (spot z)) i (let many = node-children walked-good h in let same = ap tops q in omega arith))
 

@@ -194,7 +194,7 @@ module _ (F : Facts) (E : ℕ → Expression) where
 
     -- one more crumb of each kind
     under-spot : {r a : ℕ} {c : Expression} {z : Position} → At w Where.here (Expression.node r a c) z → spot_in F E (cells z) ≡ spot z
-        → spot_in F E (cells (Position.Node-row r a c z)) ≡ spot (Position.Node-row r a c z)
+        → spot_in F E (cells (Position.node_row r a c z)) ≡ spot (Position.node_row r a c z)
     unfolding cells spot rule_number
     under-spot {r} {a} {c} {z} h ih =
         cell_row_lem F E row_of_node (representative c) (cells z)

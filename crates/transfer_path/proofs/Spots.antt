@@ -135,7 +135,7 @@ Here w (Expression.pair r b c) z = ⊥
 Here w (Expression.node r a c) z =
     Good Sort.row c
     × ((hole : Position → Forest Located)
-    × Spotted (Forest.tree (Expression.node r a c, z) (located c (Position.Node-row r a c z) hole) Forest.none) (located_of w) (spot z))
+    × Spotted (Forest.tree (Expression.node r a c, z) (located c (Position.node_row r a c z) hole) Forest.none) (located_of w) (spot z))
 Here w (Expression.fill r b c) z = ⊥
 Here w (Expression.part r a b c) z = Threaded w (Expression.part r a b c) z
 Here w (Expression.join r b c) z = ⊥
@@ -227,7 +227,7 @@ module _ {w : Expression} where
   found-node (Good.node g) k = (g, (k.hole, k.spotted))
 
   found-under : {r a : ℕ} {c : Expression} {z : Position} → Here w (Expression.node r a c) z
-      → Found w Sort.row c (Position.Node-row r a c z) (spot (Position.Node-row r a c z))
+      → Found w Sort.row c (Position.node_row r a c z) (spot (Position.node_row r a c z))
   unfolding Here spot
   found-under k = record { good = k.0; hole = k.1.0; spotted = spotted-below k.1.1 }
 
@@ -316,7 +316,7 @@ module _ {w : Expression} where
   unfolding Reaches Here
   node-children {r} {a} {c} {z} g h =
       let k = reaches g h in
-      ap count (children-spotted k.1.1) ∙ located-count k.0 (Position.Node-row r a c z) k.1.0
+      ap count (children-spotted k.1.1) ∙ located-count k.0 (Position.node_row r a c z) k.1.0
 
   part_count : {r a : ℕ} {b c : Expression} {z : Position} → Good Sort.spine (Expression.part r a b c) → Threaded w (Expression.part r a b c) z
       → count (children_at (located_of w) (path_to (spot z))) ≡ tops b + 1 + tops c

@@ -44,7 +44,7 @@ opening z x = opening_of (part_at z) x
 -- the spot of a position: of the first tree of a row, of the tree of a spine or of the part that is reached
 unfoldable pub spot : Position → Spot
 spot (Position.start e) = (0, [])
-spot (Position.Node-row r a c z) = (0, path_to (spot z))
+spot (Position.node_row r a c z) = (0, path_to (spot z))
 spot (Position.part_row Side.left r a b c z) = (0, path_to (spot z))
 spot (Position.part_row Side.right r a b c z) = (suc (tops b), path_to (spot z))
 spot (Position.pair_side Side.left r b c z) = spot z

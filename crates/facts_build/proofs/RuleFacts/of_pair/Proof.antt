@@ -7,10 +7,10 @@ use Rattle.facts_build.proofs.RuleFacts.of_pair.Statement.{statement}
 use Rattle.facts_build.proofs.RuleFacts.of_pair.Tie as tie
 
 is-empty-at-requires : tie.Need-is-empty-at-requires
-is-empty-at-requires c κs = ready-room c.before.requires _ Names.Pair-one
+is-empty-at-requires c κs = ready-room c.before.requires _ Names.pair_one
 
 read-requires : tie.Need-read-requires
-read-requires c κs = ready-room c.before.before.before.requires _ (search (Names.Pair-one, Names.pair_two))
+read-requires c κs = ready-room c.before.before.before.requires _ (search (Names.pair_one, Names.pair_two))
 
 returns : tie.Need-returns
 returns c = c.read.ensures ∙ first-empty _ _ _ _ (sym c.before.before.is-empty-at.ensures ∙ c.before.if1.true)
@@ -19,13 +19,13 @@ is-empty-at-requires-2 : tie.Need-is-empty-at-requires-2
 is-empty-at-requires-2 c κs = ready-room c.before.before.before.requires _ Names.pair_two
 
 read-requires-2 : tie.Need-read-requires-2
-read-requires-2 c κs = ready-room c.before.before.before.before.before.requires _ Names.Pair-one
+read-requires-2 c κs = ready-room c.before.before.before.before.before.requires _ Names.pair_one
 
 returns-2 : tie.Need-returns-2
 returns-2 c = c.read2.ensures ∙ second_empty _ _ _ _ (sym c.before.before.before.before.is-empty-at.ensures ∙ c.before.before.before.if1.false) (sym c.before.before.is-empty-at2.ensures ∙ c.before.if2.true)
 
 representative-at-requires : tie.Need-representative-at-requires
-representative-at-requires c κs = ready-room c.before.before.before.before.before.requires _ Names.Pair-one
+representative-at-requires c κs = ready-room c.before.before.before.before.before.requires _ Names.pair_one
 
 representative-at-requires-2 : tie.Need-representative-at-requires-2
 representative-at-requires-2 c κs = ready-room c.before.before.before.before.before.before.requires _ Names.pair_two
