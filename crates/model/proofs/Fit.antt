@@ -137,6 +137,7 @@ pair-steps F s r b c (pair t gb gc) u v =
     steps-to F s r (representative (pick s b c)) (Expression.pair r b c) (pick s b c) (tells-stands F (Expression.pair r b c) t)
     (represents F Sort.row (pick s b c) (picked (Fit F Sort.row) s b c gb gc)) refl
     (rw (u, v)) (rw (u, v) (ap suc (pick-map (depth s) s b c))) (rw (u, v) (pick-map (last s) s b c))
+pair-steps F s r b c (grown x) u v = elim x [ ]
 
 pub join-steps : (F : Facts) (s : Side) (r : ℕ) (b c : Expression) → Fit F Sort.spine (Expression.join r b c) → Steps F s r (rule_number (pick s b c))
 unfolding toward depth last rule_number

@@ -72,6 +72,7 @@ row-opens-none F w z p k d v (hollow t) u f = rw t.rule at f
 row-opens-none F w z p k d v (two (Fit.pair t gb gc) h x y) u f = rw t.rule at f
 row-opens-none F w z p k d v (tree (Fit.node t gc) h) u f = rw (t.rule, u) at f
 row-opens-none F w z p k d v (tree (Fit.fill t gb gc) h) u f = rw t.rule at f
+row-opens-none F w z p k d v (two {b = b} {c = c} (Rattle.model.proofs.Fit.grown x11) h x y) u f = elim x11 [ ]
 
 part-opens : (F : Facts) (w : Expression) (z : Position) (r a : ℕ) (b c : Expression) (k d v : ℕ) → Tells F (Expression.part r a b c) → Fit F Sort.row b → Fit F Sort.row c → At w Where.here (Expression.part r a b c) z → Fine (after_row F (row_under (Rule.Part a (rule_number b) (rule_number c)) k d) v) → Stood F w (after_row F (row_under (Rule.Part a (rule_number b) (rule_number c)) k d) v) ((cell_row, d, v, 0) ∷ cells z)
 unfolding row_under cells pick after_row
@@ -123,6 +124,7 @@ row-spine F w z p k a o (hollow t) q = absurd (false≢true (rw t.rule at q))
 row-spine F w z p k a o (two (Fit.pair t gb gc) h x y) q = absurd (false≢true (rw t.rule at q))
 row-spine F w z p k a o (tree (Fit.node {r} {a = l} {c} t gc) h) q = tree_opens F w (Expression.node r l c) z k a (Fit.node t gc) h (rw t.rule at q)
 row-spine F w z p k a o (tree (Fit.fill {r} {b} {c} t gb gc) h) q = tree_opens F w (Expression.fill r b c) z k a (Fit.fill t gb gc) h (rw t.rule at q)
+row-spine F w z p k a o (two {b = b} {c = c} (Rattle.model.proofs.Fit.grown x10) h x y) q = elim x10 [ ]
 
 that : (x : Option Expression) (a : ℕ) → is_that (map rule_number x) a ≡ true → (c : Expression) × (x ≡ some c) × (rule_number c ≡ a)
 unfolding is_that
@@ -186,6 +188,7 @@ row-not-node F w z p k (hollow t) u q = false≢true (rw t.rule at q)
 row-not-node F w z p k (two (Fit.pair t gb gc) h x y) u q = false≢true (rw t.rule at q)
 row-not-node F w z p k (tree (Fit.node t gc) h) u q = false≢true (rw (t.rule, u) at q)
 row-not-node F w z p k (tree (Fit.fill t gb gc) h) u q = false≢true (rw t.rule at q)
+row-not-node F w z p k (two {b = b} {c = c} (Rattle.model.proofs.Fit.grown x11) h x y) u q = elim x11 [ ]
 
 spine-node : (F : Facts) (w : Expression) (e : Expression) (z : Position) (k : ℕ) → Fit F Sort.spine e → At w Where.spine e z → is_node (F.rule (rule_number e)) k ≡ true → NodeWith w (cells z)
 unfolding is_node shape rule_number

@@ -33,6 +33,7 @@ Whole F Where.here e z = Here F e × Ahead F z
 
 pair_inside : (F : Facts) (s : Side) (r : ℕ) (b c : Expression) → Fit F Sort.row (Expression.pair r b c) → Fit F Sort.row (pick s b c)
 pair_inside F s r b c (Fit.pair t gb gc) = picked (Fit F Sort.row) s b c gb gc
+pair_inside F s r b c (Fit.grown x) = elim x [ ]
 
 join-inside : (F : Facts) (s : Side) (r : ℕ) (b c : Expression) (z : Position) → Fit F Sort.spine (Expression.join r b c) → Ahead F z → Fit F Sort.spine (pick s b c) × Ahead F (Position.join_side s r b c z)
 unfolding continues pick

@@ -87,6 +87,7 @@ row-stepped F w s v z (hollow t) h = absurd (no-depth (F.depth s v) (t.deep s) h
 row-stepped F w s v z (two {r} {b} {c} (Fit.pair t gb gc) k x y) h = two-stepped F w s r b c z (Fit.pair t gb gc) k x y (picked (Fit F Sort.row) s b c gb gc)
 row-stepped F w s v z (tree (Fit.node t gc) k) h = absurd (no-depth (F.depth s v) (t.deep s) h)
 row-stepped F w s v z (tree (Fit.fill t gb gc) k) h = absurd (no-depth (F.depth s v) (t.deep s) h)
+row-stepped F w s v z (two {b = b} {c = c} (Rattle.model.proofs.Fit.grown x10) k x y) h = elim x10 [ ]
 
 spine-stepped : (F : Facts) (w : Expression) (s : Side) (e : Expression) (z : Position) → Fit F Sort.spine e → At w Where.spine e z → 0 < F.depth s (rule_number e) → Stepped F w s (rule_number e) (map rule_number (continues z)) (cells z)
 unfolding rule_number depth
