@@ -13,9 +13,9 @@ use Rattle.plan.specs.Check.{checked, rules_of}
 use Rattle.forest.specs.declared.Walked.{Walked}
 use Rattle.forest.specs.Letter.{Letter, letter_of}
 use Rattle.forest.specs.Outcome.{enough_work}
-use Rattle.forest.specs.Walk.{enough_cursor, enough_answers, enough_lent, enough_place, lent_judged, other_at, first_other, Begun, place_judged, letters_judged, begun_from, begun, walked}
+use Rattle.forest.specs.Walk.{enough_cursor, enough_answers, enough_lent, other_at, first_other, Begun, place_judged, letters_judged, begun_from, begun, walked}
 use Rattle.reasons.specs.declared.Reasoned.{Reasoned}
-use Rattle.reasons.specs.Outcome.{reasoned_at, reasoned_by, reasoned_from, reasoned, as_walked}
+use Rattle.reasons.specs.Outcome.{enough_asked, asked_judged, reasoned_at, reasoned_by, reasoned_from, reasoned, as_walked}
 
 -- one letter is judged before the place
 place-as : (R : List Rule) (c : Letter) (b : Begun) → as_walked (reasoned_at R c b) ≡ walked b
@@ -34,8 +34,8 @@ module _ (s work cursor : List ℕ) (letter : ℕ) (given : List ℕ) (room : en
   and-room true = room
   and-room false = refl
 
-  lent-as : (n : ℕ) → enough_lent work cursor (letter ∷ []) given n ≡ enough_place work cursor n
-  unfolding enough_lent enough_place
+  lent-as : (n : ℕ) → enough_lent work cursor (letter ∷ []) given n ≡ enough_asked work cursor n
+  unfolding enough_lent enough_asked
   lent-as n = ap (λ (t : Bool). enough_work n work && t) (and-room (enough_cursor n cursor))
 
   -- 9, then 10
@@ -50,10 +50,10 @@ module _ (s work cursor : List ℕ) (letter : ℕ) (given : List ℕ) (room : en
   judged-as n start false = refl
 
   checked-as : (x : Checked)
-      → as_walked (reasoned_from (rules_of s) cursor letter (lent_judged work cursor x)) ≡ walked (begun_from s work cursor (letter ∷ []) given x)
-  unfolding lent_judged reasoned_from as_walked begun_from first_other walked
+      → as_walked (reasoned_from (rules_of s) cursor letter (asked_judged work cursor x)) ≡ walked (begun_from s work cursor (letter ∷ []) given x)
+  unfolding asked_judged reasoned_from as_walked begun_from first_other walked
   checked-as (Checked.Accepted n start) =
-      judged-as n start (enough_place work cursor n)
+      judged-as n start (enough_asked work cursor n)
       ∙ ap (λ (t : Bool). walked (cond t (judged (letter_of letter) n start) (Begun.refused Refusal.Lent))) (sym (lent-as n))
   checked-as (Checked.Refused x) = refl
 

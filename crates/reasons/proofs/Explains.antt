@@ -17,14 +17,14 @@ use Rattle.forest.specs.Place.{placed_forest}
 use Rattle.forest.specs.Letter.{Letter, letter_of}
 use Rattle.forest.specs.Position.{Named}
 use Rattle.forest.specs.Reference.{Path}
-use Rattle.forest.specs.Walk.{cells_in, used_cells, Begun, enough_place, lent_judged, place_judged}
+use Rattle.forest.specs.Walk.{cells_in, used_cells, Begun, place_judged}
 use Rattle.forest.proofs.Forget.{label, placed_forest-forgets}
 use Rattle.forest.proofs.Relabel.{label_at-relabel}
 use Rattle.forest.proofs.Search.{path-named}
 use Rattle.forest.proofs.WalkedRule.{judged-holds}
 use Rattle.reasons.specs.declared.Reason.{Reason}
 use Rattle.reasons.specs.declared.Reasoned.{Reasoned}
-use Rattle.reasons.specs.Outcome.{reasoned_at, reasoned_by, reasoned_from, reasoned, Explained}
+use Rattle.reasons.specs.Outcome.{enough_asked, asked_judged, reasoned_at, reasoned_by, reasoned_from, reasoned, Explained}
 use Rattle.reasons.proofs.Exactly.{exactly}
 
 relabel-named : {A B : Type 0} (h : A → B) (g : Forest A) (p : Path) → Named g p → Named (relabel h g) p
@@ -46,7 +46,7 @@ module _ (R : List Rule) (n start : ℕ) (cursor : List ℕ) where
 
 module _ (s work cursor : List ℕ) (letter : ℕ) (w : Reason) where
   -- past check and 8 the letter is read, and the place is judged
-  from_place : {n start : ℕ} → checked s ≡ Checked.Accepted n start → enough_place work cursor n ≡ true → {c : Letter} → letter_of letter ≡ some c
+  from_place : {n start : ℕ} → checked s ≡ Checked.Accepted n start → enough_asked work cursor n ≡ true → {c : Letter} → letter_of letter ≡ some c
       → (b : Begun) → place_judged (rules_of s) n start cursor ≡ b → reasoned_at (rules_of s) c b ≡ Reasoned.Because w → Explained s work cursor letter w
   unfolding reasoned_at
   from_place a l q (Begun.refused x) j e = absurd (not-because e)
@@ -65,13 +65,13 @@ module _ (s work cursor : List ℕ) (letter : ℕ) (w : Reason) where
         says = (exactly (forest (rules_of s) r) c p named.1 w).0 cc;
       }
 
-  from-letter : {n start : ℕ} → checked s ≡ Checked.Accepted n start → enough_place work cursor n ≡ true → (x : Option Letter) → letter_of letter ≡ x
+  from-letter : {n start : ℕ} → checked s ≡ Checked.Accepted n start → enough_asked work cursor n ≡ true → (x : Option Letter) → letter_of letter ≡ x
       → reasoned_by (rules_of s) x (place_judged (rules_of s) n start cursor) ≡ Reasoned.Because w → Explained s work cursor letter w
   unfolding reasoned_by
   from-letter a l none q e = absurd (not-because e)
   from-letter a l (some c) q e = from_place a l q _ refl e
 
-  from-lent : {n start : ℕ} → checked s ≡ Checked.Accepted n start → (t : Bool) → enough_place work cursor n ≡ t
+  from-lent : {n start : ℕ} → checked s ≡ Checked.Accepted n start → (t : Bool) → enough_asked work cursor n ≡ t
       → reasoned_from (rules_of s) cursor letter (cond t (Checked.Accepted n start) (Checked.Refused Refusal.Lent)) ≡ Reasoned.Because w
       → Explained s work cursor letter w
   unfolding reasoned_from
@@ -79,14 +79,14 @@ module _ (s work cursor : List ℕ) (letter : ℕ) (w : Reason) where
   from-lent a false l e = absurd (not-because e)
 
   from-checked : (x : Checked) → checked s ≡ x
-      → reasoned_from (rules_of s) cursor letter (lent_judged work cursor x) ≡ Reasoned.Because w → Explained s work cursor letter w
-  unfolding reasoned_from lent_judged
-  from-checked (Checked.Accepted n start) a e = from-lent a (enough_place work cursor n) refl e
+      → reasoned_from (rules_of s) cursor letter (asked_judged work cursor x) ≡ Reasoned.Because w → Explained s work cursor letter w
+  unfolding reasoned_from asked_judged
+  from-checked (Checked.Accepted n start) a e = from-lent a (enough_asked work cursor n) refl e
   from-checked (Checked.Refused x) a e = absurd (not-because e)
 
   -- what is explained is answered
   explains : Explained s work cursor letter w → reasoned s work cursor letter ≡ Reasoned.Because w
-  unfolding reasoned reasoned_from lent_judged reasoned_by reasoned_at
+  unfolding reasoned reasoned_from asked_judged reasoned_by reasoned_at
   explains x =
       rw (x.accepted, x.lent, x.reads, x.place)
       (let named = place-named (rules_of s) x.n x.start cursor x.place in

@@ -1,5 +1,5 @@
 -- What reason answers and leaves, from what is lent (document 02, Note 11).
-use Rattle.std.specs.Prelude.{ℕ, ◌≡◌, true, List}
+use Rattle.std.specs.Prelude.{ℕ, ◌≡◌, Bool, true, cond, ◌&&◌, List}
 use Rattle.std.proofs.Math.Option.{Option, none, some}
 use Rattle.rule.specs.declared.Rule.{Rule}
 use Rattle.refusal.specs.declared.Refusal.{Refusal}
@@ -9,12 +9,21 @@ use Rattle.forest.specs.declared.Walked.{Walked}
 use Rattle.forest.specs.Forest.{forest}
 use Rattle.forest.specs.Letter.{Letter, letter_of}
 use Rattle.forest.specs.Reference.{Path}
-use Rattle.forest.specs.Outcome.{work_after}
-use Rattle.forest.specs.Walk.{Begun, refused, at, enough_place, lent_judged, place_judged}
+use Rattle.forest.specs.Outcome.{enough_work, work_after}
+use Rattle.forest.specs.Walk.{Begun, refused, at, enough_cursor, place_judged}
 use Rattle.reasons.specs.declared.Reason.{Reason}
 use Rattle.reasons.specs.declared.Reasoned.{Reasoned}
 use Rattle.reasons.specs.Reason.{reason_of}
 use Rattle.reasons.specs.Says.{Says}
+
+-- "All that is lent, work too, is refused as in walk": 8: work or cursor is too short
+unfoldable pub enough_asked : List ℕ → List ℕ → ℕ → Bool
+enough_asked work cursor n = enough_work n work && enough_cursor n cursor
+
+-- n and start, or the refusal
+unfoldable pub asked_judged : List ℕ → List ℕ → Checked → Checked
+asked_judged work cursor (Checked.Accepted n start) = cond (enough_asked work cursor n) (Checked.Accepted n start) (Checked.Refused Refusal.Lent)
+asked_judged work cursor (Checked.Refused x) = Checked.Refused x
 
 -- "For a plan, a cursor and one letter, say which holds", of the walked rule's forest; .. 10
 unfoldable pub reasoned_at : List Rule → Letter → Begun → Reasoned
@@ -31,13 +40,13 @@ unfoldable pub reasoned_from : List Rule → List ℕ → ℕ → Checked → Re
 reasoned_from R cursor letter (Checked.Accepted n start) = reasoned_by R (letter_of letter) (place_judged R n start cursor)
 reasoned_from R cursor letter (Checked.Refused x) = Reasoned.Refused x
 
--- "All that is lent, work too, is refused as in walk": as check, 8, 9, 10
+-- as check, 8, 9, 10
 unfoldable pub reasoned : List ℕ → List ℕ → List ℕ → ℕ → Reasoned
-reasoned s work cursor letter = reasoned_from (rules_of s) cursor letter (lent_judged work cursor (checked s))
+reasoned s work cursor letter = reasoned_from (rules_of s) cursor letter (asked_judged work cursor (checked s))
 
 -- "Past 8 .. the first 32 × n words of work end as zeros" (document 01)
 unfoldable pub reasoned_work : List ℕ → List ℕ → List ℕ → List ℕ
-reasoned_work s work cursor = work_after (enough_place work cursor) (checked s) work
+reasoned_work s work cursor = work_after (enough_asked work cursor) (checked s) work
 
 -- "say which holds": nothing is turned down, and w's sentence holds of the walked rule's forest and the path of the stored place
 pub record Explained (s work cursor : List ℕ) (letter : ℕ) (w : Reason) : Type 0 where
@@ -47,7 +56,7 @@ pub record Explained (s work cursor : List ℕ) (letter : ℕ) (w : Reason) : Ty
   pub path : Path
   pub pressed : Letter
   pub accepted : checked s ≡ Checked.Accepted n start
-  pub lent : enough_place work cursor n ≡ true
+  pub lent : enough_asked work cursor n ≡ true
   pub reads : letter_of letter ≡ some pressed
   pub place : place_judged (rules_of s) n start cursor ≡ at n walked path
   pub says : Says (forest (rules_of s) walked) pressed path w
