@@ -190,7 +190,7 @@ is-candidate start (of_three_rules a w b) h e =
 -- a plan of the note is in the list, and what is in the list is a plan of the note
 pub members : (s : List ℕ) → Memᴰ s listed ↔ Small s
 members s = (
-  each-small listed counted.all_small s,
+  each-small listed counted.all_small_lem s,
   λ S.
       let R = rules_of s in
       let A = accepts S in

@@ -16,6 +16,7 @@ not-before (x ∷ xs) e = not-before xs (rw (le-ltb x x (omega arith), eq-eqb x 
 
 before-each : (k : List ℕ) (l : List (List ℕ)) → before_all k l ≡ true → (s : List ℕ) → Memᴰ s l → before k (key s) ≡ true
 unfolding before_all
+before-each k [] e s m = elim m [ ]
 before-each k (x ∷ xs) e s (Memᴰ.head q) =
     subst (λ (y : List ℕ). before k (key y) ≡ true) (sym q) ((and-eq-true_iff (before k (key x)) (before_all k xs)).0 e).0
 before-each k (x ∷ xs) e s (Memᴰ.tail m) = before-each k xs ((and-eq-true_iff (before k (key x)) (before_all k xs)).0 e).1 s m

@@ -92,6 +92,7 @@ small-as s (Checked.Accepted n start) e t =
 -- each of plans that pass the test is one of the note's
 pub each-small : (l : List (List ℕ)) → T (all_small l) → (s : List ℕ) → Memᴰ s l → Small s
 unfolding all_small
+each-small [] t s m = elim m [ ]
 each-small (x ∷ xs) t s (Memᴰ.head e) =
     let same : T (is_small s) = subst (λ (y : List ℕ). T (is_small y)) (sym e) (T-left (is_small x) (all_small xs) t) in
     small-as s (checked s) refl same
