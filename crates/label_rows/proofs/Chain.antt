@@ -130,15 +130,15 @@ module _ {a e : ℕ} {r : LabelRow} {rs : List LabelRow} (b : Bounded r) (k : Co
     above = λ x h. let s = stops in less-later r rs x 0 (covers-above r x (omega arith)) (k.above x h);
   }
 
-pub counted-chain : {a e : ℕ} (rs : List LabelRow) → a ≤ e → Each Valid rs → InOrder rs → Counted a e rs → Chain a rs e
+pub counted-chain : (rs : List LabelRow) {a e : ℕ} → a ≤ e → Each Valid rs → InOrder rs → Counted a e rs → Chain a rs e
 unfolding covering
-counted-chain {a} {e} [] h Each.none InOrder.none k =
+counted-chain [] {a} {e} h Each.none InOrder.none k =
     cases (ltb a e)
     (λ t. let z = k.inside a (omega arith) (ltb-true _ _ t) in absurd (omega arith))
     (λ t. let g : e ≤ a = ltb-false _ _ t in
     let q : a ≡ e = omega arith in
     subst (λ (m : ℕ). Chain a [] m) q Chain.none)
-counted-chain {a} {e} (r ∷ rs) h (Each.more v vs) (InOrder.more o os) k =
+counted-chain (r ∷ rs) {a} {e} h (Each.more v vs) (InOrder.more o os) k =
     let b = valid-bounded r v in
     let l = begins b k o h in
     let s = stops b k in

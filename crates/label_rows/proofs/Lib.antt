@@ -5,4 +5,3 @@ pub mod Told
 pub mod Once
 pub mod Search
 pub mod Labels
-pub mod Reading

@@ -1,7 +1,7 @@
 -- Binary search in a sound list: the row sought is one of `count` rows from `low` on, since every row before ends below the label and the
 -- last of these doesn't; the highest labels ascend, so that by the last row of the first half the search goes on past that half or within
 -- what is left. A row that covers the label is the one sought. Assumes nothing.
-use Rattle.std.proofs.Common.{◌≡◌, ℕ, zero, suc, ◌+◌, ◌-◌, ◌/◌, ◌<◌, ◌≤◌, true, cond, ltb, List, length, get_or, sym, refl, ◌∙◌, subst, arith, ltb-false, ltb-true}
+use Rattle.std.proofs.Common.{◌≡◌, ℕ, zero, suc, ◌+◌, ◌-◌, ◌/◌, ◌<◌, ◌≤◌, true, cond, ltb, List, ◌∷◌, length, get_or, sym, refl, ◌∙◌, subst, arith, ltb-false, ltb-true}
 use borrow.Table.Steps.{cases}
 use Rattle.rule.specs.Rule.{largest_label}
 use Rattle.label_rows.specs.declared.LabelRow.{LabelRow}
@@ -54,12 +54,15 @@ chain-ascends zero (suc k) (Chain.more {r = r} v q c) l h = let up = chain-highe
 chain-ascends (suc j) zero (Chain.more v q c) l h = absurd (omega arith)
 chain-ascends (suc j) (suc k) (Chain.more v q c) l h = chain-ascends j k c (omega arith) (omega arith)
 
+chain-tail : (k : ℕ) {b e : ℕ} (r : LabelRow) {rs : List LabelRow} → Chain b rs e → b ≡ r.highest + 1 → k ≡ length rs → highest_at (r ∷ rs) k + 1 ≡ e
+chain-tail zero r Chain.none q n = sym q
+chain-tail (suc k) r Chain.none q n = absurd (omega arith)
+chain-tail zero r (Chain.more w p c) q n = absurd (omega arith)
+chain-tail (suc k) r (Chain.more {r = s} w p c) q n = chain-tail k s c refl (omega arith)
+
 chain-last : {a e : ℕ} {rs : List LabelRow} (k : ℕ) → Chain a rs e → k + 1 ≡ length rs → highest_at rs k + 1 ≡ e
 chain-last k Chain.none n = absurd (omega arith)
-chain-last zero (Chain.more v q Chain.none) n = refl
-chain-last (suc k) (Chain.more v q Chain.none) n = absurd (omega arith)
-chain-last zero (Chain.more v q (Chain.more w p c)) n = absurd (omega arith)
-chain-last (suc k) (Chain.more v q (Chain.more {r = s} w p c)) n = chain-last k (Chain.more {r = s} w p c) (omega arith)
+chain-last k (Chain.more {r = r} v q c) n = chain-tail k r c refl (omega arith)
 
 chain-some : {a e : ℕ} {rs : List LabelRow} → Chain a rs e → a < e → 0 < length rs
 chain-some Chain.none h = absurd (omega arith)

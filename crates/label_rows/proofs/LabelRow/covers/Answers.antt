@@ -1,12 +1,11 @@
 -- A label from the lowest on is as far above it as their difference says; one below wraps to 2^32 less what is missing, which is above the
 -- row's width. Assumes nothing.
-use Rattle.std.proofs.Common.{◌≡◌, ℕ, ◌+◌, ◌-◌, ◌%◌, ◌^◌, ◌<◌, ◌≤◌, ltb, leb, sym, ◌∙◌, arith, rules, ltb-false, ltb-true, leb-false, leb-true}
+use Rattle.std.proofs.Common.{◌≡◌, ℕ, ◌+◌, ◌-◌, ◌%◌, ◌^◌, ◌<◌, ◌≤◌, ltb, leb, sym, ◌∙◌, arith, ltb-false, ltb-true, leb-false, leb-true}
 use borrow.Table.Steps.{cases}
 use Rattle.label_rows.specs.declared.LabelRow.{LabelRow}
 use Rattle.label_rows.specs.Class.{covers}
 use Rattle.label_rows.proofs.Rows.{covers-inside, covers_below, covers-above}
-use Rattle.label_rows.proofs.LabelRow.covers.Statement.{statement}
-use Rattle.label_rows.proofs.LabelRow.covers.Tie as tie
+use Rattle.label_rows.proofs.LabelRow.covers.Goals as goal
 
 wrapped : (r : LabelRow) (d x : ℕ) → d < 2 ^ 32 → r.highest < 2 ^ 32 → r.lowest ≤ r.highest → (d + r.lowest) % 2 ^ 32 ≡ x
     → leb d (r.highest - r.lowest) ≡ covers r x
@@ -19,16 +18,6 @@ wrapped r d x d-fits high_fits rises e =
     (λ under. far ∙ sym (covers_below r x (ltb-true x r.lowest under)))
     (λ over. let o = ltb-false x r.lowest over in far ∙ sym (covers-above r x (omega arith))))
 
-wrapping-sub-u32-requires : tie.Need-wrapping-sub-u32-requires
-wrapping-sub-u32-requires c κs = search rules
-
-sub-result : tie.Need-overflow-sub-result
-sub-result c = search rules
-
-returns : tie.Need-returns
-returns c =
-    let start = c.before.before in
-    wrapped start.args.self c.before.wrapping-sub-u32.result start.args.label (omega (arith, c.before.wrapping-sub-u32.type-inv)) (omega (arith, c.struct_known.given)) start.requires c.before.wrapping-sub-u32.ensures
-
-pub covers-spec : {M : Type 1} → statement M
-covers-spec = tie.close (tie.spec wrapping-sub-u32-requires sub-result returns)
+pub returns : goal.returns
+returns c = let start = c in
+    wrapped start.args.self c.wrapping_sub_u32.result start.args.label (omega (arith, c.wrapping_sub_u32.type_inv)) (omega arith) start.requires c.wrapping_sub_u32.ensures.value
