@@ -1,110 +1,103 @@
--- What a rule of another kind is not: a value that is none of a variant has the other tags, and each of them is a clause.
+-- What a rule of another kind is not: every other kind is a clause.
 -- Assumes nothing.
 use Prim.Native.Nat.{ℕ}
 use mathlib.Core.Path.{◌≡◌, refl}
 use mathlib.Core.Bool.{false}
-use mathlib.Core.List.{List, [], ◌∷◌}
 use mathlib.Core.Option.{Option, none}
-use types.Run.{OneOf, miss}
-use denote.Enum.Declared.{tag_of}
 use Rattle.rule.specs.declared.Rule.{Rule}
-use Rattle.rule.specs.contracts.Rule.{the_type}
 use Rattle.forest.specs.Place.{Cells, Side}
 use Rattle.model.specs.Facts.{Facts}
 use Rattle.model.specs.Stored.{row_under, spine_at, is_node}
 use Rattle.model.specs.Walk.{label}
 use Rattle.model.specs.Model.{Node, outer_of, inner_of, is_part, child_of, beside_hole}
 
--- the tags of all kinds but a fill, but a part, but a node and a part, and but those and a fill
-abbrev but-fill : List ℕ
-but-fill = 0 ∷ 1 ∷ 2 ∷ 4 ∷ 5 ∷ []
+-- no node, no fill, no part
+abbrev pub NoNode : Rule → Type 0
+NoNode x = (a c : ℕ) → x ≡ Rule.Node a c → ⊥
 
-abbrev but-part : List ℕ
-but-part = 0 ∷ 1 ∷ 2 ∷ 3 ∷ 5 ∷ []
+abbrev pub NoFill : Rule → Type 0
+NoFill x = (b c : ℕ) → x ≡ Rule.Fill b c → ⊥
 
-abbrev but-facts : List ℕ
-but-facts = 0 ∷ 1 ∷ 3 ∷ 5 ∷ []
+abbrev pub NoPart : Rule → Type 0
+NoPart x = (a b c : ℕ) → x ≡ Rule.Part a b c → ⊥
 
-abbrev but-tree : List ℕ
-but-tree = 0 ∷ 1 ∷ 5 ∷ []
-
-pub other_outer : (x : Rule) (a : ℕ) → OneOf but-fill (tag_of the_type x) → outer_of x a ≡ a
+pub other_outer : (x : Rule) (a : ℕ) → NoFill x → outer_of x a ≡ a
 unfolding outer_of
-other_outer Rule.Empty a h = refl
-other_outer (Rule.Pair b c) a h = refl
-other_outer (Rule.Node x c) a h = refl
-other_outer (Rule.Fill b c) a h = absurd (miss but-fill 3 tt h)
-other_outer (Rule.Part x b c) a h = refl
-other_outer (Rule.Join b c) a h = refl
+other_outer Rule.Empty a hf = refl
+other_outer (Rule.Pair b c) a hf = refl
+other_outer (Rule.Node x c) a hf = refl
+other_outer (Rule.Fill b c) a hf = absurd (hf b c refl)
+other_outer (Rule.Part x b c) a hf = refl
+other_outer (Rule.Join b c) a hf = refl
 
-pub other-inner : (x : Rule) → OneOf but-fill (tag_of the_type x) → inner_of x ≡ none
+pub other-inner : (x : Rule) → NoFill x → inner_of x ≡ none
 unfolding inner_of
-other-inner Rule.Empty h = refl
-other-inner (Rule.Pair b c) h = refl
-other-inner (Rule.Node x c) h = refl
-other-inner (Rule.Fill b c) h = absurd (miss but-fill 3 tt h)
-other-inner (Rule.Part x b c) h = refl
-other-inner (Rule.Join b c) h = refl
+other-inner Rule.Empty hf = refl
+other-inner (Rule.Pair b c) hf = refl
+other-inner (Rule.Node x c) hf = refl
+other-inner (Rule.Fill b c) hf = absurd (hf b c refl)
+other-inner (Rule.Part x b c) hf = refl
+other-inner (Rule.Join b c) hf = refl
 
-pub other-part : (x : Rule) → OneOf but-part (tag_of the_type x) → is_part x ≡ false
+pub other-part : (x : Rule) → NoPart x → is_part x ≡ false
 unfolding is_part
-other-part Rule.Empty h = refl
-other-part (Rule.Pair b c) h = refl
-other-part (Rule.Node x c) h = refl
-other-part (Rule.Fill b c) h = refl
-other-part (Rule.Part x b c) h = absurd (miss but-part 4 tt h)
-other-part (Rule.Join b c) h = refl
+other-part Rule.Empty hp = refl
+other-part (Rule.Pair b c) hp = refl
+other-part (Rule.Node x c) hp = refl
+other-part (Rule.Fill b c) hp = refl
+other-part (Rule.Part x b c) hp = absurd (hp x b c refl)
+other-part (Rule.Join b c) hp = refl
 
-pub other-hole : (F : Facts) (s : Side) (x : Rule) (cs : Cells) → OneOf but-part (tag_of the_type x) → beside_hole F s x cs ≡ none
+pub other-hole : (F : Facts) (s : Side) (x : Rule) (cs : Cells) → NoPart x → beside_hole F s x cs ≡ none
 unfolding beside_hole
-other-hole F s Rule.Empty cs h = refl
-other-hole F s (Rule.Pair b c) cs h = refl
-other-hole F s (Rule.Node x c) cs h = refl
-other-hole F s (Rule.Fill b c) cs h = refl
-other-hole F s (Rule.Part x b c) cs h = absurd (miss but-part 4 tt h)
-other-hole F s (Rule.Join b c) cs h = refl
+other-hole F s Rule.Empty cs hp = refl
+other-hole F s (Rule.Pair b c) cs hp = refl
+other-hole F s (Rule.Node x c) cs hp = refl
+other-hole F s (Rule.Fill b c) cs hp = refl
+other-hole F s (Rule.Part x b c) cs hp = absurd (hp x b c refl)
+other-hole F s (Rule.Join b c) cs hp = refl
 
-pub other-child : (F : Facts) (s : Side) (x : Rule) (cs : Cells) → OneOf but-facts (tag_of the_type x) → child_of F s x cs ≡ none
+pub other-child : (F : Facts) (s : Side) (x : Rule) (cs : Cells) → NoNode x → NoPart x → child_of F s x cs ≡ none
 unfolding child_of
-other-child F s Rule.Empty cs h = refl
-other-child F s (Rule.Pair b c) cs h = refl
-other-child F s (Rule.Node x c) cs h = absurd (miss but-facts 2 tt h)
-other-child F s (Rule.Fill b c) cs h = refl
-other-child F s (Rule.Part x b c) cs h = absurd (miss but-facts 4 tt h)
-other-child F s (Rule.Join b c) cs h = refl
+other-child F s Rule.Empty cs hn hp = refl
+other-child F s (Rule.Pair b c) cs hn hp = refl
+other-child F s (Rule.Node x c) cs hn hp = absurd (hn x c refl)
+other-child F s (Rule.Fill b c) cs hn hp = refl
+other-child F s (Rule.Part x b c) cs hn hp = absurd (hp x b c refl)
+other-child F s (Rule.Join b c) cs hn hp = refl
 
-pub other-label : (x : Rule) → OneOf but-facts (tag_of the_type x) → label x ≡ 0
+pub other-label : (x : Rule) → NoNode x → NoPart x → label x ≡ 0
 unfolding label
-other-label Rule.Empty h = refl
-other-label (Rule.Pair b c) h = refl
-other-label (Rule.Node x c) h = absurd (miss but-facts 2 tt h)
-other-label (Rule.Fill b c) h = refl
-other-label (Rule.Part x b c) h = absurd (miss but-facts 4 tt h)
-other-label (Rule.Join b c) h = refl
+other-label Rule.Empty hn hp = refl
+other-label (Rule.Pair b c) hn hp = refl
+other-label (Rule.Node x c) hn hp = absurd (hn x c refl)
+other-label (Rule.Fill b c) hn hp = refl
+other-label (Rule.Part x b c) hn hp = absurd (hp x b c refl)
+other-label (Rule.Join b c) hn hp = refl
 
-pub other_row : (x : Rule) (k d : ℕ) → OneOf but-facts (tag_of the_type x) → row_under x k d ≡ none
+pub other_row : (x : Rule) (k d : ℕ) → NoNode x → NoPart x → row_under x k d ≡ none
 unfolding row_under
-other_row Rule.Empty k d h = refl
-other_row (Rule.Pair b c) k d h = refl
-other_row (Rule.Node x c) k d h = absurd (miss but-facts 2 tt h)
-other_row (Rule.Fill b c) k d h = refl
-other_row (Rule.Part x b c) k d h = absurd (miss but-facts 4 tt h)
-other_row (Rule.Join b c) k d h = refl
+other_row Rule.Empty k d hn hp = refl
+other_row (Rule.Pair b c) k d hn hp = refl
+other_row (Rule.Node x c) k d hn hp = absurd (hn x c refl)
+other_row (Rule.Fill b c) k d hn hp = refl
+other_row (Rule.Part x b c) k d hn hp = absurd (hp x b c refl)
+other_row (Rule.Join b c) k d hn hp = refl
 
-pub other-spine : (x : Rule) (p k : ℕ) (o : Option ℕ) (a : ℕ) → OneOf but-tree (tag_of the_type x) → spine_at x p k o a ≡ false
+pub other-spine : (x : Rule) (p k : ℕ) (o : Option ℕ) (a : ℕ) → NoNode x → NoFill x → NoPart x → spine_at x p k o a ≡ false
 unfolding spine_at
-other-spine Rule.Empty p k o a h = refl
-other-spine (Rule.Pair b c) p k o a h = refl
-other-spine (Rule.Node x c) p k o a h = absurd (miss but-tree 2 tt h)
-other-spine (Rule.Fill b c) p k o a h = absurd (miss but-tree 3 tt h)
-other-spine (Rule.Part x b c) p k o a h = absurd (miss but-tree 4 tt h)
-other-spine (Rule.Join b c) p k o a h = refl
+other-spine Rule.Empty p k o a hn hf hp = refl
+other-spine (Rule.Pair b c) p k o a hn hf hp = refl
+other-spine (Rule.Node x c) p k o a hn hf hp = absurd (hn x c refl)
+other-spine (Rule.Fill b c) p k o a hn hf hp = absurd (hf b c refl)
+other-spine (Rule.Part x b c) p k o a hn hf hp = absurd (hp x b c refl)
+other-spine (Rule.Join b c) p k o a hn hf hp = refl
 
-pub other-node : (x : Rule) (k : ℕ) → OneOf but-facts (tag_of the_type x) → is_node x k ≡ false
+pub other-node : (x : Rule) (k : ℕ) → NoNode x → NoPart x → is_node x k ≡ false
 unfolding is_node
-other-node Rule.Empty k h = refl
-other-node (Rule.Pair b c) k h = refl
-other-node (Rule.Node x c) k h = absurd (miss but-facts 2 tt h)
-other-node (Rule.Fill b c) k h = refl
-other-node (Rule.Part x b c) k h = absurd (miss but-facts 4 tt h)
-other-node (Rule.Join b c) k h = refl
+other-node Rule.Empty k hn hp = refl
+other-node (Rule.Pair b c) k hn hp = refl
+other-node (Rule.Node x c) k hn hp = absurd (hn x c refl)
+other-node (Rule.Fill b c) k hn hp = refl
+other-node (Rule.Part x b c) k hn hp = absurd (hp x b c refl)
+other-node (Rule.Join b c) k hn hp = refl

@@ -1,0 +1,10 @@
+-- The word that a link keeps for the end of the run. Assumes nothing.
+use mathlib.Core.Path.{sym, ◌∙◌}
+use Rattle.side.specs.Side.{side_of}
+use Rattle.facts.specs.Facts.{link_in}
+use Rattle.facts.proofs.Words.{facts_in-last}
+use Rattle.facts.proofs.last_at.Goals as goal
+
+pub returns : goal.returns
+unfolding link_in
+returns c = let a = c.args in c.word_at.ensures ∙ sym (facts_in-last a.work.now a.r c.requires (side_of a.side))
