@@ -14,16 +14,11 @@ use unseal::Unsealed;
 
 // What a checked answer leaves behind the pointers, and the result.
 pub fn give_checked(answer: Checked, n: &mut u16, start: &mut u16, position: &mut u64) -> u32
-    ensures { let n' = n.exit.now in
-        let start' = start.exit.now in
-        let position' = position.new in
-        let n = n.entry.now in
-        let start = start.entry.now in
-        let given = checked_gives answer in
+    ensures { let given = checked_gives answer in
         (result ≡ result_number given)
-        × (n' ≡ behind 0 given n)
-        × (start' ≡ behind 1 given start)
-        × (position' ≡ result_position given) }
+        × (n.new ≡ behind 0 given n.old)
+        × (start.new ≡ behind 1 given start.old)
+        × (position.new ≡ result_position given) }
 {
     match answer {
         Checked::Accepted {
@@ -50,17 +45,12 @@ pub fn give_unsealed(
     start: &mut u16,
     position: &mut u64,
 ) -> u32
-    ensures { let n' = n.exit.now in
-        let start' = start.exit.now in
-        let position' = position.new in
-        let n = n.entry.now in
-        let start = start.entry.now in
-        let given = unsealed_gives answer in
+    ensures { let given = unsealed_gives answer in
         (result ≡ result_number given)
         × (record_length.new ≡ behind 0 given record_length.old)
-        × (n' ≡ behind 1 given n)
-        × (start' ≡ behind 2 given start)
-        × (position' ≡ result_position given) }
+        × (n.new ≡ behind 1 given n.old)
+        × (start.new ≡ behind 2 given start.old)
+        × (position.new ≡ result_position given) }
 {
     match answer {
         Unsealed::Words {
@@ -109,19 +99,12 @@ pub fn give_measured(
     levels: &mut u64,
     position: &mut u64,
 ) -> u32
-    ensures { let trees' = trees.exit.now in
-        let entries' = entries.exit.now in
-        let levels' = levels.exit.now in
-        let position' = position.new in
-        let trees = trees.entry.now in
-        let entries = entries.entry.now in
-        let levels = levels.entry.now in
-        let given = measured_gives answer in
+    ensures { let given = measured_gives answer in
         (result ≡ result_number given)
-        × (trees' ≡ behind 0 given trees)
-        × (entries' ≡ behind 1 given entries)
-        × (levels' ≡ behind 2 given levels)
-        × (position' ≡ result_position given) }
+        × (trees.new ≡ behind 0 given trees.old)
+        × (entries.new ≡ behind 1 given entries.old)
+        × (levels.new ≡ behind 2 given levels.old)
+        × (position.new ≡ result_position given) }
 {
     match answer {
         Measured::Counts {
@@ -173,16 +156,11 @@ pub fn give_compared(
     count: &mut u32,
     position: &mut u64,
 ) -> u32
-    ensures { let verdict' = verdict.exit.now in
-        let count' = count.exit.now in
-        let position' = position.new in
-        let verdict = verdict.entry.now in
-        let count = count.entry.now in
-        let given = compared_gives answer in
+    ensures { let given = compared_gives answer in
         (result ≡ result_number given)
-        × (verdict' ≡ behind 0 given verdict)
-        × (count' ≡ behind 1 given count)
-        × (position' ≡ result_position given) }
+        × (verdict.new ≡ behind 0 given verdict.old)
+        × (count.new ≡ behind 1 given count.old)
+        × (position.new ≡ result_position given) }
 {
     match answer {
         Compared::Same(pairs) => {
