@@ -1,3 +1,2 @@
 // The client's copy as rules (document 02, Note 6): definitions and theorems alone.
 #![tactic(auto)]
-
