@@ -15,11 +15,8 @@ use Rattle.model.specs.Model.{along, outer, inner_of}
 use Rattle.model.specs.Stored.{Form, State, form_of, row_under, row_in, after_row, is_that, spine_at, spine_in, reaches, kept_by, after_run, next, state_after, ends_well}
 use Rattle.forest.proofs.Cases.{by_bool}
 use Rattle.facts.specs.Closes.{Names, Closed}
-use types.Run.{OneOf, miss}
-use denote.Enum.Declared.{tag_of}
 use Rattle.place_check.specs.declared.Found.{Found}
 use Rattle.place_check.specs.declared.State.{State as CodeState}
-use Rattle.place_check.specs.contracts.State.{the_type}
 use Rattle.place_check.specs.States.{maybe, state_of, MaybeHas, StateHas, after_spine}
 use Rattle.facts.proofs.Closes.{along-has, outer-has}
 
@@ -191,25 +188,25 @@ module _ (c : Cell) where
     form-else u v w x = rw (eq-eqb _ _ zero, ne_eqb _ _ u, ne_eqb _ _ v, ne_eqb _ _ w, ne_eqb _ _ x)
 
 -- a state that is no rule's leads on to none
-abbrev but-at : List ℕ
-but-at = 0 ∷ 2 ∷ []
+abbrev pub NotAt : CodeState → Type 0
+NotAt x = (p k : ℕ) (o : Found) → x ≡ CodeState.At p k o → ⊥
 
-pub other-after-spine : (F : Facts) (x : CodeState) (a : ℕ) → OneOf but-at (tag_of the_type x) → after_spine F (state_of x) a ≡ State.wrong
+pub other-after-spine : (F : Facts) (x : CodeState) (a : ℕ) → NotAt x → after_spine F (state_of x) a ≡ State.wrong
 unfolding after_spine spine_in
 other-after-spine F CodeState.Above a h = refl
-other-after-spine F (CodeState.At p k o) a h = absurd (miss but-at 1 tt h)
+other-after-spine F (CodeState.At p k o) a h = absurd (h p k o refl)
 other-after-spine F CodeState.Wrong a h = refl
 
-pub other-after-run : (F : Facts) (x : CodeState) (s : Side) (a b : ℕ) → OneOf but-at (tag_of the_type x) → after_run F (state_of x) s a b ≡ State.wrong
+pub other-after-run : (F : Facts) (x : CodeState) (s : Side) (a b : ℕ) → NotAt x → after_run F (state_of x) s a b ≡ State.wrong
 unfolding after_run
 other-after-run F CodeState.Above s a b h = refl
-other-after-run F (CodeState.At p k o) s a b h = absurd (miss but-at 1 tt h)
+other-after-run F (CodeState.At p k o) s a b h = absurd (h p k o refl)
 other-after-run F CodeState.Wrong s a b h = refl
 
-pub other-end : (F : Facts) (x : CodeState) → OneOf but-at (tag_of the_type x) → ends_well F (state_of x) ≡ false
+pub other-end : (F : Facts) (x : CodeState) → NotAt x → ends_well F (state_of x) ≡ false
 unfolding ends_well
 other-end F CodeState.Above h = refl
-other-end F (CodeState.At p k o) h = absurd (miss but-at 1 tt h)
+other-end F (CodeState.At p k o) h = absurd (h p k o refl)
 other-end F CodeState.Wrong h = refl
 
 -- P of the rules of a code's state
