@@ -9,8 +9,10 @@ ghost use Rattle.plan_list.specs.Listed.{three_rules, candidates, rules_at, plac
 ghost use Rattle.plan_list.specs.Lines.{hex_digit, hexes, hex_line, list_output};
 ghost use Rattle.listing.specs.Left.{Left, Candidate};
 
-use libc::STDOUT_FILENO;
 use plan::Checked;
+use std::io;
+use std::io::Write;
+use std::rt::Stdout;
 
 // Candidates, and the first that have two rules and three.
 const CANDIDATES: usize = 7059;
@@ -27,13 +29,22 @@ const LINE: usize = 69;
 // What ends a line.
 const LINE_END: u8 = 10;
 
+// Standard output, and how writing to it has gone.
+#[derive(Drop)]
+struct Printer {
+    stdout: Stdout,
+    gone: io::Result<()>,
+}
+
 // Bytes printed: those that come next in the program's output, of which so many were printed before; gives how many are printed then.
-// Nothing else here writes.
-fn emit(done: usize, bytes: &[u8]) -> usize
+// Nothing else here writes. After a write that failed none is tried, and main ends with its error.
+fn emit(printer: &mut Printer, done: usize, bytes: &[u8]) -> usize
     requires { Next list_output done bytes.now × (done + length bytes.now ≤ 1000000) }
     ensures { result ≡ done + length bytes.now }
 {
-    io::write_all(STDOUT_FILENO, bytes);
+    if printer.gone.is_ok() {
+        printer.gone = Write::write_all(&mut printer.stdout, bytes);
+    }
     done + bytes.len()
 }
 
@@ -145,7 +156,7 @@ fn put_line(out: &mut [u8], plan: &[u8]) -> usize
 }
 
 // A candidate with labels 0 alone: printed if check accepts it.
-fn list_plan(i: usize, done: usize, plan: &[u8]) -> usize
+fn list_plan(printer: &mut Printer, i: usize, done: usize, plan: &[u8]) -> usize
     requires { Left i done × Candidate i plan.now }
     ensures { Left (i + 1) result }
 {
@@ -154,11 +165,11 @@ fn list_plan(i: usize, done: usize, plan: &[u8]) -> usize
     }
     let mut out = [0u8; LINE];
     let end = put_line(&mut out, plan);
-    emit(done, &out[..end])
+    emit(printer, done, &out[..end])
 }
 
 // A candidate by its number.
-fn list_one(i: usize, done: usize) -> usize
+fn list_one(printer: &mut Printer, i: usize, done: usize) -> usize
     requires { Left i done × (i < candidates) }
     ensures { Left (i + 1) result }
 {
@@ -171,22 +182,27 @@ fn list_one(i: usize, done: usize) -> usize
     let n = rules_at(i);
     let plan = three_rules(n, (j % 3) as u8, a, b);
     let first = 24 - 8 * (n as usize);
-    list_plan(i, done, &plan[first..])
+    list_plan(printer, i, done, &plan[first..])
 }
 
 // All of them, in order; gives how many bytes were printed, after which nothing is left.
-fn list() -> usize
+fn list(printer: &mut Printer) -> usize
     ensures { drop result list_output ≡ [] }
 {
     let mut done = 0;
     let mut i = 0;
     while i < CANDIDATES {
-        done = list_one(i, done);
+        done = list_one(printer, i, done);
         i += 1;
     }
     done
 }
 
-fn main() {
-    list();
+fn main(rt: HostRuntime) -> io::Result<()> {
+    let mut printer = Printer {
+        stdout: rt.stdout(),
+        gone: Ok(()),
+    };
+    list(&mut printer);
+    printer.gone
 }
