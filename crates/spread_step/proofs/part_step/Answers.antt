@@ -6,14 +6,14 @@ use Rattle.spread_step.proofs.Named.{named-room}
 use Rattle.spread_step.proofs.part_step.Goals as goal
 
 pub whole-requires : goal.whole-requires
-whole-requires c = named-room c.requires _ (search (part_one, part_two))
+whole-requires c = named-room c.requires _ part_one
 
 pub returns-then-p-eq-BEFORE : goal.returns-then-p-eq-BEFORE
 unfolding rule_step
 returns-then-p-eq-BEFORE c = rw (eq-eqb _ _ c.if-p-eq-BEFORE.true, ← c.whole.ensures) c.opening.ensures
 
 pub whole-requires-2 : goal.whole-requires-2
-whole-requires-2 c = named-room c.requires _ (search (part_one, part_two))
+whole-requires-2 c = named-room c.requires _ part_two
 
 pub returns : goal.returns
 unfolding rule_step
