@@ -52,11 +52,7 @@ fn put_line(out: &mut [u8], at: usize, letter: u8, word: u32) -> usize
 pub fn put_lines(out: &mut [u8], letters: &[u8], answers: &[u8]) -> usize
     requires { (answer_length * length letters.now ≤ length answers.now)
         × (length (lines letters.now (answers_from (length letters.now) answers.now 0)) ≤ length out.old) }
-    ensures { let out' = out.exit.now in
-        let letters = letters.entry.now in
-        let answers = answers.entry.now in
-        let out = out.entry.now in
-        Put (lines letters (answers_from (length letters) answers 0)) 0 out out' result }
+    ensures { Put (lines letters.now (answers_from (length letters.now) answers.now 0)) 0 out.old out.new result }
 {
     let mut end = 0;
     let mut i = 0;
