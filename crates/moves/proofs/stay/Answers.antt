@@ -4,12 +4,8 @@ use native.Mathlib.Omega.{arith}
 use Rattle.move_parts.specs.declared.Change.{Change}
 use Rattle.move_parts.specs.Change.{change_node, Able, AbleStay, keep_of}
 use Rattle.move_parts.proofs.Outcomes.{decided}
-use Rattle.moves.proofs.stay.Statement.{statement}
-use Rattle.moves.proofs.stay.Tie as tie
+use Rattle.moves.proofs.stay.Goals as goal
 
-returns : tie.Need-returns
+pub returns : goal.returns
 unfolding change_node Able AbleStay keep_of
 returns c = let a = c.args in (refl, λ t s. decided (Change.Kept a.k a.p) refl tt (omega arith))
-
-pub stay-spec : {M : Type 1} → statement M
-stay-spec = tie.close (tie.spec returns)
