@@ -5,17 +5,15 @@ use native.Mathlib.Omega.{arith}
 use native.Mathlib.Decide.{dec_lt}
 use mathlib.Core.Path.{◌≡◌, refl, ap, ap₂, ◌∙◌}
 use mathlib.Core.Bool.{Bool, true, false, cond}
-use mathlib.Core.List.{List, [], ◌∷◌}
+use mathlib.Core.List.{List}
 use lib.ListN.{length}
 use lib.Dec.{T, leb, leb→le}
-use types.Run.{OneOf, miss}
-use denote.Enum.Declared.{tag_of}
 use Rattle.words.specs.Number.{base}
 use Rattle.record.specs.Format.{word_length}
 use Rattle.rule.specs.declared.Rule.{Rule}
 use Rattle.rule.specs.Rule.{largest_label, labelled, labelled_to}
-use Rattle.rule.specs.contracts.Rule.{the_type}
 use Rattle.model.specs.Walk.{label}
+use Rattle.facts.proofs.Rules.{NoNode, NoPart}
 use Rattle.label_rows.specs.declared.LabelRow.{LabelRow}
 use Rattle.label_rows.specs.Class.{row_of, grams_of}
 use Rattle.work_rows.specs.Rows.{row_length, field, put_field, rule_in}
@@ -28,26 +26,23 @@ use Rattle.copy_variants.specs.Variants.{seen_in}
 use Rattle.label_annotate.specs.Annotated.{at_seen, marked, Annotatable, Annotated}
 
 -- a rule that is neither a node nor a part has no label
-abbrev but-labelled : List ℕ
-but-labelled = 0 ∷ 1 ∷ 3 ∷ 5 ∷ []
-
-pub other-seen : (v : ℕ → Bool) (x : Rule) → OneOf but-labelled (tag_of the_type x) → seen_in v x ≡ true
+pub other-seen : (v : ℕ → Bool) (x : Rule) → NoNode x → NoPart x → seen_in v x ≡ true
 unfolding seen_in
-other-seen v Rule.Empty h = refl
-other-seen v (Rule.Pair b c) h = refl
-other-seen v (Rule.Node a c) h = absurd (miss but-labelled 2 tt h)
-other-seen v (Rule.Fill b c) h = refl
-other-seen v (Rule.Part a b c) h = absurd (miss but-labelled 4 tt h)
-other-seen v (Rule.Join b c) h = refl
+other-seen v Rule.Empty n p = refl
+other-seen v (Rule.Pair b c) n p = refl
+other-seen v (Rule.Node a c) n p = absurd (n a c refl)
+other-seen v (Rule.Fill b c) n p = refl
+other-seen v (Rule.Part a b c) n p = absurd (p a b c refl)
+other-seen v (Rule.Join b c) n p = refl
 
-pub other-own : (w : ℕ → ℕ) (x : Rule) → OneOf but-labelled (tag_of the_type x) → own_weight w x ≡ 0
+pub other-own : (w : ℕ → ℕ) (x : Rule) → NoNode x → NoPart x → own_weight w x ≡ 0
 unfolding own_weight
-other-own w Rule.Empty h = refl
-other-own w (Rule.Pair b c) h = refl
-other-own w (Rule.Node a c) h = absurd (miss but-labelled 2 tt h)
-other-own w (Rule.Fill b c) h = refl
-other-own w (Rule.Part a b c) h = absurd (miss but-labelled 4 tt h)
-other-own w (Rule.Join b c) h = refl
+other-own w Rule.Empty n p = refl
+other-own w (Rule.Pair b c) n p = refl
+other-own w (Rule.Node a c) n p = absurd (n a c refl)
+other-own w (Rule.Fill b c) n p = refl
+other-own w (Rule.Part a b c) n p = absurd (p a b c refl)
+other-own w (Rule.Join b c) n p = refl
 
 -- only the rule's own label is looked at
 own-label : (v : ℕ → Bool) (w : ℕ → ℕ) (x : Rule)
