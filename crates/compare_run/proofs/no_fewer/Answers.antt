@@ -5,12 +5,10 @@ use mathlib.Core.Path.{◌≡◌, sym, ap₂}
 use mathlib.Core.Bool.{true, false}
 use native.Mathlib.Omega.{arith}
 use lib.Dec.{leb}
-use borrow.Author.Rules.{rules}
 use borrow.Author.Tests.{le-leb, lt-leb}
 use Rattle.count_capped.specs.declared.Count.{Count}
 use Rattle.count_capped.specs.Count.{count_limit, capped, number_of}
-use Rattle.compare_run.proofs.no_fewer.Statement.{statement}
-use Rattle.compare_run.proofs.no_fewer.Tie as tie
+use Rattle.compare_run.proofs.no_fewer.Goals as goal
 
 -- x counts n and y counts m
 module _ (x y : Count) (n m : ℕ) (e : number_of x ≡ n) (f : number_of y ≡ m) where
@@ -26,33 +24,17 @@ module _ (x y : Count) (n m : ℕ) (e : number_of x ≡ n) (f : number_of y ≡ 
       let q : x.low ≡ capped n = omega arith in
       ap₂ leb p q
 
-task-nodes-requires : tie.Need-task-nodes-requires
-task-nodes-requires c κs = search rules
+pub returns-then-one-ne0 : goal.returns-then-one-ne0
+returns-then-one-ne0 c = let one = c.task_nodes-one in
+    let two = c.task_nodes-two in
+    first-over one.result two.result _ _ one.ensures two.ensures c.if-one-ne0.true
 
-task-nodes-requires-2 : tie.Need-task-nodes-requires-2
-task-nodes-requires-2 c κs = search rules
+pub returns-then-two-ne0 : goal.returns-then-two-ne0
+returns-then-two-ne0 c = let one = c.task_nodes-one in
+    let two = c.task_nodes-two in
+    second-over one.result two.result _ _ one.ensures two.ensures (omega arith) (omega arith) c.if-two-ne0.true
 
-returns : tie.Need-returns
-returns c =
-    let past-counts = c.before.before in
-    let one = past-counts.before.task-nodes in
-    let two = past-counts.task-nodes2 in
-    first-over one.result two.result _ _ one.ensures two.ensures c.if1.true
-
-returns-2 : tie.Need-returns-2
-returns-2 c =
-    let past-counts = c.before.before.before.before in
-    let one = past-counts.before.task-nodes in
-    let two = past-counts.task-nodes2 in
-    second-over one.result two.result _ _ one.ensures two.ensures (omega arith) (omega arith) c.if2.true
-
-returns-3 : tie.Need-returns-3
-returns-3 c =
-    let past-tests = c.before.before in
-    let past-counts = past-tests.before.before.before.before in
-    let one = past-counts.before.task-nodes in
-    let two = past-counts.task-nodes2 in
+pub returns : goal.returns
+returns c = let one = c.task_nodes-one in
+    let two = c.task_nodes-two in
     neither-over one.result two.result _ _ one.ensures two.ensures (omega arith) (omega arith) (omega arith) (omega arith)
-
-pub no-fewer-spec : {M : Type 1} → statement M
-no-fewer-spec = tie.close (tie.spec task-nodes-requires task-nodes-requires-2 returns returns-2 returns-3)
