@@ -99,11 +99,7 @@ fn put_blank_line(out: &mut [u8], at: usize) -> usize
 fn put_lines(out: &mut [u8], first: u64, letters: &[u8], given: &[u8]) -> usize
     requires { (answer_length * length letters.now ≤ length given.now) × (first + length letters.now ≤ most_number + 1)
         × Shorts (answers_from (length letters.now) given.now 0) × (line_bytes * length letters.now ≤ length out.old) }
-    ensures { let out' = out.exit.now in
-        let letters = letters.entry.now in
-        let given = given.entry.now in
-        let out = out.entry.now in
-        Put (numbered first letters (answers_from (length letters) given 0)) 0 out out' result × (result ≡ line_bytes * length letters) }
+    ensures { Put (numbered first letters.now (answers_from (length letters.now) given.now 0)) 0 out.old out.new result × (result ≡ line_bytes * length letters.now) }
 {
     let mut end = 0;
     let mut i = 0;
@@ -134,11 +130,7 @@ pub fn put_page(out: &mut [u8], first: u64, letters: &[u8], given: &[u8]) -> usi
     requires { (length letters.now ≤ page_lines) × (answer_length * length letters.now ≤ length given.now)
         × (first + length letters.now ≤ most_number + 1) × Shorts (answers_from (length letters.now) given.now 0)
         × (line_bytes * page_lines ≤ length out.old) }
-    ensures { let out' = out.exit.now in
-        let letters = letters.entry.now in
-        let given = given.entry.now in
-        let out = out.entry.now in
-        Put (page_text first letters (answers_from (length letters) given 0)) 0 out out' result × (result ≡ line_bytes * page_lines) }
+    ensures { Put (page_text first letters.now (answers_from (length letters.now) given.now 0)) 0 out.old out.new result × (result ≡ line_bytes * page_lines) }
 {
     let end = put_lines(out, first, letters, given);
     put_blank_lines(out, end, PAGE_LINES - letters.len())
