@@ -1,11 +1,9 @@
 -- Arriving at a node: the case that a change is, what its writers ask and leave, and the label once the cells are written. Assumes nothing.
 use Prim.Native.Nat.{ℕ, ◌+◌, ◌≤◌, ◌<◌}
 use native.Mathlib.Omega.{arith}
-use mathlib.Core.Path.{◌≡◌, sym, ap, subst, ◌∙◌}
+use mathlib.Core.Path.{◌≡◌, refl, sym, ap, subst, ◌∙◌}
 use mathlib.Core.List.{List, [], ◌∷◌}
 use lib.ListN.{length}
-use types.Run.{OneOf, miss}
-use denote.Enum.Declared.{tag_of}
 use Rattle.forest.specs.Place.{Cells, Side}
 use Rattle.forest.specs.Letter.{Letter}
 use Rattle.forest.specs.Walk.{cells_in}
@@ -20,7 +18,6 @@ use Rattle.row_links.proofs.Linking.{linkable-fewer, relinked-none}
 use Rattle.move_parts.specs.declared.Change.{Change}
 use Rattle.move_parts.specs.Moves.{above_top, Turns, Turning}
 use Rattle.move_parts.specs.Change.{turned_at, entered, letter_side, spine_side, entry_side, change_node, keep_of, Able, AbleRoot, AbleChild, AbleSibling, AbleParent, AbleStay}
-use Rattle.move_parts.specs.contracts.Change.{the_type}
 use Rattle.letter_arrival.specs.declared.Landing.{Landing}
 use Rattle.letter_arrival.specs.declared.Standing.{Standing}
 use Rattle.letter_arrival.specs.Arrived.{Settling, Stood, Settled, Arriving, Arrived}
@@ -231,54 +228,42 @@ module _ {t s s' : List ℕ} {k keep : ℕ} {l : Letter} {x : Change} (h : Arriv
           (settled_on next past-made beside-settles past-settles.there (settled-row (facts_in t) (entry_side l) n o next-settles next-kept j y))
 
 -- the cases that a letter doesn't have
-abbrev but-root : List ℕ
-but-root = 0 ∷ 1 ∷ 2 ∷ 3 ∷ 5 ∷ []
-
-abbrev but-child : List ℕ
-but-child = 0 ∷ 2 ∷ 3 ∷ []
-
-abbrev but-parent : List ℕ
-but-parent = 2 ∷ 3 ∷ 4 ∷ 5 ∷ []
-
-abbrev but-stay : List ℕ
-but-stay = 1 ∷ 2 ∷ 3 ∷ 4 ∷ 5 ∷ []
-
 module _ (t s : List ℕ) where
-  pub never-root : (d : Side) (x : Change) → OneOf but-root (tag_of the_type x) → Able t s (Letter.root d) x → ⊥
+  pub never-root : (d : Side) (x : Change) → ((k n o : ℕ) → x ≡ Change.Row k n o → ⊥) → Able t s (Letter.root d) x → ⊥
   unfolding Able AbleRoot
-  never-root d (Change.Kept k r) h a = a
-  never-root d (Change.Turn k v) h a = a
-  never-root d (Change.Tree k v) h a = a
-  never-root d (Change.Beside k v n o) h a = a
-  never-root d (Change.Row k n o) h a = miss but-root 4 tt h
-  never-root d (Change.Spine k b) h a = a
+  never-root d (Change.Kept k r) hr a = a
+  never-root d (Change.Turn k v) hr a = a
+  never-root d (Change.Tree k v) hr a = a
+  never-root d (Change.Beside k v n o) hr a = a
+  never-root d (Change.Row k n o) hr a = hr k n o refl
+  never-root d (Change.Spine k b) hr a = a
 
-  pub never-child : (d : Side) (x : Change) → OneOf but-child (tag_of the_type x) → Able t s (Letter.child d) x → ⊥
+  pub never-child : (d : Side) (x : Change) → ((k v : ℕ) → x ≡ Change.Turn k v → ⊥) → ((k n o : ℕ) → x ≡ Change.Row k n o → ⊥) → ((k b : ℕ) → x ≡ Change.Spine k b → ⊥) → Able t s (Letter.child d) x → ⊥
   unfolding Able AbleChild
-  never-child d (Change.Kept k r) h a = a
-  never-child d (Change.Turn k v) h a = miss but-child 1 tt h
-  never-child d (Change.Tree k v) h a = a
-  never-child d (Change.Beside k v n o) h a = a
-  never-child d (Change.Row k n o) h a = miss but-child 4 tt h
-  never-child d (Change.Spine k b) h a = miss but-child 5 tt h
+  never-child d (Change.Kept k r) ht hr hs a = a
+  never-child d (Change.Turn k v) ht hr hs a = ht k v refl
+  never-child d (Change.Tree k v) ht hr hs a = a
+  never-child d (Change.Beside k v n o) ht hr hs a = a
+  never-child d (Change.Row k n o) ht hr hs a = hr k n o refl
+  never-child d (Change.Spine k b) ht hr hs a = hs k b refl
 
-  pub never-parent : (x : Change) → OneOf but-parent (tag_of the_type x) → Able t s Letter.parent x → ⊥
+  pub never-parent : (x : Change) → ((k r : ℕ) → x ≡ Change.Kept k r → ⊥) → ((k v : ℕ) → x ≡ Change.Turn k v → ⊥) → Able t s Letter.parent x → ⊥
   unfolding Able AbleParent
-  never-parent (Change.Kept k r) h a = miss but-parent 0 tt h
-  never-parent (Change.Turn k v) h a = miss but-parent 1 tt h
-  never-parent (Change.Tree k v) h a = a
-  never-parent (Change.Beside k v n o) h a = a
-  never-parent (Change.Row k n o) h a = a
-  never-parent (Change.Spine k b) h a = a
+  never-parent (Change.Kept k r) hk ht a = hk k r refl
+  never-parent (Change.Turn k v) hk ht a = ht k v refl
+  never-parent (Change.Tree k v) hk ht a = a
+  never-parent (Change.Beside k v n o) hk ht a = a
+  never-parent (Change.Row k n o) hk ht a = a
+  never-parent (Change.Spine k b) hk ht a = a
 
-  pub never-stay : (x : Change) → OneOf but-stay (tag_of the_type x) → Able t s Letter.stay x → ⊥
+  pub never-stay : (x : Change) → ((k r : ℕ) → x ≡ Change.Kept k r → ⊥) → Able t s Letter.stay x → ⊥
   unfolding Able AbleStay
-  never-stay (Change.Kept k r) h a = miss but-stay 0 tt h
-  never-stay (Change.Turn k v) h a = a
-  never-stay (Change.Tree k v) h a = a
-  never-stay (Change.Beside k v n o) h a = a
-  never-stay (Change.Row k n o) h a = a
-  never-stay (Change.Spine k b) h a = a
+  never-stay (Change.Kept k r) hk a = hk k r refl
+  never-stay (Change.Turn k v) hk a = a
+  never-stay (Change.Tree k v) hk a = a
+  never-stay (Change.Beside k v n o) hk a = a
+  never-stay (Change.Row k n o) hk a = a
+  never-stay (Change.Spine k b) hk a = a
 
 -- a walk that stands at a node has its rule, and arrives there with its label
 pub stood-rule : {x : Node} {s s' : List ℕ} {z : Standing} → Stood x s s' z → (t : List ℕ) → In t x.0 → In t z.rule
