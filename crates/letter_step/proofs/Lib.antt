@@ -1,4 +1,0 @@
-pub mod Thin
-pub mod Walks
-pub mod Walked
-pub mod Arm
