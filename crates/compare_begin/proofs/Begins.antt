@@ -9,10 +9,7 @@ use mathlib.Core.Option.{Option}
 use lib.ListN.{length}
 use lib.Dec.{eqb}
 use borrow.Author.Tests.{eqb-true, eq-eqb}
-use types.Run.{OneOf, miss}
-use denote.Enum.Declared.{tag_of}
 use Rattle.rule.specs.declared.Rule.{Rule}
-use Rattle.rule.specs.contracts.Rule.{the_type}
 use Rattle.forest.specs.Expression.{Expression, expression}
 use Rattle.forest.specs.Sizes.{height}
 use Rattle.forest.specs.Forest.{forest}
@@ -69,17 +66,14 @@ no_cells s zero l q = omega arith
 no_cells s (suc k) l q = let e : suc (length (cells_in s k)) ≡ 0 = ap length q in omega arith
 
 -- a rule that is neither a node nor a part begins nothing
-abbrev but-tree : List ℕ
-but-tree = 0 ∷ 1 ∷ 3 ∷ 5 ∷ []
-
-other-begun : (x : Rule) (p : ℕ) (vs : List ℕ) → OneOf but-tree (tag_of the_type x) → begun_of x p vs ≡ []
+other-begun : (x : Rule) (p : ℕ) (vs : List ℕ) → ((a c : ℕ) → x ≡ Rule.Node a c → ⊥) → ((a b c : ℕ) → x ≡ Rule.Part a b c → ⊥) → begun_of x p vs ≡ []
 unfolding begun_of
-other-begun Rule.Empty p vs h = refl
-other-begun (Rule.Pair b c) p vs h = refl
-other-begun (Rule.Node a c) p vs h = absurd (miss but-tree 2 tt h)
-other-begun (Rule.Fill b c) p vs h = refl
-other-begun (Rule.Part a b c) p vs h = absurd (miss but-tree 4 tt h)
-other-begun (Rule.Join b c) p vs h = refl
+other-begun Rule.Empty p vs hn hp = refl
+other-begun (Rule.Pair b c) p vs hn hp = refl
+other-begun (Rule.Node a c) p vs hn hp = absurd (hn a c refl)
+other-begun (Rule.Fill b c) p vs hn hp = refl
+other-begun (Rule.Part a b c) p vs hn hp = absurd (hp a b c refl)
+other-begun (Rule.Join b c) p vs hn hp = refl
 
 same-ranged : (P : ℕ → Type 0) {w : Expression} {x : Option Located} {m : Node} → Every P w → Same w x m → (m.1 ≡ [] → ⊥) → P m.0 × Numbers P m.1
 same-ranged P g Same.above f = absurd (f refl)
@@ -187,8 +181,8 @@ module _ {t s : List ℕ} {n from k p : ℕ} (h : Beginnable t s n from k p) whe
             laid-begun (laid-grown g v) (ap (around (task_word p before) (task_word p after)) g.tasks ∙ sym (begun-here q))
 
     -- another rule
-    pub other-rule : OneOf but-tree (tag_of the_type z) → BegunAt n from k p s (record { from = from; tasks = 0 }) t t
-    other-rule o = laid-begun (laid_none from t refl) (sym (begun-here refl ∙ other-begun z p (hole_in t n s k) o))
+    pub other-rule : ((a c : ℕ) → z ≡ Rule.Node a c → ⊥) → ((a b c : ℕ) → z ≡ Rule.Part a b c → ⊥) → BegunAt n from k p s (record { from = from; tasks = 0 }) t t
+    other-rule hn hp = laid-begun (laid_none from t refl) (sym (begun-here refl ∙ other-begun z p (hole_in t n s k) hn hp))
 
 -- what lies on the stack says the tokens of the subtree, and fits a stack of three words a rule
 pub begun-begins : {t s : List ℕ} {n from k p : ℕ} (h : Beginnable t s n from k p) {x : Begun} {t' : List ℕ} → BegunAt n from k p s x t t'

@@ -9,12 +9,9 @@ use mathlib.Core.List.{List, [], ◌∷◌}
 use lib.ListN.{length}
 use lib.Dec.{eqb}
 use borrow.Author.Tests.{eqb-true, eq-eqb, ne_eqb}
-use types.Run.{OneOf, miss}
-use denote.Enum.Declared.{tag_of}
 use Rattle.rule.specs.declared.Rule.{Rule}
 use Rattle.rule.specs.Names.{Names}
 use Rattle.rule.specs.Sound.{rule}
-use Rattle.rule.specs.contracts.Rule.{the_type}
 use Rattle.forest.specs.Place.{Cell, Cells, Side, cell_row, cell_spine, cell_run}
 use Rattle.forest.specs.Walk.{cell_at, cells_in}
 use Rattle.forest.proofs.Cases.{by_bool}
@@ -168,15 +165,12 @@ module _ {n i k j : ℕ} {s : List ℕ} {x y : Begun} {t u : List ℕ} (h : Cell
   over-end past = let q : j ≡ k = omega (arith, v.most) in rw q at v.grown
 
 -- what cell i opens
-abbrev but-fill : List ℕ
-but-fill = 0 ∷ 1 ∷ 2 ∷ 4 ∷ 5 ∷ []
-
-other-filled : (x : Rule) → OneOf but-fill (tag_of the_type x) → filled_by x ≡ []
+other-filled : (x : Rule) → ((b c : ℕ) → x ≡ Rule.Fill b c → ⊥) → filled_by x ≡ []
 unfolding filled_by
 other-filled Rule.Empty h = refl
 other-filled (Rule.Pair b c) h = refl
 other-filled (Rule.Node a c) h = refl
-other-filled (Rule.Fill b c) h = absurd (miss but-fill 3 tt h)
+other-filled (Rule.Fill b c) h = absurd (h b c refl)
 other-filled (Rule.Part a b c) h = refl
 other-filled (Rule.Join b c) h = refl
 
@@ -218,7 +212,7 @@ module _ {n i : ℕ} {s : List ℕ} {at : ℕ} {t : List ℕ} (h : Openable n i 
         pub filler-laid : {b c : ℕ} → z ≡ Rule.Fill b c → {y : Begun} {u : List ℕ} → Laid at (task_word c whole ∷ []) y t u → Laid at (opened_by (kept_rule t n) s i) y t u
         filler-laid f g = laid-to (sym (opened-fill f)) g
 
-        pub filler-other : OneOf but-fill (tag_of the_type z) → Laid at (opened_by (kept_rule t n) s i) (record { from = at; tasks = 0 }) t t
+        pub filler-other : ((b c : ℕ) → z ≡ Rule.Fill b c → ⊥) → Laid at (opened_by (kept_rule t n) s i) (record { from = at; tasks = 0 }) t t
         filler-other o = laid_none at t (opened-spine ∙ ap filled_by fill-rule ∙ other-filled z o)
 
 -- the whole hole

@@ -6,12 +6,9 @@ use mathlib.Core.Path.{◌≡◌, refl, sym, ap, ◌∙◌}
 use mathlib.Core.List.{List, [], ◌∷◌}
 use lib.ListN.{length, length-append}
 use lib.Dec.{eqb}
-use types.Run.{OneOf, miss}
-use denote.Enum.Declared.{tag_of}
 use Rattle.rule.specs.declared.Rule.{Rule}
 use Rattle.rule.specs.Names.{Names}
 use Rattle.rule.specs.Sound.{rule}
-use Rattle.rule.specs.contracts.Rule.{the_type}
 use Rattle.forest.proofs.Cases.{by_bool}
 use Rattle.forest.proofs.Unfold.{named-below}
 use Rattle.work_rows.specs.Rows.{row_length, rule_in, first_rules, Within}
@@ -77,28 +74,25 @@ until-length X (suc k) a b vs =
     by_bool (eqb a b) (λ u. rw u (omega arith)) (λ u. rw u (omega (arith, step-length (X a) vs)))
 
 -- a rule that is no join ends the run
-abbrev but-join : List ℕ
-but-join = 0 ∷ 1 ∷ 2 ∷ 3 ∷ 4 ∷ []
-
-other-left : (x : Rule) (a : ℕ) → OneOf but-join (tag_of the_type x) → left_of x a ≡ a
+other-left : (x : Rule) (a : ℕ) → ((b c : ℕ) → x ≡ Rule.Join b c → ⊥) → left_of x a ≡ a
 unfolding left_of
 other-left Rule.Empty a h = refl
 other-left (Rule.Pair b c) a h = refl
 other-left (Rule.Node y c) a h = refl
 other-left (Rule.Fill b c) a h = refl
 other-left (Rule.Part y b c) a h = refl
-other-left (Rule.Join b c) a h = absurd (miss but-join 5 tt h)
+other-left (Rule.Join b c) a h = absurd (h b c refl)
 
-other-around : (x : Rule) (vs : List ℕ) → OneOf but-join (tag_of the_type x) → step_around x vs ≡ vs
+other-around : (x : Rule) (vs : List ℕ) → ((b c : ℕ) → x ≡ Rule.Join b c → ⊥) → step_around x vs ≡ vs
 unfolding step_around
 other-around Rule.Empty vs h = refl
 other-around (Rule.Pair b c) vs h = refl
 other-around (Rule.Node y c) vs h = refl
 other-around (Rule.Fill b c) vs h = refl
 other-around (Rule.Part y b c) vs h = refl
-other-around (Rule.Join b c) vs h = absurd (miss but-join 5 tt h)
+other-around (Rule.Join b c) vs h = absurd (h b c refl)
 
-until-other : (X : ℕ → Rule) (k a b : ℕ) (vs : List ℕ) → OneOf but-join (tag_of the_type (X a)) → steps_until X k a b vs ≡ vs
+until-other : (X : ℕ → Rule) (k a b : ℕ) (vs : List ℕ) → ((o c : ℕ) → X a ≡ Rule.Join o c → ⊥) → steps_until X k a b vs ≡ vs
 unfolding steps_until
 until-other X zero a b vs h = refl
 until-other X (suc k) a b vs h =
@@ -153,9 +147,9 @@ module _ {n first b i a : ℕ} {x y : Begun} {s t : List ℕ} (h : LeftRun n fir
   pub run-met : a ≡ b → Grown (kept_run s n first b (tasks_of s x)) x y s t
   run-met q = grown-to (sym (until-met X (n - i) a b (tasks_of t y) q) ∙ v.rest) v.grown
 
-  pub run-other : {z : Rule} → z ≡ rule_in t a → OneOf but-join (tag_of the_type z) → Grown (kept_run s n first b (tasks_of s x)) x y s t
+  pub run-other : {z : Rule} → z ≡ rule_in t a → ((b c : ℕ) → z ≡ Rule.Join b c → ⊥) → Grown (kept_run s n first b (tasks_of s x)) x y s t
   run-other {z} e o =
-      let q : OneOf but-join (tag_of the_type (X a)) = rw (rule-here e) o in
+      let q : ((o c : ℕ) → X a ≡ Rule.Join o c → ⊥) = λ o' c' f. o o' c' (sym (rule-here e) ∙ f) in
       grown-to (sym (until-other X (n - i) a b (tasks_of t y) q) ∙ v.rest) v.grown
 
   -- or a join is stepped over
