@@ -4,11 +4,9 @@ use Prim.Native.Nat.{ℕ, ◌-◌, ◌<◌}
 use native.Mathlib.Omega.{arith}
 use mathlib.Core.Path.{◌≡◌, refl, sym, ap, ◌∙◌}
 use mathlib.Core.Bool.{Bool, true, false}
-use mathlib.Core.List.{List, [], ◌∷◌}
+use mathlib.Core.List.{List}
 use mathlib.Core.Option.{Option, none, some}
 use borrow.Author.Tests.{eq-eqb, ne_eqb}
-use types.Run.{OneOf, miss}
-use denote.Enum.Declared.{tag_of}
 use Rattle.forest.specs.Place.{Cells, cell_row}
 use Rattle.forest.specs.Letter.{Letter}
 use Rattle.forest.specs.Walk.{cell_at, cells_in}
@@ -18,7 +16,6 @@ use Rattle.model.specs.Neighbour.{is_nil}
 use Rattle.model.specs.Walk.{from_node}
 use Rattle.letter.specs.declared.Letter as code
 use Rattle.letter.specs.Letter.{move_of}
-use Rattle.letter.specs.contracts.Letter.{the_type}
 use Rattle.place_cells.proofs.Stack.{cells-none, cells-top}
 use Rattle.move_parts.proofs.Outcomes.{parent-part, parent-off, node-none, node-here}
 use Rattle.letter_moves.proofs.Stands.{from-cells}
@@ -41,20 +38,17 @@ unfolding decided_at
 always-moves c true e = refl
 always-moves c false e = sym e
 
--- the tags of all letters but a and z: above the forest
-abbrev but-roots : List ℕ
-but-roots = 2 ∷ 3 ∷ 4 ∷ 5 ∷ 6 ∷ 7 ∷ []
-
-pub other-above : (x : code.Letter) → OneOf but-roots (tag_of the_type x) → Reason.Above ≡ reason_above (move_of x)
+-- all letters but a and z: above the forest
+pub other-above : (x : code.Letter) → (x ≡ code.Letter.A → ⊥) → (x ≡ code.Letter.Z → ⊥) → Reason.Above ≡ reason_above (move_of x)
 unfolding reason_above move_of
-other-above code.Letter.A h = absurd (miss but-roots 0 tt h)
-other-above code.Letter.Z h = absurd (miss but-roots 1 tt h)
-other-above code.Letter.F h = refl
-other-above code.Letter.L h = refl
-other-above code.Letter.N h = refl
-other-above code.Letter.P h = refl
-other-above code.Letter.U h = refl
-other-above code.Letter.S h = refl
+other-above code.Letter.A ha hz = absurd (ha refl)
+other-above code.Letter.Z ha hz = absurd (hz refl)
+other-above code.Letter.F ha hz = refl
+other-above code.Letter.L ha hz = refl
+other-above code.Letter.N ha hz = refl
+other-above code.Letter.P ha hz = refl
+other-above code.Letter.U ha hz = refl
+other-above code.Letter.S ha hz = refl
 
 -- the cells below a row, looked for from cell i down
 module _ (s : List ℕ) (i : ℕ) where

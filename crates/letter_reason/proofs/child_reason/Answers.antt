@@ -1,0 +1,12 @@
+-- The move to the child leads to a node, or nowhere. Assumes nothing.
+use Rattle.reasons.specs.Decided.{stop_reason}
+use Rattle.move_parts.proofs.Outcomes.{took, took-none}
+use Rattle.letter_reason.proofs.Leads.{leads-moves, leads-stops}
+use Rattle.letter_reason.proofs.child_reason.Goals as goal
+
+pub returns-in-Node : goal.returns-in-Node
+returns-in-Node c = leads-moves _ (took c.child.ensures c.in-Node.is).0
+
+pub returns-in-Nowhere : goal.returns-in-Nowhere
+unfolding stop_reason
+returns-in-Nowhere c = leads-stops _ (took-none c.child.ensures c.in-Nowhere.is)
