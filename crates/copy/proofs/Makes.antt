@@ -1,6 +1,6 @@
 -- Each step of a copy leaves what the next one asks: the rules of an accepted plan in the rows with their order, the words that tell what
 -- may be seen of them, and the copy of the rows, which is one of the plan. Assumes nothing.
-use Prim.Native.Nat.{ℕ, ◌*◌, ◌≤◌, ◌<◌}
+use Prim.Native.Nat.{ℕ, ◌*◌, ◌≤◌}
 use native.Mathlib.Omega.{arith}
 use mathlib.Core.Bool.{Bool, true, false, cond}
 use mathlib.Core.List.{List}
@@ -11,23 +11,21 @@ use Rattle.record.specs.Format.{word_length}
 use Rattle.rule.specs.declared.Rule.{Rule}
 use Rattle.rule.specs.Sound.{Sound, Closed}
 use Rattle.reach.specs.Order.{rank}
-use Rattle.plan.specs.declared.Checked.{Checked}
 use Rattle.plan.specs.declared.Written.{Written}
 use Rattle.plan.specs.Check.{checked, rules_of, most_rules}
 use Rattle.plan.proofs.Sound.{Plan, checked-plan}
-use Rattle.forest.specs.Outcome.{work_words, cleared}
+use Rattle.forest.specs.Outcome.{work_words}
 use Rattle.label_rows.specs.declared.LabelRow.{LabelRow}
 use Rattle.work_rows.specs.Rows.{work_length, rule_in, first_rules, Within}
 use Rattle.work_rows.proofs.Rows.{within_both, within_wider}
 use Rattle.work_rows.proofs.Work.{enough-room, work-least, cleared-same, beyond-work}
-use Rattle.work_load.specs.Prepared.{Arrangeable, Arranged, Prepared}
+use Rattle.work_load.specs.Prepared.{Arrangeable, Arranged}
 use Rattle.work_load.proofs.Prepares.{loaded, itself}
 use Rattle.count_passes.proofs.Column.{besides-rule}
 use Rattle.count_passes.proofs.Ordered.{ready-besides, rules-besides}
 use Rattle.count_passes.proofs.Work.{Held, held}
 use Rattle.copy_variants.specs.Visible.{seen_by}
 use Rattle.copy_variants.specs.Variants.{seen_in, most_copied}
-use Rattle.copy_passes.specs.Copied.{Copied}
 use Rattle.copy_plan.proofs.Written.{copy-accepted, copy-rules}
 use Rattle.copy_rows.specs.Table.{seen_at, SeenColumn}
 use Rattle.label_annotate.specs.Annotated.{Annotatable, Annotated}

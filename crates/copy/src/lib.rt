@@ -81,12 +81,12 @@ fn make(
 
 // The copy of a plan for a client of a class, by a list of label rows, at the front of out: its length, or why it is turned down.
 pub fn copy(plan: &[u8], rows: &[LabelRow], class: u16, work: &mut [u8], out: &mut [u8]) -> Written
-    ensures { let work' = work.exit.now in
-        let out' = out.exit.now in
-        let plan = plan.entry.now in
-        let rows = rows.entry.now in
-        let work = work.entry.now in
-        let out = out.entry.now in
+    ensures { let work' = work.new in
+        let out' = out.new in
+        let plan = plan.now in
+        let rows = rows.now in
+        let work = work.old in
+        let out = out.old in
         CopyOutcome (copy_judged plan rows class work out) plan rows class work work' out out' result }
 {
     let judged = judge_class(plan, class);
