@@ -49,10 +49,10 @@ fn answer(work: &mut [u8], ready: Checked) -> Weighed
 // The grams of a plan by a list of label rows: the plan and the list are judged, the rules go to the rows of work, each row is told what its
 // rule's own label weighs, and the start rule's sum is made.
 pub fn grams(plan: &[u8], rows: &[LabelRow], work: &mut [u8]) -> Weighed
-    ensures { let work' = work.exit.now in
-        let plan = plan.entry.now in
-        let rows = rows.entry.now in
-        let work = work.entry.now in
+    ensures { let work' = work.new in
+        let plan = plan.now in
+        let rows = rows.now in
+        let work = work.old in
         (result ≡ weighed plan rows work) × (work' ≡ weighed_work plan rows work) }
 {
     let judged = plan::check(plan);
