@@ -5,10 +5,7 @@ use native.Mathlib.Omega.{arith}
 use mathlib.Core.Path.{◌≡◌, refl, sym, ap, ◌∙◌}
 use mathlib.Core.List.{List, [], ◌∷◌}
 use lib.ListN.{get_or}
-use types.Run.{OneOf, miss}
-use denote.Enum.Declared.{tag_of}
 use Rattle.rule.specs.declared.Rule.{Rule}
-use Rattle.rule.specs.contracts.Rule.{the_type}
 use Rattle.forest.specs.Expression.{Expression, rhs}
 use Rattle.forest.specs.Sizes.{height}
 use Rattle.forest.specs.Good.{Sort, Good}
@@ -21,7 +18,7 @@ use Rattle.transfer_path.specs.CellSpot.{left_tops}
 use Rattle.transfer_path.proofs.Ahead.{ahead-left, ahead-right}
 use Rattle.transfer_climb.specs.declared.Down.{Down}
 use Rattle.transfer_climb.specs.Climb.{meaning, CountedRows, PartAt, GoesDown}
-use Rattle.transfer_climb.proofs.Rows.{told, names, meaning-is, join-sides}
+use Rattle.transfer_climb.proofs.Rows.{NoJoin, told, names, meaning-is, join-sides}
 
 -- the same part of a rule on a side
 record Lower (t : List ℕ) (r j q i : ℕ) : Type 0 where
@@ -93,22 +90,19 @@ module _ {t : List ℕ} (g : CountedRows t) {r j b c v : ℕ} (p : PartAt t r j)
       }))
 
 -- of anything else: the only part, or none
-abbrev but-join : List ℕ
-but-join = 0 ∷ 1 ∷ 2 ∷ 3 ∷ 4 ∷ []
-
 first_of : (a j : ℕ) → j < 1 → get_or (a ∷ []) j 0 ≡ a
 first_of a j l = rw (let e : j ≡ 0 = omega arith in e)
 
-other-ahead : (E : ℕ → Expression) (r j : ℕ) (x : Rule) → OneOf but-join (tag_of the_type x) → j < tops (rhs r x E) → left_tops E x ≡ get_or (ahead (rhs r x E)) j 0
+other-ahead : (E : ℕ → Expression) (r j : ℕ) (x : Rule) → NoJoin x → j < tops (rhs r x E) → left_tops E x ≡ get_or (ahead (rhs r x E)) j 0
 unfolding left_tops ahead rhs tops
 other-ahead E r j Rule.Empty h l = refl
 other-ahead E r j (Rule.Pair b c) h l = refl
 other-ahead E r j (Rule.Node a c) h l = refl
 other-ahead E r j (Rule.Fill b c) h l = refl
 other-ahead E r j (Rule.Part a b c) h l = sym (first_of (tops (E b)) j l)
-other-ahead E r j (Rule.Join b c) h l = absurd (miss but-join 5 tt h)
+other-ahead E r j (Rule.Join b c) h l = absurd (h b c refl)
 
-pub down-other : {t : List ℕ} → CountedRows t → {r j v : ℕ} {x : Rule} → PartAt t r j → x ≡ (facts_in t).rule r → OneOf but-join (tag_of the_type x)
+pub down-other : {t : List ℕ} → CountedRows t → {r j v : ℕ} {x : Rule} → PartAt t r j → x ≡ (facts_in t).rule r → NoJoin x
     → v ≡ min (left_tops (meaning t) ((facts_in t).rule r)) most_place → GoesDown t r j (Down.Before v)
 down-other {t} g {r} {j} {x = x} p e h q =
     let m = meaning-is g p.inside e in

@@ -6,11 +6,8 @@ use mathlib.Core.Path.{◌≡◌, refl, sym, ap, ◌∙◌}
 use mathlib.Core.List.{List, [], ◌∷◌}
 use lib.ListN.{length}
 use borrow.Author.Tests.{eq-eqb, ne_eqb}
-use types.Run.{OneOf, miss}
-use denote.Enum.Declared.{tag_of}
 use Rattle.rule.specs.declared.Rule.{Rule}
 use Rattle.rule.specs.Sound.{rule}
-use Rattle.rule.specs.contracts.Rule.{the_type}
 use Rattle.forest.specs.Expression.{Expression, rhs}
 use Rattle.forest.specs.Good.{Sort, Good}
 use Rattle.forest.specs.Place.{row_of_part}
@@ -18,6 +15,7 @@ use Rattle.forest.proofs.Unfold.{unfolding-equation, sort_of, rule-good}
 use Rattle.model.specs.Facts.{Facts, facts_of}
 use Rattle.work_rows.specs.Rows.{row_length}
 use Rattle.work_rows.proofs.Kept.{first-length}
+use Rattle.facts.proofs.Rules.{NoPart}
 use Rattle.facts.specs.Facts.{row_count, facts_in, In}
 use Rattle.facts.specs.Closes.{Names}
 use Rattle.letter_moves.specs.Standing.{rules_kept}
@@ -64,39 +62,39 @@ pub join-sides : {t : List ℕ} → CountedRows t → {r b c : ℕ} → In t r �
     → Good Sort.spine (meaning t b) × Good Sort.spine (meaning t c)
 join-sides g h e = spine-sides (join-good g h e)
 
--- the tags of all kinds but a part, and but a pair and a join
-abbrev but-part : List ℕ
-but-part = 0 ∷ 1 ∷ 2 ∷ 3 ∷ 5 ∷ []
+-- no pair, no join
+abbrev pub NoPair : Rule → Type 0
+NoPair x = (b c : ℕ) → x ≡ Rule.Pair b c → ⊥
 
-abbrev but-steps : List ℕ
-but-steps = 0 ∷ 2 ∷ 3 ∷ 4 ∷ []
+abbrev pub NoJoin : Rule → Type 0
+NoJoin x = (b c : ℕ) → x ≡ Rule.Join b c → ⊥
 
-pub other-left : (E : ℕ → Expression) (x : Rule) → OneOf but-part (tag_of the_type x) → left_tops E x ≡ 0
+pub other-left : (E : ℕ → Expression) (x : Rule) → NoPart x → left_tops E x ≡ 0
 unfolding left_tops
 other-left E Rule.Empty h = refl
 other-left E (Rule.Pair b c) h = refl
 other-left E (Rule.Node a c) h = refl
 other-left E (Rule.Fill b c) h = refl
-other-left E (Rule.Part a b c) h = absurd (miss but-part 4 tt h)
+other-left E (Rule.Part a b c) h = absurd (h a b c refl)
 other-left E (Rule.Join b c) h = refl
 
-pub other-spine : (E : ℕ → Expression) (x : Rule) (y : Spot) → OneOf but-part (tag_of the_type x) → spine_spot E x y ≡ y
+pub other-spine : (E : ℕ → Expression) (x : Rule) (y : Spot) → NoPart x → spine_spot E x y ≡ y
 unfolding spine_spot
 other-spine E Rule.Empty y h = refl
 other-spine E (Rule.Pair b c) y h = refl
 other-spine E (Rule.Node a c) y h = refl
 other-spine E (Rule.Fill b c) y h = refl
-other-spine E (Rule.Part a b c) y h = absurd (miss but-part 4 tt h)
+other-spine E (Rule.Part a b c) y h = absurd (h a b c refl)
 other-spine E (Rule.Join b c) y h = refl
 
-pub other_step : (E : ℕ → Expression) (x : Rule) (y : Spot) → OneOf but-steps (tag_of the_type x) → step_spot E x y ≡ y
+pub other_step : (E : ℕ → Expression) (x : Rule) (y : Spot) → NoPair x → NoJoin x → step_spot E x y ≡ y
 unfolding step_spot
-other_step E Rule.Empty y h = refl
-other_step E (Rule.Pair b c) y h = absurd (miss but-steps 1 tt h)
-other_step E (Rule.Node a c) y h = refl
-other_step E (Rule.Fill b c) y h = refl
-other_step E (Rule.Part a b c) y h = refl
-other_step E (Rule.Join b c) y h = absurd (miss but-steps 5 tt h)
+other_step E Rule.Empty y hp hj = refl
+other_step E (Rule.Pair b c) y hp hj = absurd (hp b c refl)
+other_step E (Rule.Node a c) y hp hj = refl
+other_step E (Rule.Fill b c) y hp hj = refl
+other_step E (Rule.Part a b c) y hp hj = refl
+other_step E (Rule.Join b c) y hp hj = absurd (hj b c refl)
 
 -- the trees before those of a row, as they are told
 module _ (E : ℕ → Expression) (x : Rule) {d : ℕ} where
