@@ -2,15 +2,15 @@
 #![tactic(auto)]
 
 ghost use Rattle.std.specs.Prelude.{◌≡◌, ◌*◌};
-ghost use Rattle.plan.specs.Check.{rules_of};
+ghost use Rattle.plan.specs.Check.{checked, rules_of};
 ghost use Rattle.forest.specs.Letter.{letter_of};
 ghost use Rattle.forest.specs.Walk.{place_judged};
 ghost use Rattle.letter.specs.Letter.{move_of};
 ghost use Rattle.letter_moves.specs.Standing.{rules_kept};
 ghost use Rattle.work_rows.specs.Rows.{work_length, Within};
 ghost use Rattle.place_open.specs.Open.{Openable};
-ghost use Rattle.reasons.specs.Outcome.{reasoned_at, reasoned_by, reasoned, reasoned_work};
-ghost use Rattle.walk_lent.specs.Judged.{Judged};
+ghost use Rattle.reasons.specs.Outcome.{asked_judged, reasoned_at, reasoned_by, reasoned, reasoned_work};
+ghost use Rattle.reason.specs.Asked.{Askable};
 
 use letter::{Letter, Read};
 use place_open::Opened;
@@ -18,6 +18,21 @@ use plan::Checked;
 use reasons::Reasoned;
 use refusal::Refusal;
 use work_rows::Row;
+
+// The plan judged, and then what is lent: n and start, or the refusal.
+fn judge(plan: &[u8], work: &[u8], cursor: &[u8]) -> Checked
+    ensures { result ≡ asked_judged work.now cursor.now (checked plan.now) }
+{
+    match plan::check(plan) {
+        Checked::Accepted { n, start } => {
+            if work_rows::enough_work(work, n) & walk_lent::enough_cursor(cursor, n) {
+                return Checked::Accepted { n, start };
+            }
+            Checked::Refused(Refusal::Lent)
+        }
+        Checked::Refused(why) => Checked::Refused(why),
+    }
+}
 
 // The reason of a letter from the stored place, on the rows of n rules: a place that is none is turned down.
 fn from_place(rows: &[u8], cursor: &[u8], letter: Letter, n: u16, start: u16) -> Reasoned
@@ -43,7 +58,7 @@ fn of_letter(
     n: u16,
     start: u16,
 ) -> Reasoned
-    requires { Judged plan.now n start work.old cursor.now }
+    requires { Askable plan.now n start work.old cursor.now }
     ensures { let work' = work.new in
         let rules = rules_of plan.now in
         (result ≡ reasoned_at rules (move_of letter) (place_judged rules n start cursor.now))
@@ -56,7 +71,7 @@ fn of_letter(
 
 // The reason of a byte, past 8: one that is no letter is turned down, before the place is.
 fn of_byte(plan: &[u8], work: &mut [u8], cursor: &[u8], byte: u8, n: u16, start: u16) -> Reasoned
-    requires { Judged plan.now n start work.old cursor.now }
+    requires { Askable plan.now n start work.old cursor.now }
     ensures { let work' = work.new in
         let rules = rules_of plan.now in
         (result ≡ reasoned_by rules (letter_of byte) (place_judged rules n start cursor.now))
@@ -77,7 +92,7 @@ pub fn reason(plan: &[u8], work: &mut [u8], cursor: &[u8], byte: u8) -> Reasoned
         let cursor = cursor.entry.now in
         (result ≡ reasoned plan work cursor byte) × (work' ≡ reasoned_work plan work cursor) }
 {
-    match walk_lent::judge(plan, work, cursor) {
+    match judge(plan, work, cursor) {
         Checked::Accepted { n, start } => {
             let answer = of_byte(plan, work, cursor, byte, n, start);
             work_rows::clear_work(work, n);
