@@ -6,10 +6,7 @@ use native.Mathlib.Omega.{arith}
 use mathlib.Core.Path.{◌≡◌, refl, sym, ap}
 use mathlib.Core.Bool.{true, false}
 use mathlib.Core.List.{List, [], ◌∷◌}
-use types.Run.{OneOf, miss}
-use denote.Enum.Declared.{tag_of}
 use Rattle.rule.specs.declared.Rule.{Rule}
-use Rattle.rule.specs.contracts.Rule.{the_type}
 use Rattle.forest.specs.Expression.{Expression, rhs}
 use Rattle.forest.specs.Sizes.{height}
 use Rattle.forest.specs.Good.{Sort, Known}
@@ -109,22 +106,22 @@ module _ {E : ℕ → Expression} {w : Expression} where
     unfolding pick height
     lower-right known = let whole = ap height q in let low = low-side known (side-at Side.right) in omega arith
 
--- the tags of all kinds but a pair
-abbrev pub but-pair : List ℕ
-but-pair = 0 ∷ 2 ∷ 3 ∷ 4 ∷ 5 ∷ []
+-- no pair
+abbrev pub NoPair : Rule → Type 0
+NoPair x = (b c : ℕ) → x ≡ Rule.Pair b c → ⊥
 
 -- what isn't a pair is the tree
-tree-there : (F : Facts) (E : ℕ → Expression) {w : Expression} (a : ℕ) (x : Rule) {z : Position} {i : ℕ} → OneOf but-pair (tag_of the_type x)
+tree-there : (F : Facts) (E : ℕ → Expression) {w : Expression} (a : ℕ) (x : Rule) {z : Position} {i : ℕ} → NoPair x
     → Fit F Sort.row (rhs a x E) → At w Where.row (rhs a x E) z → i < tops (rhs a x E) → At w Where.tree (rhs a x E) z × (i ≡ 0)
 unfolding rhs tops
 tree-there F E a Rule.Empty h g k l = absurd (let n : ⊥ = omega arith in n)
-tree-there F E a (Rule.Pair b c) h g k l = absurd (miss but-pair 1 tt h)
+tree-there F E a (Rule.Pair b c) h g k l = absurd (h b c refl)
 tree-there F E a (Rule.Node y c) h g k l = (At.tree_node k, omega arith)
 tree-there F E a (Rule.Fill b c) h g k l = (At.tree_fill k, omega arith)
 tree-there F E a (Rule.Part y b c) h (Fit.grown g) k l = elim g [ ]
 tree-there F E a (Rule.Join b c) h (Fit.grown g) k l = elim g [ ]
 
-pub seek-ends : (F : Facts) {E : ℕ → Expression} {w : Expression} {a i : ℕ} {cs : Cells} {x : Spot} (y : Rule) → OneOf but-pair (tag_of the_type y)
+pub seek-ends : (F : Facts) {E : ℕ → Expression} {w : Expression} {a i : ℕ} {cs : Cells} {x : Spot} (y : Rule) → NoPair y
     → E a ≡ rhs a y E
     → (k : Sought E w a i cs x) → Fit F Sort.row (E a) → TreeAt E w a cs x
 seek-ends F {E} {a = a} y h q k g =
