@@ -4,10 +4,7 @@ use Prim.Native.Nat.{ℕ, ◌-◌, min, ◌≤◌, ◌<◌}
 use native.Mathlib.Omega.{arith}
 use mathlib.Core.Path.{◌≡◌, ap, ◌∙◌, subst}
 use mathlib.Core.List.{List}
-use types.Run.{OneOf}
-use denote.Enum.Declared.{tag_of}
 use Rattle.rule.specs.declared.Rule.{Rule}
-use Rattle.rule.specs.contracts.Rule.{the_type}
 use Rattle.forest.specs.Expression.{Expression, rhs}
 use Rattle.forest.specs.Good.{Known}
 use Rattle.forest.specs.Place.{representative}
@@ -23,7 +20,7 @@ use Rattle.transfer_path.specs.Follow.{most_place}
 use Rattle.transfer_path.specs.Spot.{tops}
 use Rattle.transfer_climb.specs.Climb.{meaning, CountedRows}
 use Rattle.transfer_climb.proofs.Rows.{told, names, meaning-is}
-use Rattle.transfer_seek.proofs.Seeking.{seek-left, seek-right, lower-left, lower-right, but-pair, seek-ends}
+use Rattle.transfer_seek.proofs.Seeking.{seek-left, seek-right, lower-left, lower-right, NoPair, seek-ends}
 use Rattle.transfer_reach.specs.declared.Turn.{Turn}
 use Rattle.transfer_reach.specs.Reach.{StepOn, Turns}
 use Rattle.transfer_reach.proofs.Short.{row-fit}
@@ -86,7 +83,7 @@ module _ {t : List ℕ} (g : CountedRows t) {a i b c v : ℕ} (h : In t a) (few 
         lower = λ w cs x k. rw (represents g c q) (lower-right pair k (known g named.1));
       })
 
-pub turns-tree : {t : List ℕ} → CountedRows t → {a i : ℕ} (y : Rule) → In t a → y ≡ (facts_in t).rule a → OneOf but-pair (tag_of the_type y)
+pub turns-tree : {t : List ℕ} → CountedRows t → {a i : ℕ} (y : Rule) → In t a → y ≡ (facts_in t).rule a → NoPair y
     → Turns t a i Turn.Tree
 turns-tree {t} g y h e other =
     record {
