@@ -49,11 +49,7 @@ fn walk_above(plan: &[u8], letters: &[u8], answers: &mut [u8]) -> Walked
 // What is printed of the walk.
 fn print_walk(plan: &[u8], letters: &[u8], out: &mut [u8]) -> usize
     requires { Strollable plan.now letters.now × (line_length * most_letters ≤ length out.old) }
-    ensures { let out' = out.exit.now in
-        let plan = plan.entry.now in
-        let letters = letters.entry.now in
-        let out = out.entry.now in
-        Put (check_printed plan letters (checked_up_to most_strolled plan)) 0 out out' result }
+    ensures { Put (check_printed plan.now letters.now (checked_up_to most_strolled plan.now)) 0 out.old out.new result }
 {
     let mut answers = [0u8; MOST_ANSWERS];
     match walk_above(plan, letters, &mut answers) {
@@ -65,11 +61,7 @@ fn print_walk(plan: &[u8], letters: &[u8], out: &mut [u8]) -> usize
 // What is printed on an accepted plan.
 fn stroll_letters(plan: &[u8], letters: &[u8], out: &mut [u8]) -> usize
     requires { Accepted plan.now × (line_length * most_letters ≤ length out.old) }
-    ensures { let out' = out.exit.now in
-        let plan = plan.entry.now in
-        let letters = letters.entry.now in
-        let out = out.entry.now in
-        Put (check_printed plan letters (checked_up_to most_strolled plan)) 0 out out' result }
+    ensures { Put (check_printed plan.now letters.now (checked_up_to most_strolled plan.now)) 0 out.old out.new result }
 {
     if MOST_LETTERS < letters.len() {
         return stroll_line::put_refusal(out, Refusal::Lent);
@@ -79,11 +71,7 @@ fn stroll_letters(plan: &[u8], letters: &[u8], out: &mut [u8]) -> usize
 
 // All that stroll prints for what it read of the plan's file and of standard input, at the front of the output; gives its length.
 pub fn stroll(plan: &[u8], letters: &[u8], out: &mut [u8; MOST_OUTPUT]) -> usize
-    ensures { let out' = out.exit.now in
-        let plan = plan.entry.now in
-        let letters = letters.entry.now in
-        let out = out.entry.now in
-        Printed (stroll_output plan letters) out out' result }
+    ensures { Printed (stroll_output plan.now letters.now) out.old out.new result }
 {
     if MOST_PLAN < plan.len() {
         return stroll_line::put_refusal(out, Refusal::Lent);
