@@ -8,10 +8,7 @@ use mathlib.Core.Option.{none, some}
 use lib.ListN.{length}
 use lib.Dec.{eqb, ltb}
 use borrow.Author.Tests.{lt-ltb, le-ltb, eq-eqb, ne_eqb, ltb-true, ltb-false, eqb-true, eqb-false}
-use types.Run.{OneOf, miss}
-use denote.Enum.Declared.{tag_of}
 use Rattle.rule.specs.declared.Rule.{Rule}
-use Rattle.rule.specs.contracts.Rule.{the_type}
 use Rattle.forest.specs.Expression.{Expression, rule_number}
 use Rattle.forest.specs.Good.{Sort, Good, Known}
 use Rattle.forest.specs.Place.{Cells, Side, cell_row, row_of_node, row_of_part, representative}
@@ -26,6 +23,7 @@ use Rattle.model.specs.Facts.{Facts}
 use Rattle.model.specs.Run.{Node}
 use Rattle.model.proofs.Fit.{shape}
 use Rattle.model.proofs.Standing.{Here, whole}
+use Rattle.facts.proofs.Rules.{NoNode, NoPart}
 use Rattle.facts.specs.Facts.{facts_in, In}
 use Rattle.facts.specs.Closes.{Names}
 use Rattle.place_cells.proofs.Stack.{cells-none}
@@ -89,18 +87,14 @@ module _ (E : ℕ → Expression) (F : Facts) (start k p i : ℕ) {b : Branch} w
   unfolding branch_at
   branch-under n e q = rw (ne_eqb k 0 n, sym e) q
 
--- the tags of all kinds but those of a node
-abbrev but-nodes : List ℕ
-but-nodes = 0 ∷ 1 ∷ 3 ∷ 5 ∷ []
-
-pub under-other : (E : ℕ → Expression) (x : Rule) (i : ℕ) → OneOf but-nodes (tag_of the_type x) → Branch.Missing ≡ under_rule E x i
+pub under-other : (E : ℕ → Expression) (x : Rule) (i : ℕ) → NoNode x → NoPart x → Branch.Missing ≡ under_rule E x i
 unfolding under_rule
-under-other E Rule.Empty i h = refl
-under-other E (Rule.Pair b c) i h = refl
-under-other E (Rule.Node a c) i h = absurd (miss but-nodes 2 tt h)
-under-other E (Rule.Fill b c) i h = refl
-under-other E (Rule.Part a b c) i h = absurd (miss but-nodes 4 tt h)
-under-other E (Rule.Join b c) i h = refl
+under-other E Rule.Empty i hn hp = refl
+under-other E (Rule.Pair b c) i hn hp = refl
+under-other E (Rule.Node a c) i hn hp = absurd (hn a c refl)
+under-other E (Rule.Fill b c) i hn hp = refl
+under-other E (Rule.Part a b c) i hn hp = absurd (hp a b c refl)
+under-other E (Rule.Join b c) i hn hp = refl
 
 -- a node has cells
 spine-some : {w e : Expression} {z : Position} → At w Where.spine e z → 0 < length (cells z)
