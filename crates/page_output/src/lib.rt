@@ -53,13 +53,7 @@ pub fn judge(plan: &[u8], log: &[u8]) -> Walked
 
 // The walk by a part of the log, in a work of its own.
 fn walk_part(plan: &[u8], cursor: &mut [u8], letters: &[u8], given: &mut [u8])
-    ensures { let cursor' = cursor.exit.now in
-        let given' = given.exit.now in
-        let plan = plan.entry.now in
-        let letters = letters.entry.now in
-        let cursor = cursor.entry.now in
-        let given = given.entry.now in
-        (cursor' ≡ (part_left plan cursor letters given).cursor) × (given' ≡ (part_left plan cursor letters given).answers) }
+    ensures { (cursor.new ≡ (part_left plan.now cursor.old letters.now given.old).cursor) × (given.new ≡ (part_left plan.now cursor.old letters.now given.old).answers) }
 {
     let mut work = [0u8; MOST_WORK];
     walk::walk(plan, &mut work, cursor, letters, given);
@@ -68,15 +62,9 @@ fn walk_part(plan: &[u8], cursor: &mut [u8], letters: &[u8], given: &mut [u8])
 // The page of at most fifty letters, walked from where the cursor stands, at the front of the output; the cursor then stands behind them.
 pub fn page(plan: &[u8], cursor: &mut [u8], first: u64, letters: &[u8], out: &mut [u8]) -> usize
     requires { Ready plan.now cursor.old first letters.now × (line_bytes * page_lines ≤ length out.old) }
-    ensures { let cursor' = cursor.exit.now in
-        let out' = out.exit.now in
-        let plan = plan.entry.now in
-        let cursor = cursor.entry.now in
-        let letters = letters.entry.now in
-        let out = out.entry.now in
-        ((n start : ℕ) (path : Path) → Walking plan n start cursor path
-        → Put (page_text first letters (answers (forest (rules_of plan) start) (letters_of letters) path)) 0 out out' result
-        × Walking plan n start cursor' (path_after (forest (rules_of plan) start) (letters_of letters) path)) }
+    ensures { ((n start : ℕ) (path : Path) → Walking plan.now n start cursor.old path
+        → Put (page_text first letters.now (answers (forest (rules_of plan.now) start) (letters_of letters.now) path)) 0 out.old out.new result
+        × Walking plan.now n start cursor.new (path_after (forest (rules_of plan.now) start) (letters_of letters.now) path)) }
 {
     let mut given = [0u8; PAGE_ANSWERS];
     walk_part(plan, cursor, letters, &mut given);
