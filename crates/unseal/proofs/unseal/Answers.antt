@@ -11,7 +11,6 @@ use Rattle.record.specs.Format.{length_of_record, record_words}
 use Rattle.record.proofs.Formats.{high-short}
 use Rattle.plan.specs.Check.{trailer_length}
 use Rattle.unseal.proofs.Unsealing.{unsealed-refused, unsealed-no-room, unsealed-roomed, unsealed-trailer, unsealed-long, unsealed-room}
-use borrow.Author.Rules.{rules}
 use Rattle.unseal.proofs.unseal.Goals as goal
 
 pub format-format-requires : goal.format-format-requires
