@@ -11,7 +11,6 @@ use Rattle.refusal.specs.declared.Refusal.{Refusal}
 use Rattle.words.proofs.Parts.{part_length, within-part, words-part}
 use Rattle.record.specs.Record.{word_length, length_of_record}
 use Rattle.record.specs.Records.{records_from}
-use Rattle.rule.specs.declared.Rule.{Rule}
 use Rattle.rule.specs.Rule.{rules_in}
 use Rattle.plan.specs.declared.Checked.{Checked}
 use Rattle.plan.specs.Check.{checked, rules_of, format_of, most_rules, trailer_length}

@@ -1,6 +1,5 @@
 -- Refused before, refused for the work, or loaded. Assumes nothing.
 use mathlib.Core.Path.{sym, ◌∙◌}
-use borrow.Author.Tests.{not-false}
 use Rattle.work_rows.proofs.Work.{enough-room}
 use Rattle.work_load.proofs.Prepares.{refused, lent, loaded}
 use Rattle.work_load.proofs.load_judged.Goals as goal
