@@ -1,16 +1,16 @@
 -- An expression has the counts of the forest that it is worth: by induction over the sorts of expressions, each right-hand side being one law
 -- of the forest's counts. What is filled has a tree, since a hole lies below a node. Assumes nothing.
-use Rattle.std.proofs.Common.{◌≡◌, ℕ, suc, ◌+◌, ◌<◌, ◌≤◌, min, true, false, ◌&&◌, eqb, List, sym, refl, ap, ◌∙◌, ap₂, arith, eq-eqb, eqb-true}
+use Rattle.std.proofs.Common.{◌≡◌, ℕ, suc, ◌+◌, ◌<◌, ◌≤◌, min, true, false, eqb, List, sym, refl, ap, ◌∙◌, ap₂, arith, eq-eqb, eqb-true}
 use mathlib.Core.Bool.{and-eq-true_iff, false≢true}
 use Rattle.forest.specs.Expression.{Expression}
-use Rattle.forest.specs.Algebra.{Hedge, value}
+use Rattle.forest.specs.Algebra.{value}
 use Rattle.forest.specs.Forest.{Forest, trees, count, weigh, one, levels}
 use Rattle.forest.specs.Outcome.{entry}
 use Rattle.forest.specs.Good.{Sort, Good}
 use Rattle.forest.proofs.Counts.{count-pair, weigh-pair, levels-pair, weigh-node, levels-node, weigh-part, levels-part, hole_depth, hole_depth-part, hole_depth-join, weigh-fill, levels-fill, count-tree}
 use Rattle.count_passes.specs.Tally.{Unfolds}
 use Rattle.count_all.specs.declared.Counts.{Counts}
-use Rattle.count_all.specs.Counts.{forest_counts, no_counts, beside, filling, over, one_tree, counts_in}
+use Rattle.count_all.specs.Counts.{forest_counts, beside, filling, over, one_tree, counts_in}
 use Rattle.count_all.specs.Kept.{most, Keeps, is_above}
 use Rattle.count_all.specs.Rows.{Counted}
 

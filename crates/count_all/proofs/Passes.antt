@@ -1,8 +1,7 @@
 -- The pass over the rows, in the order kept behind them: where the rules at the first i places have their counts, the next one gets its own
 -- from those of the rules that it names, which stand before it. Assumes nothing.
-use Rattle.std.proofs.Common.{◌≡◌, ℕ, ◌+◌, ◌<◌, ◌≤◌, List, length, get_or, sym, ap, ◌∙◌, arith}
+use Rattle.std.proofs.Common.{◌≡◌, ℕ, ◌+◌, ◌<◌, ◌≤◌, List, length, get_or, ap, ◌∙◌, arith}
 use Rattle.rule.specs.declared.Rule.{Rule}
-use Rattle.rule.specs.Names.{Names}
 use Rattle.reach.proofs.Places.{AtFirst, first-none, first_more}
 use Rattle.work_rows.specs.Rows.{rule_in}
 use Rattle.work_rows.specs.Order.{order_end, order_in}
@@ -10,7 +9,7 @@ use Rattle.count_passes.proofs.Ordered.{at_place, place-below, named-below, befo
 use Rattle.count_all.specs.declared.Counts.{Counts}
 use Rattle.count_all.specs.Counts.{counts_of}
 use Rattle.count_all.specs.Kept.{Keeps}
-use Rattle.count_all.specs.Rows.{counts_at, RulesKept, CountsPut, OfRule, Readable, Passable, Countable, RowCounted, AllCounted}
+use Rattle.count_all.specs.Rows.{counts_at, RulesKept, OfRule, Readable, Passable, Countable, RowCounted, AllCounted}
 use Rattle.count_all.proofs.Places.{kept-none, kept-both, kept_rule_lem, kept-passable}
 
 -- what a row's rule may read

@@ -1,20 +1,19 @@
 -- Where the counts lie: a row's tops and levels behind its rule, its nodes and entries behind the order, so what is written for one rule leaves
 -- the rules, the order and the counts of the others. Assumes nothing.
-use Rattle.std.proofs.Common.{◌≡◌, ℕ, ◌+◌, ◌*◌, ◌/◌, ◌%◌, ◌^◌, ◌<◌, ◌≤◌, List, length, sym, refl, ap, ◌∙◌, inl, inr, arith}
-use Rattle.words.specs.Number.{base, number}
+use Rattle.std.proofs.Common.{◌≡◌, ℕ, ◌+◌, ◌*◌, ◌/◌, ◌%◌, ◌<◌, ◌≤◌, List, length, sym, refl, ap, ◌∙◌, inl, inr, arith}
+use Rattle.words.specs.Number.{number}
 use Rattle.words.specs.Put.{put}
 use Rattle.words.proofs.Laws.{length-put, put_same, put_other}
 use Rattle.rule.specs.declared.Rule.{Rule}
 use Rattle.rule.specs.Sound.{rule}
-use Rattle.work_rows.specs.Rows.{work_length, row_length, own_end, rule_in, Within}
+use Rattle.work_rows.specs.Rows.{work_length, rule_in}
 use Rattle.work_rows.proofs.Rows.{within_none, within_both, within_wider, within-number, within-number-put, within-rule}
 use Rattle.work_rows.proofs.Kept.{first-rule, first-same}
 use Rattle.work_rows.proofs.Order.{order-kept}
 use Rattle.count_capped.specs.Count.{count_limit}
 use Rattle.count_capped.proofs.Digits.{put-add}
-use Rattle.count_passes.specs.Tally.{Ready}
 use Rattle.count_all.specs.declared.Counts.{Counts}
-use Rattle.count_all.specs.Rows.{long_length, tops_at, behind_at, counts_end, counts_at, TwoPut, RulesKept, CountsPut, Passable}
+use Rattle.count_all.specs.Rows.{long_length, tops_at, behind_at, counts_at, TwoPut, RulesKept, CountsPut, Passable}
 
 -- eight bytes are written as two double words
 pub written-long : (s : List ℕ) {t u : List ℕ} (at x : ℕ) → x < count_limit → t ≡ put 4 s at (x % 4294967296) → u ≡ put 4 t (at + 4) (x / 4294967296)

@@ -3,7 +3,6 @@ use Rattle.std.proofs.Common.{◌≡◌, ℕ, ◌<◌, List, refl}
 use Rattle.rule.specs.declared.Rule.{Rule}
 use Rattle.forest.specs.Expression.{Expression, rhs}
 use Rattle.work_rows.specs.Rows.{rule_in}
-use Rattle.count_passes.specs.Tally.{Unfolds}
 use Rattle.count_all.specs.declared.Counts.{Counts}
 use Rattle.count_all.specs.Counts.{counts_of, counts_in}
 use Rattle.count_all.specs.Rows.{counts_at, AllCounted, Counted}

@@ -1,5 +1,5 @@
 -- The invariant: the rules at the first i places have their counts, and nothing else has changed (`Passing`). Assumes nothing.
-use Rattle.std.proofs.Common.{◌-◌, arith}
+use Rattle.std.proofs.Common.{arith}
 use Rattle.count_all.proofs.Passes.{passing-start, passing-room, passing-countable, passing-more, passing-end}
 use Rattle.count_all.proofs.count_rows.Goals as goal
 
