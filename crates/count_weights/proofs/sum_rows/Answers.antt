@@ -1,5 +1,4 @@
 -- The invariant: the rows at the first i places have their sums (`Passing`). Assumes nothing.
-use Prim.Native.Nat.{◌-◌}
 use native.Mathlib.Omega.{arith}
 use Rattle.count_weights.proofs.Summing.{passing-start, passing-room, passing-readable, passing-more, passing-end}
 use Rattle.count_weights.proofs.sum_rows.Goals as goal
