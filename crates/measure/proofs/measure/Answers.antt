@@ -3,7 +3,6 @@ use Rattle.forest.specs.Outcome.{work_words}
 use Rattle.count_passes.proofs.Work.{held}
 use Rattle.measure.proofs.Outcome.{countable, refused, finished}
 use native.Mathlib.Omega.{arith}
-use borrow.Author.Rules.{rules}
 use Rattle.measure.proofs.measure.Goals as goal
 
 pub answer-answer-requires : goal.answer-answer-requires
