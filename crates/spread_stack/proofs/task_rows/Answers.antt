@@ -1,5 +1,4 @@
 -- The invariant: the rows at the first i places have their tasks (`Passing`). Assumes nothing.
-use Prim.Native.Nat.{◌-◌}
 use Rattle.spread_stack.proofs.Tasking.{passing-start, passing-room, passing-steps, passing-more, passing-end}
 use native.Mathlib.Omega.{arith}
 use Rattle.spread_stack.proofs.task_rows.Goals as goal
