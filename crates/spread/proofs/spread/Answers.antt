@@ -3,7 +3,6 @@ use native.Mathlib.Omega.{arith}
 use Rattle.forest.specs.Outcome.{work_words}
 use Rattle.count_passes.proofs.Work.{held}
 use Rattle.spread.proofs.Outcome.{refused, trailered, finished, answerable}
-use borrow.Author.Rules.{rules}
 use Rattle.spread.proofs.spread.Goals as goal
 
 pub format-format-requires : goal.format-format-requires
