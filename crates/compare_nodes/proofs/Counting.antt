@@ -13,7 +13,7 @@ use Rattle.work_rows.specs.Rows.{row_length, put_field, rule_in}
 use Rattle.work_rows.specs.Order.{order_end, order_in}
 use Rattle.work_rows.proofs.Rows.{length-put_field, field-other}
 use Rattle.count_capped.specs.Count.{capped, capped_sum, count_length}
-use Rattle.count_passes.specs.Tally.{Ready, Readable, Besides, Column}
+use Rattle.count_passes.specs.Tally.{Ready, Readable, Besides}
 use Rattle.count_passes.proofs.Column.{besides-none, besides-both, besides-wider, besides-put, besides-rule, other_row, count-put}
 use Rattle.count_passes.proofs.Ordered.{at_place, place-below, place-readable, before-named, at_all, order-besides, ready-besides}
 use Rattle.compare_tokens.specs.Nodes.{before_of, after_of}

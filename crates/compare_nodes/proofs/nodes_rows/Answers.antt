@@ -1,5 +1,4 @@
 -- The invariant: the rows at the first i places have their counts (`Passing`). Assumes nothing.
-use Prim.Native.Nat.{◌-◌}
 use Rattle.compare_nodes.proofs.Counting.{passing-start, passing-room, passing-readable, passing-more, passing-end}
 use native.Mathlib.Omega.{arith}
 use Rattle.compare_nodes.proofs.nodes_rows.Goals as goal
