@@ -22,17 +22,11 @@ use label_rows::LabelRow;
 // Check.
 #[unsafe(no_mangle)]
 pub extern "C" fn plan_check(plan: &[u8], n: &mut u16, start: &mut u16, position: &mut u64) -> u32
-    ensures { let n' = n.exit.now in
-        let start' = start.exit.now in
-        let position' = position.new in
-        let plan = plan.entry.now in
-        let n = n.entry.now in
-        let start = start.entry.now in
-        let given = checked_gives (checked plan) in
+    ensures { let given = checked_gives (checked plan.now) in
         (result ≡ result_number given)
-        × (n' ≡ behind 0 given n)
-        × (start' ≡ behind 1 given start)
-        × (position' ≡ result_position given) }
+        × (n.new ≡ behind 0 given n.old)
+        × (start.new ≡ behind 1 given start.old)
+        × (position.new ≡ result_position given) }
 {
     c_result::give_checked(plan::check(plan), n, start, position)
 }
@@ -47,17 +41,11 @@ pub extern "C" fn plan_seal(
     written: &mut u64,
     position: &mut u64,
 ) -> u32
-    ensures { let out' = out.exit.now in
-        let written' = written.exit.now in
-        let position' = position.new in
-        let words = words.entry.now in
-        let out = out.entry.now in
-        let written = written.entry.now in
-        let given = written_gives (sealed words record_length start out) in
+    ensures { let given = written_gives (sealed words.now record_length start out.old) in
         (result ≡ result_number given)
-        × (out' ≡ sealed_output words record_length start out)
-        × (written' ≡ behind 0 given written)
-        × (position' ≡ result_position given) }
+        × (out.new ≡ sealed_output words.now record_length start out.old)
+        × (written.new ≡ behind 0 given written.old)
+        × (position.new ≡ result_position given) }
 {
     let answer = seal::seal(words, record_length, start, out);
     c_result::give_written(answer, written, position)
@@ -73,21 +61,13 @@ pub extern "C" fn plan_unseal(
     start: &mut u16,
     position: &mut u64,
 ) -> u32
-    ensures { let out' = out.exit.now in
-        let n' = n.exit.now in
-        let start' = start.exit.now in
-        let position' = position.new in
-        let plan = plan.entry.now in
-        let out = out.entry.now in
-        let n = n.entry.now in
-        let start = start.entry.now in
-        let given = unsealed_gives (unsealed plan out) in
+    ensures { let given = unsealed_gives (unsealed plan.now out.old) in
         (result ≡ result_number given)
-        × (out' ≡ unsealed_output plan out)
+        × (out.new ≡ unsealed_output plan.now out.old)
         × (record_length.new ≡ behind 0 given record_length.old)
-        × (n' ≡ behind 1 given n)
-        × (start' ≡ behind 2 given start)
-        × (position' ≡ result_position given) }
+        × (n.new ≡ behind 1 given n.old)
+        × (start.new ≡ behind 2 given start.old)
+        × (position.new ≡ result_position given) }
 {
     c_result::give_unsealed(unseal::unseal(plan, out), record_length, n, start, position)
 }
@@ -102,23 +82,13 @@ pub extern "C" fn plan_measure(
     levels: &mut u64,
     position: &mut u64,
 ) -> u32
-    ensures { let work' = work.exit.now in
-        let trees' = trees.exit.now in
-        let entries' = entries.exit.now in
-        let levels' = levels.exit.now in
-        let position' = position.new in
-        let plan = plan.entry.now in
-        let work = work.entry.now in
-        let trees = trees.entry.now in
-        let entries = entries.entry.now in
-        let levels = levels.entry.now in
-        let given = measured_gives (measured plan work) in
+    ensures { let given = measured_gives (measured plan.now work.old) in
         (result ≡ result_number given)
-        × (work' ≡ measured_work plan work)
-        × (trees' ≡ behind 0 given trees)
-        × (entries' ≡ behind 1 given entries)
-        × (levels' ≡ behind 2 given levels)
-        × (position' ≡ result_position given) }
+        × (work.new ≡ measured_work plan.now work.old)
+        × (trees.new ≡ behind 0 given trees.old)
+        × (entries.new ≡ behind 1 given entries.old)
+        × (levels.new ≡ behind 2 given levels.old)
+        × (position.new ≡ result_position given) }
 {
     c_result::give_measured(
         measure::measure(plan, work),
@@ -138,20 +108,12 @@ pub extern "C" fn plan_spread(
     written: &mut u64,
     position: &mut u64,
 ) -> u32
-    ensures { let work' = work.exit.now in
-        let out' = out.exit.now in
-        let written' = written.exit.now in
-        let position' = position.new in
-        let plan = plan.entry.now in
-        let work = work.entry.now in
-        let out = out.entry.now in
-        let written = written.entry.now in
-        let given = written_gives (spread plan work out) in
+    ensures { let given = written_gives (spread plan.now work.old out.old) in
         (result ≡ result_number given)
-        × (work' ≡ measured_work plan work)
-        × (out' ≡ spread_output plan work out)
-        × (written' ≡ behind 0 given written)
-        × (position' ≡ result_position given) }
+        × (work.new ≡ measured_work plan.now work.old)
+        × (out.new ≡ spread_output plan.now work.old out.old)
+        × (written.new ≡ behind 0 given written.old)
+        × (position.new ≡ result_position given) }
 {
     c_result::give_written(spread::spread(plan, work, out), written, position)
 }
@@ -166,22 +128,13 @@ pub extern "C" fn plan_walk(
     answers: &mut [u8],
     position: &mut u64,
 ) -> u32
-    ensures { let work' = work.exit.now in
-        let cursor' = cursor.exit.now in
-        let answers' = answers.exit.now in
-        let position' = position.new in
-        let plan = plan.entry.now in
-        let work = work.entry.now in
-        let cursor = cursor.entry.now in
-        let letters = letters.entry.now in
-        let answers = answers.entry.now in
-        let l = walk_of (lends plan work cursor letters answers) in
+    ensures { let l = walk_of (lends plan.now work.old cursor.old letters.now answers.old) in
         let given = walked_gives l.answer in
         (result ≡ result_number given)
-        × (work' ≡ l.work)
-        × (cursor' ≡ l.cursor)
-        × (answers' ≡ l.answers)
-        × (position' ≡ result_position given) }
+        × (work.new ≡ l.work)
+        × (cursor.new ≡ l.cursor)
+        × (answers.new ≡ l.answers)
+        × (position.new ≡ result_position given) }
 {
     c_result::give_walked(walk::walk(plan, work, cursor, letters, answers), position)
 }
@@ -198,22 +151,12 @@ pub extern "C" fn plan_compare(
     count: &mut u32,
     position: &mut u64,
 ) -> u32
-    ensures { let work' = work.exit.now in
-        let verdict' = verdict.exit.now in
-        let count' = count.exit.now in
-        let position' = position.new in
-        let plan = plan.entry.now in
-        let work = work.entry.now in
-        let first = first.entry.now in
-        let second = second.entry.now in
-        let verdict = verdict.entry.now in
-        let count = count.entry.now in
-        let given = compared_gives (compare plan work first second budget) in
+    ensures { let given = compared_gives (compare plan.now work.old first.now second.now budget) in
         (result ≡ result_number given)
-        × (work' ≡ compared_work plan work first second)
-        × (verdict' ≡ behind 0 given verdict)
-        × (count' ≡ behind 1 given count)
-        × (position' ≡ result_position given) }
+        × (work.new ≡ compared_work plan.now work.old first.now second.now)
+        × (verdict.new ≡ behind 0 given verdict.old)
+        × (count.new ≡ behind 1 given count.old)
+        × (position.new ≡ result_position given) }
 {
     let answer = compare::compare(plan, work, first, second, budget);
     c_result::give_compared(answer, verdict, count, position)
@@ -227,14 +170,10 @@ pub extern "C" fn plan_class(
     class: &mut u16,
     position: &mut u64,
 ) -> u32
-    ensures { let class' = class.exit.now in
-        let position' = position.new in
-        let rows = rows.entry.now in
-        let class = class.entry.now in
-        let given = classed_gives (classed rows label) in
+    ensures { let given = classed_gives (classed rows.now label) in
         (result ≡ result_number given)
-        × (class' ≡ behind 0 given class)
-        × (position' ≡ result_position given) }
+        × (class.new ≡ behind 0 given class.old)
+        × (position.new ≡ result_position given) }
 {
     c_result::give_classed(label_rows::class_of(rows, label), class, position)
 }
@@ -250,16 +189,7 @@ pub extern "C" fn plan_copy(
     written: &mut u64,
     position: &mut u64,
 ) -> u32
-    ensures { let work' = work.exit.now in
-        let out' = out.exit.now in
-        let written' = written.exit.now in
-        let position' = position.new in
-        let plan = plan.entry.now in
-        let rows = rows.entry.now in
-        let work = work.entry.now in
-        let out = out.entry.now in
-        let written = written.entry.now in
-        CopyGiven plan rows class work work' out out' written result written' position' }
+    ensures { CopyGiven plan.now rows.now class work.old work.new out.old out.new written.old result written.new position.new }
 {
     let copied = copy::copy(plan, rows, class, work, out);
     c_result::give_written(copied, written, position)
@@ -274,18 +204,11 @@ pub extern "C" fn plan_grams(
     grams: &mut u64,
     position: &mut u64,
 ) -> u32
-    ensures { let work' = work.exit.now in
-        let grams' = grams.exit.now in
-        let position' = position.new in
-        let plan = plan.entry.now in
-        let rows = rows.entry.now in
-        let work = work.entry.now in
-        let grams = grams.entry.now in
-        let given = weighed_gives (weighed plan rows work) in
+    ensures { let given = weighed_gives (weighed plan.now rows.now work.old) in
         (result ≡ result_number given)
-        × (work' ≡ weighed_work plan rows work)
-        × (grams' ≡ behind 0 given grams)
-        × (position' ≡ result_position given) }
+        × (work.new ≡ weighed_work plan.now rows.now work.old)
+        × (grams.new ≡ behind 0 given grams.old)
+        × (position.new ≡ result_position given) }
 {
     let weighed = grams::grams(plan, rows, work);
     c_result::give_weighed(weighed, grams, position)
@@ -301,18 +224,11 @@ pub extern "C" fn plan_reason(
     reason: &mut u32,
     position: &mut u64,
 ) -> u32
-    ensures { let work' = work.exit.now in
-        let reason' = reason.exit.now in
-        let position' = position.new in
-        let plan = plan.entry.now in
-        let work = work.entry.now in
-        let cursor = cursor.entry.now in
-        let reason = reason.entry.now in
-        let given = reasoned_gives (reasoned plan work cursor letter) in
+    ensures { let given = reasoned_gives (reasoned plan.now work.old cursor.now letter) in
         (result ≡ result_number given)
-        × (work' ≡ reasoned_work plan work cursor)
-        × (reason' ≡ behind 0 given reason)
-        × (position' ≡ result_position given) }
+        × (work.new ≡ reasoned_work plan.now work.old cursor.now)
+        × (reason.new ≡ behind 0 given reason.old)
+        × (position.new ≡ result_position given) }
 {
     let answer = reason::reason(plan, work, cursor, letter);
     c_result::give_reasoned(answer, reason, position)
