@@ -11,7 +11,7 @@ import re
 import sys
 
 os.chdir(os.path.join(os.path.dirname(os.path.abspath(__file__)), "..", "crates"))
-NAMED = re.compile(r"^(?:unfoldable )?(?:pub )?(?:ghost )?use Rattle·(\w+?)(?:·specs)?\.specs\.(declared\.)?(\w+)", re.M)
+NAMED = re.compile(r"^(?:unfoldable )?(?:pub )?(?:ghost )?use Rattle\.(?!std\.)(\w+)\.specs\.(declared\.)?(\w+)", re.M)
 SILENT = re.compile(r"(?:unfoldable )?(?:pub )?(?:use|mod) |unfolding |$")
 
 

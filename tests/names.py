@@ -34,7 +34,7 @@ MADE = ("target/",)
 # What a text in backticks begins with that is a command.
 COMMANDS = ("rt ", "python3 ", "cargo ", "./", ".ci/")
 
-IDENTIFIER = r"[^\W\d][\w′·]*(?:-[\w′·]+)*"
+IDENTIFIER = r"[^\W\d][\w'·]*(?:-[\w'·]+)*"
 WORD = re.compile(IDENTIFIER)
 TOPS = r"(?:crates|docs|tests|rust|include|examples|samples|target|\.ci)/[\w./*-]*[\w*]"
 PATH = re.compile(r"(?<![\w./-])(?:%s|[a-z_]+/(?:specs|proofs|src)\b(?:/\w+)*)" % TOPS)
