@@ -60,7 +60,7 @@ def declarations():
         declared.setdefault(file, set()).add(file)
     for top in ("crates", "rust", "include", "examples", "tests", ".ci"):
         for folder, folders, files in os.walk(top):
-            if os.path.basename(folder) == "target":
+            if os.path.basename(folder) in ("target", "out"):
                 folders[:] = []
                 continue
             declared.setdefault(os.path.basename(folder), set()).add(folder)

@@ -22,7 +22,7 @@ paged() {
 holds() {
     local before ended
     before=$(ls)
-    "$root/target/bin/pages" >"$room/printed" 2>"$room/said"
+    "$root/crates/pages/out/pages" >"$room/printed" 2>"$room/said"
     ended=$?
     if [ "$ended" -ne 0 ] || [ -s "$room/said" ] || [ "$(ls)" != "$before" ] || ! cmp "$room/expected" "$room/printed"; then
         echo "pages, $1: it ended with $ended and printed"

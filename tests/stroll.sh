@@ -38,7 +38,7 @@ many() {
 
 # alone FOLDER LETTERS: the program itself, in a folder
 alone() {
-    (cd "$1" && printf '%s' "$2" | "$root/target/bin/stroll")
+    (cd "$1" && printf '%s' "$2" | "$root/crates/stroll/out/stroll")
 }
 
 cmp "$sample" crates/stroll/data/plan.bin || exit 1
@@ -128,7 +128,7 @@ says "cannot read the plan $room/folder"
 
 # without the kit, where nothing is built
 cp "$root/stroll" "$root/crates.txt" "$room/unbuilt"
-mkdir "$room/unbuilt/crates" "$room/tools"
+mkdir -p "$room/unbuilt/crates/stroll" "$room/tools"
 for tool in bash env dirname readlink mktemp rm cat find; do ln -s "$(command -v $tool)" "$room/tools/$tool"; done
 holds "no kit" 1 '' env PATH="$room/tools" "$room/unbuilt/stroll" "$sample" a
 says "the Rattle kit (rt) is not installed"
@@ -137,13 +137,14 @@ says "the Rattle kit (rt) is not installed"
 printf 'words: # bytes\nother: words\nstroll: words io # the program\n' >"$room/unbuilt/crates.txt"
 cat >"$room/tools/rt" <<'END'
 #!/bin/sh
-echo 'rt: words proved (unchanged since it was last proved)'
-echo 'rt: stroll proved (1 s)'
-echo 'rt: stroll ran, and wrote what its file has'
-echo 'rt: ok, 2 crates proved'
-mkdir -p target/bin target/stamp
-printf '#!/bin/sh\necho walked\n' >target/bin/stroll
-chmod +x target/bin/stroll
+echo 'crate words: modules loaded=1 checked=1'
+echo 'logic=proved functions=1'
+echo 'crate stroll: modules loaded=1 checked=1'
+echo 'logic=proved functions=1'
+echo 'rt: running out/stroll; to give it other input, run that file yourself'
+mkdir -p out
+printf '#!/bin/sh\necho walked\n' >out/stroll
+chmod +x out/stroll
 END
 chmod +x "$room/tools/rt"
 for tool in sh tee touch mkdir chmod; do ln -s "$(command -v $tool)" "$room/tools/$tool"; done
@@ -154,7 +155,7 @@ says "stroll: 2 of 2 crates"
 holds "built already" 0 'walked\n' env PATH="$room/tools" "$room/unbuilt/stroll" "$sample" a
 [ ! -s "$room/said" ] || { echo "stroll proves what it has proved"; exit 1; }
 printf '#!/bin/sh\necho "rt: words NOT PROVED: it is not proved"\nexit 1\n' >"$room/tools/rt"
-rm -r "$room/unbuilt/target"
+rm -r "$room/unbuilt/target" "$room/unbuilt/crates/stroll/out"
 holds "a kit that refuses" 1 '' env PATH="$room/tools" "$room/unbuilt/stroll" "$sample" a
 says "rt: words NOT PROVED"
 says "the program was not built"

@@ -16,11 +16,11 @@ fail() {
 bash tests/library >"$room/log" 2>&1 || { cat "$room/log"; exit 1; }
 mkdir "$room/copy"
 tar -c --exclude=./rust/target --exclude=./target/release . | tar -x -C "$room/copy"
-rm "$room/copy/target/staticlib/libmealplan.a"
+rm -f "$room/copy/target/staticlib/libmealplan.a" "$room/copy/crates/mealplan/out/libmealplan.a"
 cd "$room/copy"
 same() { cmp "$OLDPWD/target/staticlib/libmealplan.a" "$1" || fail "two builds of the library differ"; }
 commit=$(git -c safe.directory="$PWD" rev-parse HEAD 2>"$room/log") || {
-    rt staticlib mealplan >"$room/log" 2>&1 || { cat "$room/log"; exit 1; }
+    bash tests/library >"$room/log" 2>&1 || { cat "$room/log"; exit 1; }
     same target/staticlib/libmealplan.a
     echo "two_builds: the library twice, the same in every byte; there is no commit here to release"
     exit 0

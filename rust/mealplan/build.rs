@@ -1,4 +1,4 @@
-//! Links the static library that `rt staticlib mealplan` proves and writes. `MEALPLAN_LIB` names its folder; without it the
+//! Links the static library that `bash tests/library` proves and writes. `MEALPLAN_LIB` names its folder; without it the
 //! repository's own target/staticlib is taken.
 use std::env;
 use std::path::PathBuf;
@@ -10,7 +10,7 @@ fn main() {
         given.unwrap_or_else(|| [env!("CARGO_MANIFEST_DIR"), "..", "..", "target", "staticlib"].iter().collect());
     let library = folder.join("libmealplan.a");
     let Ok(library) = library.canonicalize() else {
-        panic!("no library at {}: run `rt staticlib mealplan`, or name its folder in MEALPLAN_LIB", library.display());
+        panic!("no library at {}: run `bash tests/library`, or name its folder in MEALPLAN_LIB", library.display());
     };
     println!("cargo:rerun-if-changed={}", library.display());
     println!("cargo:rustc-link-search=native={}", library.parent().expect("a file has a folder").display());
