@@ -3,6 +3,7 @@
 #![tactic(auto)]
 
 use runs::{answers, cells, check, check_empty, measure, seal, spread, stroll};
+use std::io;
 
 mod runs;
 mod text;
@@ -24,66 +25,89 @@ const LABEL_256: [u8; 26] =
     *b"\x00\x00\x00\x00\x00\x00\x00\x00\x02\x00\x00\x01\x00\x00\x00\x00\x02\x00\x01\x00\x10\x00\x00\x00mp";
 
 // The plan's bytes: n and start, or the refusal.
-fn format_cases() {
-    seal(b"the sample plan's rules, sealed", b"accepted 74");
-    check(b"the sample plan", &sample::bytes(), b"accepted 8 7");
-    check(b"10 bytes, right mark, n = 0", &NO_RULES, b"refused 2 at 0");
-    check(b"rule 0 = pair 0 0", &PAIR, b"refused 12 at 0");
+fn format_cases(rt: &impl Print) -> io::Result<()> {
+    seal(rt, b"the sample plan's rules, sealed", b"accepted 74")?;
+    check(rt, b"the sample plan", &sample::bytes(), b"accepted 8 7")?;
+    check(
+        rt,
+        b"10 bytes, right mark, n = 0",
+        &NO_RULES,
+        b"refused 2 at 0",
+    )?;
+    check(rt, b"rule 0 = pair 0 0", &PAIR, b"refused 12 at 0")?;
     check_empty(
+        rt,
         b"n = 16,384",
         &mut [0u8; 131082],
         16384,
         b"accepted 16384 0",
-    );
-    check_empty(b"n = 16,385", &mut [0u8; 131090], 16385, b"refused 2 at 0");
-    check(b"label 255", &LABEL_255, b"accepted 2 1");
-    check(b"label 256", &LABEL_256, b"refused 4 at 1");
+    )?;
+    check_empty(
+        rt,
+        b"n = 16,385",
+        &mut [0u8; 131090],
+        16385,
+        b"refused 2 at 0",
+    )?;
+    check(rt, b"label 255", &LABEL_255, b"accepted 2 1")?;
+    check(rt, b"label 256", &LABEL_256, b"refused 4 at 1")
 }
 
 // The forest: its counts, and its text in an output of full stops.
-fn forest_cases() {
-    measure(b"measure", b"3 trees, 11 entries, 3 levels");
+fn forest_cases(rt: &impl Print) -> io::Result<()> {
+    measure(rt, b"measure", b"3 trees, 11 entries, 3 levels")?;
     spread(
+        rt,
         b"spread into 33 bytes",
         &mut [b'.'; 33],
         b"accepted 33 (c(a)(b)(c(a)(b)(a)(b))(b))(a)(b)",
-    );
+    )?;
     spread(
+        rt,
         b"spread into 32 bytes",
         &mut [b'.'; 32],
         b"refused 11 at 0 ................................",
-    );
+    )
 }
 
 // Walks from above the forest: the answers, "-" for nowhere, and the used cells.
-fn walk_cases() {
+fn walk_cases(rt: &impl Print) -> io::Result<()> {
     answers(
+        rt,
         b"the answers to afnnfnnnnununnn",
         &sample::bytes(),
         b"afnnfnnnnununnn",
         b"99 97 98 99 97 98 97 98 - 99 98 99 97 98 -",
-    );
-    answers(b"one empty rule, a and z", &EMPTY, b"az", b"- -");
-    cells(b"after a", b"a", b"(1,0,7,0) (3,7,6,0) (2,6,0,0) (3,5,4,0)");
+    )?;
+    answers(rt, b"one empty rule, a and z", &EMPTY, b"az", b"- -")?;
     cells(
+        rt,
+        b"after a",
+        b"a",
+        b"(1,0,7,0) (3,7,6,0) (2,6,0,0) (3,5,4,0)",
+    )?;
+    cells(
+        rt,
         b"after afnnfnn",
         b"afnnfnn",
         b"(1,0,7,0) (3,7,6,0) (2,6,0,0) (4,5,4,0) (2,1,0,0)",
-    );
+    )?;
     cells(
+        rt,
         b"one more n",
         b"afnnfnnn",
         b"(1,0,7,0) (3,7,6,0) (2,6,0,0) (4,5,4,0) (1,2,2,0) (2,2,0,0)",
-    );
+    )
 }
 
-fn main() {
-    format_cases();
-    forest_cases();
-    walk_cases();
+fn main(rt: HostRuntime) -> io::Result<()> {
+    format_cases(&rt)?;
+    forest_cases(&rt)?;
+    walk_cases(&rt)?;
     stroll(
+        &rt,
         b"the lines of stroll",
         b"afnnfnnnnununnn",
         b"a 99\nf 97\nn 98\nn 99\nf 97\nn 98\nn 97\nn 98\nn -\nu 99\nn 98\nu 99\nn 97\nn 98\nn -\n",
-    );
+    )
 }

@@ -8,6 +8,7 @@ use letter::Letter;
 use place_cells::Cell;
 use plan::{Checked, Trailer, Written};
 use record::Format;
+use std::io;
 
 // Bytes of work, of the cursor and of answers.
 const WORK: usize = 512;
@@ -30,18 +31,24 @@ fn put_checked(out: &mut [u8; ROOM], answer: Checked) -> usize {
 }
 
 // Check of a plan.
-pub fn check(case: &[u8], plan: &[u8], expected: &[u8]) {
+pub fn check(rt: &impl Print, case: &[u8], plan: &[u8], expected: &[u8]) -> io::Result<()> {
     let mut out = [0u8; ROOM];
     let end = put_checked(&mut out, plan::check(plan));
-    tell_text(case, &out, end, expected);
+    tell_text(rt, case, &out, end, expected)
 }
 
 // Check of so many empty rules: zeros that a trailer is written into.
-pub fn check_empty(case: &[u8], zeros: &mut [u8], n: u16, expected: &[u8])
+pub fn check_empty(
+    rt: &impl Print,
+    case: &[u8],
+    zeros: &mut [u8],
+    n: u16,
+    expected: &[u8],
+) -> io::Result<()>
     requires { 8 * n + trailer_length ≤ length zeros.old }
 {
     Trailer::write(zeros, Format::Narrow, n, 0);
-    check(case, zeros, expected);
+    check(rt, case, zeros, expected)
 }
 
 // As "accepted 74", the length.
@@ -56,12 +63,12 @@ fn put_written(out: &mut [u8; ROOM], answer: Written) -> usize {
 }
 
 // Seal of the sample plan's rules, which stand before its trailer.
-pub fn seal(case: &[u8], expected: &[u8]) {
+pub fn seal(rt: &impl Print, case: &[u8], expected: &[u8]) -> io::Result<()> {
     let plan = sample::bytes();
     let mut sealed = [0u8; 74];
     let mut out = [0u8; ROOM];
     let end = put_written(&mut out, seal::seal(&plan[..64], 8, 7, &mut sealed));
-    tell_text(case, &out, end, expected);
+    tell_text(rt, case, &out, end, expected)
 }
 
 // As "3 trees, 11 entries, 3 levels".
@@ -84,22 +91,22 @@ fn put_measured(out: &mut [u8; ROOM], answer: Measured) -> usize {
 }
 
 // Measure of the sample plan.
-pub fn measure(case: &[u8], expected: &[u8]) {
+pub fn measure(rt: &impl Print, case: &[u8], expected: &[u8]) -> io::Result<()> {
     let mut work = [1u8; WORK];
     let mut out = [0u8; ROOM];
     let end = put_measured(&mut out, measure::measure(&sample::bytes(), &mut work));
-    tell_text(case, &out, end, expected);
+    tell_text(rt, case, &out, end, expected)
 }
 
 // Spread of the sample plan, and what stands in the output then.
-pub fn spread(case: &[u8], text: &mut [u8], expected: &[u8]) {
+pub fn spread(rt: &impl Print, case: &[u8], text: &mut [u8], expected: &[u8]) -> io::Result<()> {
     let mut work = [1u8; WORK];
     let mut out = [0u8; ROOM];
     let answer = spread::spread(&sample::bytes(), &mut work, text);
     let end = put_written(&mut out, answer);
     let end = put(&mut out, end, b" ");
     let end = put(&mut out, end, text);
-    tell_text(case, &out, end, expected);
+    tell_text(rt, case, &out, end, expected)
 }
 
 // Letters on a plan from above its forest; gives the answers, and the cursor holds the place.
@@ -133,12 +140,18 @@ fn put_answers(out: &mut [u8; ROOM], answers: &[u8; ANSWERS], letters: usize) ->
 }
 
 // The answers to letters.
-pub fn answers(case: &[u8], plan: &[u8], letters: &[u8], expected: &[u8]) {
+pub fn answers(
+    rt: &impl Print,
+    case: &[u8],
+    plan: &[u8],
+    letters: &[u8],
+    expected: &[u8],
+) -> io::Result<()> {
     let mut cursor = [0u8; CURSOR];
     let answers = walk(plan, letters, &mut cursor);
     let mut out = [0u8; ROOM];
     let end = put_answers(&mut out, &answers, letters.len());
-    tell_text(case, &out, end, expected);
+    tell_text(rt, case, &out, end, expected)
 }
 
 // A cell, as "(1,0,7,0)".
@@ -170,17 +183,17 @@ fn put_cells(out: &mut [u8; ROOM], cursor: &[u8; CURSOR]) -> usize {
 }
 
 // The used cells after letters on the sample plan.
-pub fn cells(case: &[u8], letters: &[u8], expected: &[u8]) {
+pub fn cells(rt: &impl Print, case: &[u8], letters: &[u8], expected: &[u8]) -> io::Result<()> {
     let mut cursor = [0u8; CURSOR];
     walk(&sample::bytes(), letters, &mut cursor);
     let mut out = [0u8; ROOM];
     let end = put_cells(&mut out, &cursor);
-    tell_text(case, &out, end, expected);
+    tell_text(rt, case, &out, end, expected)
 }
 
 // The whole output of stroll on the sample plan.
-pub fn stroll(case: &[u8], letters: &[u8], expected: &[u8]) {
+pub fn stroll(rt: &impl Print, case: &[u8], letters: &[u8], expected: &[u8]) -> io::Result<()> {
     let mut out = [0u8; stroll_output::MOST_OUTPUT];
     let length = stroll_output::stroll(&sample::bytes(), letters, &mut out);
-    tell(case, &out[..length], expected);
+    tell(rt, case, &out[..length], expected)
 }

@@ -1,6 +1,6 @@
 // What comes of a case as text, and its comparison with what document 01 gives.
-use check::same;
 use refusal::Refusal;
+use std::io;
 
 // Bytes of a text; what comes past them is cut.
 pub const ROOM: usize = 96;
@@ -30,7 +30,7 @@ pub fn put_gap(out: &mut [u8; ROOM], at: usize) -> usize {
 // A number in decimal.
 pub fn put_number(out: &mut [u8; ROOM], at: usize, number: u64) -> usize {
     let mut digits = [0u8; 20];
-    let length = io::decimal(number, &mut digits);
+    let length = decimal::put_decimal(&mut digits, 0, number);
     put(out, at, &digits[..length])
 }
 
@@ -43,29 +43,36 @@ pub fn put_refusal(out: &mut [u8; ROOM], refusal: Refusal) -> usize {
 }
 
 // The line of a case: what came, and where that is something else, what was to come.
-pub fn tell(case: &[u8], came: &[u8], expected: &[u8]) {
-    if same(came, expected) {
-        io::write_all(1, b"ok: ");
-        tell_came(case, came);
+pub fn tell(rt: &impl Print, case: &[u8], came: &[u8], expected: &[u8]) -> io::Result<()> {
+    if came == expected {
+        rt.write_all(b"ok: ")?;
+        tell_came(rt, case, came)?;
     } else {
-        io::write_all(1, b"FAILED: ");
-        tell_came(case, came);
-        io::write_all(1, b", expected ");
-        io::write_all(1, expected);
+        rt.write_all(b"FAILED: ")?;
+        tell_came(rt, case, came)?;
+        rt.write_all(b", expected ")?;
+        rt.write_all(expected)?;
     }
-    io::write_all(1, b"\n");
+    rt.write_all(b"\n")
 }
 
-fn tell_came(case: &[u8], came: &[u8]) {
-    io::write_all(1, case);
-    io::write_all(1, b": ");
-    io::write_all(1, came);
+fn tell_came(rt: &impl Print, case: &[u8], came: &[u8]) -> io::Result<()> {
+    rt.write_all(case)?;
+    rt.write_all(b": ")?;
+    rt.write_all(came)
 }
 
 // The same for what was put into a text, up to where it ends.
-pub fn tell_text(case: &[u8], text: &[u8; ROOM], end: usize, expected: &[u8]) {
+pub fn tell_text(
+    rt: &impl Print,
+    case: &[u8],
+    text: &[u8; ROOM],
+    end: usize,
+    expected: &[u8],
+) -> io::Result<()> {
     let all: &[u8] = text;
     if end <= all.len() {
-        tell(case, &all[..end], expected);
+        tell(rt, case, &all[..end], expected)?;
     }
+    Ok(())
 }

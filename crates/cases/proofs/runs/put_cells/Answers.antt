@@ -1,0 +1,15 @@
+-- The loop's invariant: it has not come past the cursor's end. Assumes nothing.
+use native.Mathlib.Omega.{arith}
+use Rattle.cases.proofs.runs.put_cells.Goals as goal
+
+pub loop-i-init : goal.loop-i-init
+loop-i-init c = omega arith
+
+pub overflow_add-i : goal.overflow_add-i
+overflow_add-i c = omega arith
+
+pub loop-i-smaller : goal.loop-i-smaller
+loop-i-smaller c = omega arith
+
+pub loop-i-preserved : goal.loop-i-preserved
+loop-i-preserved c = omega arith
