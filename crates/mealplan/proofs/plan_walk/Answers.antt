@@ -3,4 +3,4 @@ use Rattle.mealplan.proofs.Left.{left-given}
 use Rattle.mealplan.proofs.plan_walk.Goals as goal
 
 pub returns : goal.returns
-returns c = left-given c.walk.ensures c.give_walked.ensures
+returns c = search (left-given c.walk.ensures c.give_walked.ensures)
