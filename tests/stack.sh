@@ -2,9 +2,9 @@
 # Holds the figures at the end of include/mealplan.h to the static library of what was proved: bytes of code, no data, no bss, nothing
 # undefined but memset, and the stack of each function. The stack is taken twice.
 # - Added up along the deepest chain of calls in the machine code. That sum holds for every plan, and is held to the bound for any plan.
-#   The room for more than 1,024 rules lies in the frame of one function alone, judge::judge_many, which check and seal call for such
-#   plans and for no others: the sum without it is held to the bounds for few rules. That it isn't called for few rules is read off the code of
-#   crates/plan and crates/seal, not off the machine code; what shows it here is the second way.
+#   The room for more than 1,024 rules lies in the frame of one function alone, judge::search with that size, which judge_rules calls for
+#   such plans and for no others: the sum without it is held to the bounds for few rules. That it isn't called for few rules is read off the code
+#   of crates/judge, not off the machine code; what shows it here is the second way.
 # - Painted, on plans of 1,024 rules, of 4,096 and of 16,384 and on lists of rows (tests/stack.c): what was used of it, each held to its bound, and
 #   to the sum.
 # What was found is left in target/stack.txt, below the sum of the library that it was found of: a release has it.
@@ -49,7 +49,7 @@ within "code of all functions" "$(size "$build/all.o" | awk 'NR == 2 { print $1 
 within "code of check and walk alone" "$(size "$build/two.o" | awk 'NR == 2 { print $1 }')" CODE_BYTES_CHECK_WALK
 
 # The function that has the room for many rules.
-many=judge::judge_many
+many='judge::search::<=65536>'
 objdump -dr --no-show-raw-insn "$build/all.o" >"$build/code"
 grep -qF "<$many>:" "$build/code" || fail "$many isn't a function of its own, so that few rules may take the room of many"
 

@@ -1,13 +1,12 @@
 // The operations, each run with just enough lent for the sample plan's eight rules; what comes of it is told as text and compared.
-ghost use Rattle.std.specs.Prelude.{◌+◌, ◌*◌, ◌≤◌, length};
-ghost use Rattle.plan.specs.Check.{trailer_length};
-
-use crate::text::{ROOM, put, put_gap, put_number, put_refusal, tell, tell_text};
+use crate::text::{refused, tell};
 use forest::Measured;
 use letter::Letter;
 use place_cells::Cell;
-use plan::{Checked, Trailer, Written};
+use plan::{Checked, Trailer};
 use record::Format;
+use refusal::Refusal;
+use std::alloc::{AllocError, Global};
 use std::io;
 
 // Bytes of work, of the cursor and of answers.
@@ -18,182 +17,154 @@ const CURSOR: usize = 288;
 const ANSWERS: usize = 64;
 
 // As "accepted 8 7", n and start.
-fn put_checked(out: &mut [u8; ROOM], answer: Checked) -> usize {
+fn checked(alloc: Global, answer: Result<Checked, Refusal>) -> Result<String, AllocError> {
     match answer {
-        Checked::Accepted { n, start } => {
-            let end = put(out, 0, b"accepted ");
-            let end = put_number(out, end, n as u64);
-            let end = put(out, end, b" ");
-            put_number(out, end, start as u64)
-        }
-        Checked::Refused(refusal) => put_refusal(out, refusal),
+        Ok(Checked { n, start }) => format!(in alloc; "accepted {n} {start}"),
+        Err(why) => refused(alloc, why),
     }
 }
 
 // Check of a plan.
-pub fn check(rt: &impl Print, case: &[u8], plan: &[u8], expected: &[u8]) -> io::Result<()> {
-    let mut out = [0u8; ROOM];
-    let end = put_checked(&mut out, plan::check(plan));
-    tell_text(rt, case, &out, end, expected)
+pub fn check(
+    rt: &impl Print,
+    alloc: Global,
+    case: &str,
+    plan: &[u8],
+    expected: &str,
+) -> io::Result<()> {
+    let came = checked(alloc, plan::check(plan))?;
+    tell(rt, case, &came, expected)
 }
 
 // Check of so many empty rules: zeros that a trailer is written into.
 pub fn check_empty(
     rt: &impl Print,
-    case: &[u8],
-    zeros: &mut [u8],
+    alloc: Global,
+    case: &str,
     n: u16,
-    expected: &[u8],
-) -> io::Result<()>
-    requires { 8 * n + trailer_length ≤ length zeros.old }
-{
-    Trailer::write(zeros, Format::Narrow, n, 0);
-    check(rt, case, zeros, expected)
+    expected: &str,
+) -> io::Result<()> {
+    let mut plan = vec![in alloc; 0u8; Format::Narrow.length() * usize::from(n) + Trailer::LENGTH]?;
+    Trailer::write(&mut plan, Format::Narrow, n, 0);
+    check(rt, alloc, case, &plan, expected)
 }
 
 // As "accepted 74", the length.
-fn put_written(out: &mut [u8; ROOM], answer: Written) -> usize {
+fn written(alloc: Global, answer: Result<usize, Refusal>) -> Result<String, AllocError> {
     match answer {
-        Written::Length(length) => {
-            let end = put(out, 0, b"accepted ");
-            put_number(out, end, length as u64)
-        }
-        Written::Refused(refusal) => put_refusal(out, refusal),
+        Ok(length) => format!(in alloc; "accepted {length}"),
+        Err(why) => refused(alloc, why),
     }
 }
 
 // Seal of the sample plan's rules, which stand before its trailer.
-pub fn seal(rt: &impl Print, case: &[u8], expected: &[u8]) -> io::Result<()> {
+pub fn seal(rt: &impl Print, alloc: Global, case: &str, expected: &str) -> io::Result<()> {
     let plan = sample::bytes();
     let mut sealed = [0u8; 74];
-    let mut out = [0u8; ROOM];
-    let end = put_written(&mut out, seal::seal(&plan[..64], 8, 7, &mut sealed));
-    tell_text(rt, case, &out, end, expected)
+    let came = written(alloc, seal::seal(&plan[..64], 8, 7, &mut sealed))?;
+    tell(rt, case, &came, expected)
 }
 
 // As "3 trees, 11 entries, 3 levels".
-fn put_measured(out: &mut [u8; ROOM], answer: Measured) -> usize {
+fn measured(alloc: Global, answer: Result<Measured, Refusal>) -> Result<String, AllocError> {
     match answer {
-        Measured::Counts {
-            trees,
-            entries,
-            levels,
-        } => {
-            let end = put_number(out, 0, trees);
-            let end = put(out, end, b" trees, ");
-            let end = put_number(out, end, entries);
-            let end = put(out, end, b" entries, ");
-            let end = put_number(out, end, levels);
-            put(out, end, b" levels")
-        }
-        Measured::Refused(refusal) => put_refusal(out, refusal),
+        Ok(
+            Measured {
+                trees,
+                entries,
+                levels,
+            },
+        ) => format!(in alloc; "{trees} trees, {entries} entries, {levels} levels"),
+        Err(why) => refused(alloc, why),
     }
 }
 
 // Measure of the sample plan.
-pub fn measure(rt: &impl Print, case: &[u8], expected: &[u8]) -> io::Result<()> {
+pub fn measure(rt: &impl Print, alloc: Global, case: &str, expected: &str) -> io::Result<()> {
     let mut work = [1u8; WORK];
-    let mut out = [0u8; ROOM];
-    let end = put_measured(&mut out, measure::measure(&sample::bytes(), &mut work));
-    tell_text(rt, case, &out, end, expected)
+    let came = measured(alloc, measure::measure(&sample::bytes(), &mut work))?;
+    tell(rt, case, &came, expected)
 }
 
-// Spread of the sample plan, and what stands in the output then.
-pub fn spread(rt: &impl Print, case: &[u8], text: &mut [u8], expected: &[u8]) -> io::Result<()> {
+// Spread of the sample plan into so many bytes, full stops before, and what stands in them then.
+pub fn spread(
+    rt: &impl Print,
+    alloc: Global,
+    case: &str,
+    bytes: usize,
+    expected: &str,
+) -> io::Result<()> {
     let mut work = [1u8; WORK];
-    let mut out = [0u8; ROOM];
-    let answer = spread::spread(&sample::bytes(), &mut work, text);
-    let end = put_written(&mut out, answer);
-    let end = put(&mut out, end, b" ");
-    let end = put(&mut out, end, text);
-    tell_text(rt, case, &out, end, expected)
+    let mut text = vec![in alloc; b'.'; bytes]?;
+    let answer = written(
+        alloc,
+        spread::spread(&sample::bytes(), &mut work, &mut text),
+    )?;
+    let text = String::from_utf8_lossy(alloc, &text)?;
+    let came = format!(in alloc; "{answer} {text}")?;
+    tell(rt, case, &came, expected)
 }
 
 // Letters on a plan from above its forest; gives the answers, and the cursor holds the place.
 fn walk(plan: &[u8], letters: &[u8], cursor: &mut [u8; CURSOR]) -> [u8; ANSWERS] {
     let mut work = [1u8; WORK];
     let mut answers = [0u8; ANSWERS];
-    walk::walk(plan, &mut work, cursor, letters, &mut answers);
+    let _ = walk::walk(plan, &mut work, cursor, letters, &mut answers);
     answers
 }
 
-// A word of answers in decimal, or "-" for nowhere.
-fn put_answer(out: &mut [u8; ROOM], at: usize, word: u32) -> usize {
-    let end = put_gap(out, at);
-    if word == Letter::NOWHERE {
-        return put(out, end, b"-");
-    }
-    put_number(out, end, word as u64)
-}
-
-// The first words of answers, so many.
-fn put_answers(out: &mut [u8; ROOM], answers: &[u8; ANSWERS], letters: usize) -> usize {
-    let mut end = 0;
-    let mut i = 0;
-    while i < ANSWERS / Letter::ANSWER_LENGTH {
-        if i < letters {
-            end = put_answer(out, end, words::read32(answers, Letter::ANSWER_LENGTH * i));
-        }
-        i += 1;
-    }
-    end
-}
-
-// The answers to letters.
+// The answers to letters: labels, and "-" for nowhere.
 pub fn answers(
     rt: &impl Print,
-    case: &[u8],
+    alloc: Global,
+    case: &str,
     plan: &[u8],
-    letters: &[u8],
-    expected: &[u8],
+    letters: &str,
+    expected: &str,
 ) -> io::Result<()> {
     let mut cursor = [0u8; CURSOR];
-    let answers = walk(plan, letters, &mut cursor);
-    let mut out = [0u8; ROOM];
-    let end = put_answers(&mut out, &answers, letters.len());
-    tell_text(rt, case, &out, end, expected)
-}
-
-// A cell, as "(1,0,7,0)".
-fn put_cell(out: &mut [u8; ROOM], at: usize, cell: Cell) -> usize {
-    let end = put_gap(out, at);
-    let end = put(out, end, b"(");
-    let end = put_number(out, end, cell.kind as u64);
-    let end = put(out, end, b",");
-    let end = put_number(out, end, cell.one as u64);
-    let end = put(out, end, b",");
-    let end = put_number(out, end, cell.two as u64);
-    let end = put(out, end, b",");
-    let end = put_number(out, end, cell.three as u64);
-    put(out, end, b")")
-}
-
-// Cells 1 to k, k being the first word of cell 0.
-fn put_cells(out: &mut [u8; ROOM], cursor: &[u8; CURSOR]) -> usize {
-    let used = words::read16(cursor, 0) as usize;
-    let mut end = 0;
-    let mut i = 1;
-    while i < CURSOR / Cell::LENGTH {
-        if i <= used {
-            end = put_cell(out, end, Cell::read(cursor, i));
+    let answers = walk(plan, letters.as_bytes(), &mut cursor);
+    let mut came = Vec::new(alloc);
+    for i in 0..letters.len().min(ANSWERS / Letter::ANSWER_LENGTH) {
+        let word = words::read32(&answers, Letter::ANSWER_LENGTH * i);
+        if word == Letter::NOWHERE {
+            came.push(String::from_str(alloc, "-")?)?;
+        } else {
+            came.push(word.to_string(alloc)?)?;
         }
-        i += 1;
     }
-    end
+    tell(rt, case, &came.join(alloc, " ")?, expected)
 }
 
-// The used cells after letters on the sample plan.
-pub fn cells(rt: &impl Print, case: &[u8], letters: &[u8], expected: &[u8]) -> io::Result<()> {
+// The used cells after letters on the sample plan, cells 1 to k, k being the first word of cell 0; a cell as "(1,0,7,0)".
+pub fn cells(
+    rt: &impl Print,
+    alloc: Global,
+    case: &str,
+    letters: &str,
+    expected: &str,
+) -> io::Result<()> {
     let mut cursor = [0u8; CURSOR];
-    walk(&sample::bytes(), letters, &mut cursor);
-    let mut out = [0u8; ROOM];
-    let end = put_cells(&mut out, &cursor);
-    tell_text(rt, case, &out, end, expected)
+    walk(&sample::bytes(), letters.as_bytes(), &mut cursor);
+    let used = usize::from(words::read16(&cursor, 0));
+    let mut came = Vec::new(alloc);
+    for i in 1..(used + 1).min(CURSOR / Cell::LENGTH) {
+        let cell = Cell::read(&cursor, i);
+        came.push(format!(in alloc; "({},{},{},{})", cell.kind, cell.one, cell.two, cell.three)?)?;
+    }
+    tell(rt, case, &came.join(alloc, " ")?, expected)
 }
 
 // The whole output of stroll on the sample plan.
-pub fn stroll(rt: &impl Print, case: &[u8], letters: &[u8], expected: &[u8]) -> io::Result<()> {
+pub fn stroll(
+    rt: &impl Print,
+    alloc: Global,
+    case: &str,
+    letters: &str,
+    expected: &str,
+) -> io::Result<()> {
     let mut out = [0u8; stroll_output::MOST_OUTPUT];
-    let length = stroll_output::stroll(&sample::bytes(), letters, &mut out);
-    tell(rt, case, &out[..length], expected)
+    let length = stroll_output::stroll(&sample::bytes(), letters.as_bytes(), &mut out);
+    let came = String::from_utf8_lossy(alloc, &out[..length])?;
+    tell(rt, case, &came, expected)
 }

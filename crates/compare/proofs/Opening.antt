@@ -3,9 +3,8 @@ use Prim.Native.Nat.{ℕ, zero, suc, ◌<◌}
 use native.Mathlib.Omega.{arith}
 use mathlib.Core.Path.{◌≡◌, refl, ap, subst, ◌∙◌}
 use mathlib.Core.List.{List, [], ◌∷◌, cons≢nil}
-use mathlib.Core.Option.{none}
+use Rattle.std.specs.Prelude.{None, Result, Ok, Err}
 use Rattle.refusal.specs.declared.Refusal.{Refusal}
-use Rattle.forest.specs.declared.Compared.{Compared}
 use Rattle.forest.specs.Expression.{expression}
 use Rattle.forest.specs.Forest.{Forest}
 use Rattle.forest.specs.Position.{Located, Named, located_of}
@@ -18,7 +17,6 @@ use Rattle.letter_moves.specs.Standing.{rules_kept}
 use Rattle.place_open.specs.declared.Opened.{Opened}
 use Rattle.place_open.specs.Open.{OpensAt}
 use Rattle.place_open.proofs.Above.{same_above, equal_cells}
-use Rattle.compare.specs.declared.Stood.{Stood}
 use Rattle.compare.specs.Places.{NodeAt, NodeOpens, StandsAt, BothOpen}
 
 -- a node has cells in the cursor
@@ -28,12 +26,12 @@ cells-in-some s zero l q = omega arith
 cells-in-some s (suc k) l q = cons≢nil q
 
 -- a path that is judged
-node-judged : (g : Forest Located) (n r : ℕ) (p : Path) → (label_at g p ≡ none → ⊥) → node_judged (Begun.at n r p) ≡ Begun.at n r p
+node-judged : (g : Forest Located) (n r : ℕ) (p : Path) → (label_at g p ≡ None → ⊥) → node_judged (Begun.at n r p) ≡ Begun.at n r p
 unfolding node_judged label_at node_at top
 node-judged g n r [] f = absurd (f refl)
 node-judged g n r (i ∷ p) f = refl
 
-above-judged : (g : Forest Located) (n r : ℕ) (p : Path) → Named g p → label_at g p ≡ none → node_judged (Begun.at n r p) ≡ Begun.refused Refusal.Place
+above-judged : (g : Forest Located) (n r : ℕ) (p : Path) → Named g p → label_at g p ≡ None → node_judged (Begun.at n r p) ≡ Begun.refused Refusal.Place
 unfolding node_judged
 above-judged g n r p Named.above q = refl
 above-judged g n r p (Named.node e) q = absurd (let z : ◌≡◌ {A = ℕ} 0 1 = cc in omega arith)
@@ -63,15 +61,15 @@ module _ {t : List ℕ} {n start : ℕ} {s : List ℕ} {r : ℕ} {h : Standing} 
 
 -- what the answer says of one place
 module _ (t s : List ℕ) (n start : ℕ) where
-  node-answer : Opened → Type 0
-  node-answer (Opened.At r h) = NodeAt t n start s r h
-  node-answer (Opened.Refused w) = Unit {0}
+  node-answer : Result Opened Refusal → Type 0
+  node-answer (Ok x) = NodeAt t n start s x.walked x.at
+  node-answer (Err w) = Unit {0}
 
-  pub node-not : {why : Refusal} → node_judged (place_judged (rules_kept t) n start s) ≡ Begun.refused why → NodeOpens t n start s (Opened.Refused why)
+  pub node-not : {why : Refusal} → node_judged (place_judged (rules_kept t) n start s) ≡ Begun.refused why → NodeOpens t n start s (Err why)
   unfolding node-answer
   node-not e = record { at = λ r h q. subst node-answer q tt; refused = λ w q. e ∙ ap Begun.refused cc }
 
-  pub node_opens : {r : ℕ} {h : Standing} → NodeAt t n start s r h → NodeOpens t n start s (Opened.At r h)
+  pub node_opens : {r : ℕ} {h : Standing} → NodeAt t n start s r h → NodeOpens t n start s (Ok (record { walked = r; at = h }))
   unfolding node-answer
   node_opens o = record { at = λ r' h' q. subst node-answer q o; refused = λ w q. cc }
 
@@ -82,26 +80,26 @@ module _ (t s : List ℕ) (n start : ℕ) where
 
 -- and of both
 module _ (t first second : List ℕ) (n start : ℕ) where
-  both-answer : Stood → Type 0
-  both-answer (Stood.At h g) = StandsAt t n start first h × StandsAt t n start second g
-  both-answer (Stood.Refused w) = Unit {0}
+  both-answer : Result (Standing × Standing) Refusal → Type 0
+  both-answer (Ok (h, g)) = StandsAt t n start first h × StandsAt t n start second g
+  both-answer (Err w) = Unit {0}
 
-  pub both-open : {h g : Standing} {r q : ℕ} → NodeAt t n start first r h → NodeAt t n start second q g → BothOpen t n start first second (Stood.At h g)
+  pub both-open : {h g : Standing} {r q : ℕ} → NodeAt t n start first r h → NodeAt t n start second q g → BothOpen t n start first second (Ok (h, g))
   unfolding both-answer
   both-open {r = r} {q = q} x y =
       record { at = λ h' g' e. subst both-answer e (record { walked = r; node = x }, record { walked = q; node = y }); refused = λ w b e. cc }
 
   both-not : {why : Refusal}
-      → ((b : ℕ) → compared_at (rules_kept t) b (node_judged (place_judged (rules_kept t) n start first)) (node_judged (place_judged (rules_kept t) n start second)) ≡ Compared.Refused why)
-      → BothOpen t n start first second (Stood.Refused why)
+      → ((b : ℕ) → compared_at (rules_kept t) b (node_judged (place_judged (rules_kept t) n start first)) (node_judged (place_judged (rules_kept t) n start second)) ≡ Err why)
+      → BothOpen t n start first second (Err why)
   unfolding both-answer
-  both-not f = record { at = λ h g e. subst both-answer e tt; refused = λ w b e. f b ∙ ap Compared.Refused cc }
+  both-not f = record { at = λ h g e. subst both-answer e tt; refused = λ w b e. f b ∙ ap Err cc }
 
-  pub first-not : {why : Refusal} → node_judged (place_judged (rules_kept t) n start first) ≡ Begun.refused why → BothOpen t n start first second (Stood.Refused why)
+  pub first-not : {why : Refusal} → node_judged (place_judged (rules_kept t) n start first) ≡ Begun.refused why → BothOpen t n start first second (Err why)
   unfolding compared_at
   first-not e = both-not (λ b. rw e)
 
   pub second-not : {why : Refusal} {r : ℕ} {h : Standing} → NodeAt t n start first r h → node_judged (place_judged (rules_kept t) n start second) ≡ Begun.refused why
-      → BothOpen t n start first second (Stood.Refused why)
+      → BothOpen t n start first second (Err why)
   unfolding compared_at
   second-not x e = both-not (λ b. rw (x.judged, e))

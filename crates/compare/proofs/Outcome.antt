@@ -1,5 +1,6 @@
 -- Compare's answer and what it leaves, by the ways through its code: turned down by check, for what is lent, by a place, or past 10, where
 -- the two subtrees are compared; past 8 the work is cleared. Assumes nothing.
+use Rattle.std.specs.Prelude.{Result, Ok, Err}
 use Prim.Native.Nat.{ℕ, ◌+◌, ◌*◌, ◌/◌, ◌≤◌}
 use native.Mathlib.Omega.{arith}
 use mathlib.Core.Path.{◌≡◌, refl, sym, ap, ◌∙◌}
@@ -12,7 +13,6 @@ use borrow.Author.Tests.{leb-true}
 use Rattle.words.specs.Number.{word_count}
 use Rattle.refusal.specs.declared.Refusal.{Refusal}
 use Rattle.rule.specs.declared.Rule.{Rule}
-use Rattle.plan.specs.declared.Checked.{Checked}
 use Rattle.record.specs.Record.{word_length}
 use Rattle.plan.specs.Check.{checked, rules_of, most_rules}
 use Rattle.plan.proofs.Sound.{Plan, checked-plan}
@@ -34,7 +34,6 @@ use Rattle.letter_moves.proofs.Stands.{stands-few}
 use Rattle.place_cells.specs.Cells.{Lies}
 use Rattle.place_open.specs.Open.{Openable}
 use Rattle.compare_begin.specs.Begin.{NodePlace}
-use Rattle.compare.specs.declared.Stood.{Stood}
 use Rattle.compare.specs.Places.{Lendable, StandsAt, BothOpen, Standings, begun_differ}
 use Rattle.compare.proofs.Subtrees.{begun-pairs}
 
@@ -103,23 +102,23 @@ module _ {s : List ℕ} {n start : ℕ} {work first second : List ℕ} (L : Lend
           ∙ ap (λ (R : List Rule). pairs_found (subtree_at (forest R x.walked) x.node.opens.path) (subtree_at (forest R y.walked) y.node.opens.path)) rules
 
       pub answered : (budget : ℕ) {z : Compared} → z ≡ within budget (begun_differ t n first second h g)
-          → z ≡ compared_at (rules_of s) budget (node_judged (place_judged (rules_of s) n start first)) (node_judged (place_judged (rules_of s) n start second))
+          → Ok z ≡ compared_at (rules_of s) budget (node_judged (place_judged (rules_of s) n start first)) (node_judged (place_judged (rules_of s) n start second))
       unfolding compared_at
-      answered budget q = rw (node-judged x, node-judged y) (q ∙ ap (within budget) found)
+      answered budget q = rw (node-judged x, node-judged y) (ap Ok (q ∙ ap (within budget) found))
 
-    pub turned_down_lem : (budget : ℕ) {why : Refusal} {z : Stood} → BothOpen (take (row_length * n) t) n start first second z → z ≡ Stood.Refused why
-        → Compared.Refused why ≡ compared_at (rules_of s) budget (node_judged (place_judged (rules_of s) n start first)) (node_judged (place_judged (rules_of s) n start second))
+    pub turned_down_lem : (budget : ℕ) {why : Refusal} {z : Result (Standing × Standing) Refusal} → BothOpen (take (row_length * n) t) n start first second z → z ≡ Err why
+        → Err why ≡ compared_at (rules_of s) budget (node_judged (place_judged (rules_of s) n start first)) (node_judged (place_judged (rules_of s) n start second))
     turned_down_lem budget {why} b q = sym (rw f.rules at (b.refused why budget q))
 
 module _ (s work first second : List ℕ) (budget : ℕ) where
-  pub refused : (why : Refusal) → checked s ≡ Checked.Refused why
-      → (Compared.Refused why ≡ compare s work first second budget) × (work ≡ compared_work s work first second)
+  pub refused : (why : Refusal) → checked s ≡ Err why
+      → (Err why ≡ compare s work first second budget) × (work ≡ compared_work s work first second)
   unfolding compare compared_from compared_work work_after
   refused why q = rw q (refl, refl)
 
-  module _ (n start : ℕ) (q : checked s ≡ Checked.Accepted n start) where
+  module _ (n start : ℕ) (q : checked s ≡ Ok (record { n = n; start = start })) where
     pub lent : enough_compared work first second n ≡ false
-        → (Compared.Refused Refusal.Lent ≡ compare s work first second budget) × (work ≡ compared_work s work first second)
+        → (Err Refusal.Lent ≡ compare s work first second budget) × (work ≡ compared_work s work first second)
     unfolding compare compared_from compared_work work_after
     lent e = rw (q, e) (refl, refl)
 
@@ -134,7 +133,7 @@ module _ (s work first second : List ℕ) (budget : ℕ) where
         record { accepted = q; worked = enough-room n work worked; words = enough-words n work worked; one = omega arith; two = omega arith }
 
     -- past 8
-    pub finished : {x : Compared} {t u : List ℕ} → enough_compared work first second n ≡ true
+    pub finished : {x : Result Compared Refusal} {t u : List ℕ} → enough_compared work first second n ≡ true
         → x ≡ compared_at (rules_of s) budget (node_judged (place_judged (rules_of s) n start first)) (node_judged (place_judged (rules_of s) n start second))
         → Within 0 (work_length * n) work t → u ≡ cleared (word_length * work_words n) t
         → (x ≡ compare s work first second budget) × (u ≡ compared_work s work first second)

@@ -1,26 +1,25 @@
 -- The subtrees at two nodes: their tasks lie on two stacks, apart; the passes over the rows leave them there; and the loop over the stacks
 -- compares what they say. Assumes nothing.
-use Prim.Native.Nat.{ℕ, ◌+◌, ◌*◌, ◌≤◌, ◌<◌}
+use Prim.Native.Nat.{ℕ, ◌*◌, ◌≤◌, ◌<◌}
 use native.Mathlib.Omega.{arith}
 use mathlib.Core.Path.{◌≡◌, refl, sym, ap, ap₂, ◌∙◌}
-use mathlib.Core.List.{List, []}
+use mathlib.Core.List.{List}
 use mathlib.Core.Logic.{inr}
 use lib.ListN.{length}
 use lib.Dec.{ltb, ltb→lt}
-use Rattle.record.specs.Record.{word_length}
 use Rattle.rule.specs.declared.Rule.{Rule}
 use Rattle.rule.specs.Names.{Names, pair_one, node_one, fill_one, part_one, join_one}
 use Rattle.rule.specs.Sound.{rule, Sound}
 use Rattle.rule.proofs.Names.{every-named}
 use Rattle.forest.specs.declared.Compared.{Compared}
-use Rattle.forest.specs.Expression.{Expression, expression, rhs}
+use Rattle.forest.specs.Expression.{expression, rhs}
 use Rattle.forest.specs.Sizes.{height}
 use Rattle.forest.specs.Walk.{cells_in}
 use Rattle.forest.specs.Forest.{forest}
 use Rattle.forest.specs.Compare.{subtree_at, pairs_found, within}
 use Rattle.forest.proofs.Unfold.{unfolding-equation}
-use Rattle.work_rows.specs.Rows.{work_length, row_length, rule_in, first_rules, Within}
-use Rattle.work_rows.specs.Order.{order_end, order_in}
+use Rattle.work_rows.specs.Rows.{work_length, row_length, first_rules, Within}
+use Rattle.work_rows.specs.Order.{order_in}
 use Rattle.work_rows.proofs.Rows.{within_both, within_wider}
 use Rattle.work_rows.proofs.Kept.{first-length, first-rule}
 use Rattle.work_rows.proofs.Order.{order-kept}
@@ -33,19 +32,19 @@ use Rattle.spread_stack.specs.Run.{meant, Stacked, Taskable, Tasked, RowsTasked}
 use Rattle.spread_stack.proofs.Rows.{task-recurs}
 use Rattle.compare_tokens.specs.Tokens.{differs}
 use Rattle.compare_tokens.specs.Stacks.{tasks_tokens}
-use Rattle.compare_nodes.specs.Columns.{Noded, NodesKept}
+use Rattle.compare_nodes.specs.Columns.{Noded}
 use Rattle.compare_nodes.proofs.Kept.{nodes_kept, noded-rules, noded-ready, kept-tasked}
 use Rattle.compare_place.specs.Begun.{begun_tasks}
 use Rattle.compare_place.proofs.Places.{begun-found}
 use Rattle.compare_begin.specs.declared.Begun.{Begun}
-use Rattle.compare_begin.specs.Stack.{SoundRows, kept_rule, kept_run, tasks_of}
-use Rattle.compare_begin.specs.Begin.{NodePlace, Beginnable, BegunAt}
+use Rattle.compare_begin.specs.Stack.{kept_rule, kept_run, tasks_of}
+use Rattle.compare_begin.specs.Begin.{Beginnable, BegunAt}
 use Rattle.compare_begin.proofs.Stacks.{tasks-kept}
 use Rattle.compare_begin.proofs.Runs.{rows-kept}
 use Rattle.compare_begin.proofs.Begins.{begun-says, begun-begins, begun-rows, begun-high}
 use Rattle.compare_run.specs.Run.{Comparable, RunMade}
 use Rattle.letter_arrival.specs.declared.Standing.{Standing}
-use Rattle.compare.specs.Places.{first_stack, second_stack, Standings, begun_tokens, begun_differ}
+use Rattle.compare.specs.Places.{first_stack, second_stack, Standings, begun_differ}
 
 -- a rule that isn't empty names another, of lower rank, so that there are two rules at least
 named : (x : Rule) → (x ≡ Rule.Empty → ⊥) → (k : ℕ) × Names x k

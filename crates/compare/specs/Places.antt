@@ -1,11 +1,9 @@
 -- What is asked and kept below compare's entry: what is lent, both places opened, and the tasks of their subtrees.
-use Rattle.std.specs.Prelude.{ℕ, ◌*◌, ◌≤◌, ◌<◌, ◌≡◌, List, length}
+use Rattle.std.specs.Prelude.{ℕ, ◌*◌, ◌≤◌, ◌<◌, ◌≡◌, List, length, Result, Ok, Err}
 use Rattle.refusal.specs.declared.Refusal.{Refusal}
-use Rattle.plan.specs.declared.Checked.{Checked}
 use Rattle.plan.specs.Check.{checked}
 use Rattle.record.specs.Format.{word_length}
 use Rattle.reach.specs.Order.{Orders}
-use Rattle.forest.specs.declared.Compared.{Compared}
 use Rattle.forest.specs.Outcome.{work_words}
 use Rattle.forest.specs.Walk.{Begun, cells_in, place_judged}
 use Rattle.forest.specs.Compare.{Found, node_judged, compared_at}
@@ -22,11 +20,10 @@ use Rattle.place_open.specs.declared.Opened.{Opened}
 use Rattle.place_open.specs.Open.{OpensAt}
 use Rattle.compare_begin.specs.Stack.{SoundRows, kept_rule, kept_run}
 use Rattle.compare_begin.specs.Begin.{NodePlace}
-use Rattle.compare.specs.declared.Stood.{Stood}
 
 -- enough of all that is lent on an accepted plan of n rules
 pub record Lendable (plan : List ℕ) (n start : ℕ) (work first second : List ℕ) : Type 0 where
-  pub accepted : checked plan ≡ Checked.Accepted n start
+  pub accepted : checked plan ≡ Ok (record { n = n; start = start })
   pub worked : work_length * n ≤ length work
   pub words : word_length * work_words n ≤ length work
   pub one : cursor_length n ≤ length first
@@ -39,9 +36,9 @@ pub record NodeAt (t : List ℕ) (n start : ℕ) (s : List ℕ) (r : ℕ) (h : S
   pub judged : node_judged (place_judged (rules_kept t) n start s) ≡ Begun.at n r opens.path
 
 -- a place opened that is a node's
-pub record NodeOpens (t : List ℕ) (n start : ℕ) (s : List ℕ) (x : Opened) : Type 0 where
-  pub at : (r : ℕ) (h : Standing) → x ≡ Opened.At r h → NodeAt t n start s r h
-  pub refused : (why : Refusal) → x ≡ Opened.Refused why → node_judged (place_judged (rules_kept t) n start s) ≡ Begun.refused why
+pub record NodeOpens (t : List ℕ) (n start : ℕ) (s : List ℕ) (x : Result Opened Refusal) : Type 0 where
+  pub at : (r : ℕ) (h : Standing) → x ≡ Ok (record { walked = r; at = h }) → NodeAt t n start s r h
+  pub refused : (why : Refusal) → x ≡ Err why → node_judged (place_judged (rules_kept t) n start s) ≡ Begun.refused why
 
 -- the node of some rule's forest that a cursor stands at
 pub record StandsAt (t : List ℕ) (n start : ℕ) (s : List ℕ) (h : Standing) : Type 0 where
@@ -49,11 +46,11 @@ pub record StandsAt (t : List ℕ) (n start : ℕ) (s : List ℕ) (h : Standing)
   pub node : NodeAt t n start s walked h
 
 -- both opened, the first cursor before the second
-pub record BothOpen (t : List ℕ) (n start : ℕ) (first second : List ℕ) (x : Stood) : Type 0 where
-  pub at : (h g : Standing) → x ≡ Stood.At h g → StandsAt t n start first h × StandsAt t n start second g
-  pub refused : (why : Refusal) (budget : ℕ) → x ≡ Stood.Refused why
+pub record BothOpen (t : List ℕ) (n start : ℕ) (first second : List ℕ) (x : Result (Standing × Standing) Refusal) : Type 0 where
+  pub at : (h g : Standing) → x ≡ Ok (h, g) → StandsAt t n start first h × StandsAt t n start second g
+  pub refused : (why : Refusal) (budget : ℕ) → x ≡ Err why
       → compared_at (rules_kept t) budget (node_judged (place_judged (rules_kept t) n start first)) (node_judged (place_judged (rules_kept t) n start second))
-      ≡ Compared.Refused why
+      ≡ Err why
 
 -- where the stacks of the two subtrees begin, in bytes a rule: behind the order of the rules, with room under each
 abbrev pub first_stack : ℕ

@@ -17,13 +17,6 @@ use plan::Checked;
 use refusal::Refusal;
 use work_rows::Row;
 
-// Where two places stand, or why one of them is turned down.
-#[derive(Clone, Copy)]
-enum Stood {
-    At { first: Standing, second: Standing },
-    Refused(Refusal),
-}
-
 // Whether n rules have enough of work and of both cursors.
 fn enough_compared(work: &[u8], first: &[u8], second: &[u8], n: u16) -> bool
     ensures { result ≡ enough_compared work.now first.now second.now n }
@@ -32,37 +25,31 @@ fn enough_compared(work: &[u8], first: &[u8], second: &[u8], n: u16) -> bool
         & (walk_lent::enough_cursor(first, n) & walk_lent::enough_cursor(second, n))
 }
 
-// The node that a cursor stands at, on the rows of a plan of n rules: a place above the forest is turned down too.
-fn open_node(rows: &[u8], cursor: &[u8], n: u16, start: u16) -> Opened
-    requires { Openable start n rows.now cursor.now }
-    ensures { NodeOpens rows.now n start cursor.now result }
+// The node that a cursor stands at, on the rows of an accepted plan's rules: a place above the forest is turned down too.
+fn open_node(rows: &[u8], cursor: &[u8], accepted: Checked) -> Result<Opened, Refusal>
+    requires { Openable accepted.start accepted.n rows.now cursor.now }
+    ensures { NodeOpens rows.now accepted.n accepted.start cursor.now result }
 {
-    match place_open::open(rows, cursor, n, start) {
-        Opened::At { walked, at } => {
-            if at.used == 0 {
-                return Opened::Refused(Refusal::Place);
-            }
-            Opened::At { walked, at }
-        }
-        Opened::Refused(refusal) => Opened::Refused(refusal),
+    let opened = place_open::open(rows, cursor, accepted)?;
+    if opened.at.used == 0 {
+        return Err(Refusal::Place);
     }
+    Ok(opened)
 }
 
 // The nodes that two cursors stand at, the first cursor before the second.
-fn open_both(rows: &[u8], first: &[u8], second: &[u8], n: u16, start: u16) -> Stood
-    requires { Openable start n rows.now first.now × Openable start n rows.now second.now }
-    ensures { BothOpen rows.now n start first.now second.now result }
+fn open_both(
+    rows: &[u8],
+    first: &[u8],
+    second: &[u8],
+    accepted: Checked,
+) -> Result<(Standing, Standing), Refusal>
+    requires { Openable accepted.start accepted.n rows.now first.now × Openable accepted.start accepted.n rows.now second.now }
+    ensures { BothOpen rows.now accepted.n accepted.start first.now second.now result }
 {
-    match open_node(rows, first, n, start) {
-        Opened::At { at: one, .. } => match open_node(rows, second, n, start) {
-            Opened::At { at: two, .. } => Stood::At {
-                first: one,
-                second: two,
-            },
-            Opened::Refused(refusal) => Stood::Refused(refusal),
-        },
-        Opened::Refused(refusal) => Stood::Refused(refusal),
-    }
+    let one = open_node(rows, first, accepted)?;
+    let two = open_node(rows, second, accepted)?;
+    Ok((one.at, two.at))
 }
 
 // Where the stacks of the two subtrees begin, in bytes a rule: behind the order of the rules, with room under each.
@@ -101,26 +88,20 @@ fn compare_places(
     first: &[u8],
     second: &[u8],
     budget: u32,
-    n: u16,
-    start: u16,
-) -> Compared
-    requires { Lendable plan.now n start work.old first.now second.now }
+    accepted: Checked,
+) -> Result<Compared, Refusal>
+    requires { Lendable plan.now accepted.n accepted.start work.old first.now second.now }
     ensures { let work' = work.exit.now in
         let work = work.entry.now in
         let rules = rules_of plan.now in
-        let one = node_judged (place_judged rules n start first.now) in
-        let two = node_judged (place_judged rules n start second.now) in
-        (result ≡ compared_at rules budget one two) × Within 0 (work_length * n) work work' }
+        let one = node_judged (place_judged rules accepted.n accepted.start first.now) in
+        let two = node_judged (place_judged rules accepted.n accepted.start second.now) in
+        (result ≡ compared_at rules budget one two) × Within 0 (work_length * accepted.n) work work' }
 {
-    facts_load::load(plan, work, n);
-    let rows = &work[..Row::LENGTH * (n as usize)];
-    match open_both(rows, first, second, n, start) {
-        Stood::At {
-            first: one,
-            second: two,
-        } => compare_subtrees(work, first, second, n, one, two, budget),
-        Stood::Refused(refusal) => Compared::Refused(refusal),
-    }
+    facts_load::load(plan, work, accepted.n);
+    let rows = &work[..Row::LENGTH * (accepted.n as usize)];
+    let (one, two) = open_both(rows, first, second, accepted)?;
+    Ok(compare_subtrees(work, first, second, accepted.n, one, two, budget))
 }
 
 // Compare on an accepted plan: what is lent is tested, the work is filled and cleared.
@@ -130,10 +111,9 @@ fn compare_rules(
     first: &[u8],
     second: &[u8],
     budget: u32,
-    n: u16,
-    start: u16,
-) -> Compared
-    requires { checked plan.now ≡ Checked.Accepted n start }
+    accepted: Checked,
+) -> Result<Compared, Refusal>
+    requires { checked plan.now ≡ Ok accepted }
     ensures { let work' = work.exit.now in
         let plan = plan.entry.now in
         let work = work.entry.now in
@@ -141,16 +121,22 @@ fn compare_rules(
         let second = second.entry.now in
         (result ≡ compare plan work first second budget) × (work' ≡ compared_work plan work first second) }
 {
-    if !enough_compared(work, first, second, n) {
-        return Compared::Refused(Refusal::Lent);
+    if !enough_compared(work, first, second, accepted.n) {
+        return Err(Refusal::Lent);
     }
-    let answer = compare_places(plan, work, first, second, budget, n, start);
-    work_rows::clear_work(work, n);
+    let answer = compare_places(plan, work, first, second, budget, accepted);
+    work_rows::clear_work(work, accepted.n);
     answer
 }
 
 // Compare the subtrees at two places of a plan: same, differ or spent, and a count; or why it is turned down. The cursors are only read.
-pub fn compare(plan: &[u8], work: &mut [u8], first: &[u8], second: &[u8], budget: u32) -> Compared
+pub fn compare(
+    plan: &[u8],
+    work: &mut [u8],
+    first: &[u8],
+    second: &[u8],
+    budget: u32,
+) -> Result<Compared, Refusal>
     ensures { let work' = work.exit.now in
         let plan = plan.entry.now in
         let work = work.entry.now in
@@ -158,10 +144,6 @@ pub fn compare(plan: &[u8], work: &mut [u8], first: &[u8], second: &[u8], budget
         let second = second.entry.now in
         (result ≡ compare plan work first second budget) × (work' ≡ compared_work plan work first second) }
 {
-    match plan::check(plan) {
-        Checked::Accepted { n, start } => {
-            compare_rules(plan, work, first, second, budget, n, start)
-        }
-        Checked::Refused(refusal) => Compared::Refused(refusal),
-    }
+    let accepted = plan::check(plan)?;
+    compare_rules(plan, work, first, second, budget, accepted)
 }

@@ -4,8 +4,8 @@ use Prim.Native.Nat.{ℕ, zero, suc, ◌+◌, ◌*◌, ◌≤◌, ◌<◌}
 use native.Mathlib.Omega.{arith}
 use mathlib.Core.Path.{◌≡◌, refl, sym, ap, subst, ◌∙◌}
 use mathlib.Core.List.{List, [], ◌∷◌}
-use mathlib.Core.Bool.{true, false, false≢true}
-use mathlib.Core.Option.{Option}
+use mathlib.Core.Bool.{false≢true}
+use Rattle.std.specs.Prelude.{Option}
 use lib.ListN.{length}
 use lib.Dec.{eqb}
 use borrow.Author.Tests.{eqb-true, eq-eqb}
@@ -24,7 +24,7 @@ use Rattle.model.specs.Run.{Node}
 use Rattle.model.specs.Same.{Same}
 use Rattle.model.proofs.Rules.{facts-agree, rules-inside}
 use Rattle.model.proofs.Ranged.{Every, Numbers, node-number, cell-numbers}
-use Rattle.work_rows.specs.Rows.{row_length, rule_in, first_rules, Within}
+use Rattle.work_rows.specs.Rows.{row_length, rule_in, first_rules}
 use Rattle.work_rows.proofs.Rows.{within_wider}
 use Rattle.work_rows.proofs.Kept.{first-length, first-rule}
 use Rattle.count_passes.specs.Says.{whole, before, after}
@@ -37,7 +37,7 @@ use Rattle.compare_place.proofs.Places.{Begins, begins, begun-high as at_high}
 use Rattle.compare_begin.specs.declared.Begun.{Begun}
 use Rattle.compare_begin.specs.Stack.{tasks_of, kept_rule, kept_run, Room, Grown, Laid, hole_in, RoomAt, Holed}
 use Rattle.compare_begin.specs.Begin.{stack_low, stack_high, NodePlace, Beginnable, BegunAt}
-use Rattle.compare_begin.proofs.Stacks.{tasks-length, tasks-kept, laid_none, laid-grown}
+use Rattle.compare_begin.proofs.Stacks.{tasks-length, laid_none, laid-grown}
 use Rattle.compare_begin.proofs.Runs.{kept-few, kept_same, around-length}
 
 -- the rules that cells name first, those of rows aside
@@ -197,11 +197,6 @@ begun-rows {n = n} h g = kept_same n g.within (omega (arith, h.behind))
 -- so a place of the rules stays one
 pub place_kept : {t t' s : List ℕ} {n k p : ℕ} → first_rules t' n ≡ first_rules t n → NodePlace t n s k p → NodePlace t' n s k p
 place_kept q h = record { walked = h.walked; closed = rw q h.closed; path = h.path; same = rw q h.same; least = h.least }
-
--- the stack keeps its tasks while its region is left alone
-pub begun_kept : {s t t' u : List ℕ} {n from k p a e : ℕ} {x : Begun} → BegunAt n from k p s x t t' → Within a e t' u → stack_high n from ≤ a
-    → tasks_of u x ≡ tasks_of t' x
-begun_kept {x = x} g w past = tasks-kept w x.from x.tasks (λ l. absurd (omega (arith, g.top)))
 
 -- the rule there is one of the plan's, and not an empty one
 pub begun-high : {t s : List ℕ} {n from k p : ℕ} → Beginnable t s n from k p → (p < n) × (1 ≤ height (expression (first_rules t n) p))

@@ -1,6 +1,6 @@
 -- What stands in the hole of the part at a place, from its cells: the runs on top are taken over what the cell below them opens, from below.
 -- Assumes nothing.
-use Prim.Native.Nat.{ℕ, zero, suc, ◌+◌, ◌-◌, ◌*◌, ◌≤◌, ◌<◌}
+use Prim.Native.Nat.{ℕ, zero, suc, ◌+◌, ◌-◌, ◌≤◌, ◌<◌}
 use native.Mathlib.Omega.{arith}
 use native.Mathlib.Numerals.{add-one}
 use mathlib.Core.Path.{◌≡◌, refl, sym, ap, ◌∙◌}
@@ -15,7 +15,7 @@ use Rattle.rule.specs.Sound.{rule}
 use Rattle.forest.specs.Place.{Cell, Cells, Side, cell_row, cell_spine, cell_run}
 use Rattle.forest.specs.Walk.{cell_at, cells_in}
 use Rattle.forest.proofs.Cases.{by_bool}
-use Rattle.work_rows.specs.Rows.{row_length, rule_in, first_rules}
+use Rattle.work_rows.specs.Rows.{rule_in, first_rules}
 use Rattle.work_rows.proofs.Kept.{first-rule}
 use Rattle.count_passes.specs.Says.{whole}
 use Rattle.spread_step.specs.Task.{task_limit, task_word}
@@ -61,17 +61,6 @@ unfolding hole_tasks cells_in
 hole-other X run s zero h = sym (opened-none X s 0 refl)
 hole-other X run s (suc i) h =
     other-top X run (cell_at s (suc i)) (cells_in s i) (h (omega arith)) ∙ sym (opened_some X s (suc i) (λ q. omega arith))
-
--- the cells without the runs on top
-pub runs-start : (s : List ℕ) (k : ℕ) → (j : ℕ) → k < j → j ≤ k → is_run (cell_at s j).0 ≡ true
-runs-start s k j l m = absurd (omega arith)
-
-pub runs-more : (s : List ℕ) (i k : ℕ) → ((j : ℕ) → i < j → j ≤ k → is_run (cell_at s j).0 ≡ true) → is_run (cell_at s i).0 ≡ true
-    → (j : ℕ) → i - 1 < j → j ≤ k → is_run (cell_at s j).0 ≡ true
-runs-more s i k h q j l m =
-    by_bool (eqb j i)
-    (λ u. rw (eqb-true j i u) q)
-    (λ u. h j (let d : j ≡ i → ⊥ = λ e. false≢true (sym u ∙ eq-eqb j i e) in omega arith) m)
 
 -- fewer cells
 fewer-cells : {n k : ℕ} {s : List ℕ} (j : ℕ) → j ≤ k → RangedCells n k s → RangedCells n j s
@@ -136,9 +125,6 @@ pub record Over (n i k j : ℕ) (s : List ℕ) (x y : Begun) (t u : List ℕ) : 
   pub most : j ≤ k
   pub grown : Grown (hole_in t n s j) x y t u
 
-pub over-start : {n i k : ℕ} {s : List ℕ} {x : Begun} {t : List ℕ} → CellRuns n i k s x t → Over n i k i s x x t t
-over-start {x = x} {t = t} h = record { least = omega arith; most = h.above.below; grown = grown-none x t h.tasks }
-
 module _ {n i k j : ℕ} {s : List ℕ} {x y : Begun} {t u : List ℕ} (h : CellRuns n i k s x t) (v : Over n i k j s x y t u) where
   over-rows : first_rules u n ≡ first_rules t n
   over-rows = grown-rows n v.grown h.room (hole-most t n s i k h.above j v.least v.most)
@@ -160,9 +146,6 @@ module _ {n i k j : ℕ} {s : List ℕ} {x y : Begun} {t u : List ℕ} (h : Cell
 
   pub over-more : j < k → {z : Begun} {w : List ℕ} → Grown (over_run (kept_run u n) (cell_at s (j + 1)) (tasks_of u y)) y z u w → Over n i k (j + 1) s x z t w
   over-more more g = record { least = omega (arith, v.least); most = omega arith; grown = grown-to (over-next more) (grown-both v.grown g) }
-
-  pub over-end : k ≤ j → Grown (hole_in t n s k) x y t u
-  over-end past = let q : j ≡ k = omega (arith, v.most) in rw q at v.grown
 
 -- what cell i opens
 other-filled : (x : Rule) → ((b c : ℕ) → x ≡ Rule.Fill b c → ⊥) → filled_by x ≡ []
@@ -192,9 +175,6 @@ module _ {n i : ℕ} {s : List ℕ} {at : ℕ} {t : List ℕ} (h : Openable n i 
 
       fill-inside : w.one < n
       fill-inside = rw (top_one e) (h.cells.inside i (omega (arith, some)) (omega arith) (λ r. let z : w.kind ≡ cell_row = top-kind e ∙ r in omega arith))
-
-      pub filler-row : row_length * (w.one + 1) ≤ length t
-      filler-row = omega (arith, fill-inside, h.room.below, h.room.above)
 
       module _ {z : Rule} (q : z ≡ rule_in t w.one) where
         fill-rule : kept_rule t n w.one ≡ z

@@ -57,8 +57,7 @@ fn left_run(work: &mut [u8], n: u16, x: Begun, a: u16, b: u16) -> Begun
 {
     let mut y = x;
     let mut at = a;
-    let mut i: u16 = 0;
-    while i < n {
+    for _ in 0..n {
         if at == b {
             return y;
         }
@@ -69,7 +68,6 @@ fn left_run(work: &mut [u8], n: u16, x: Begun, a: u16, b: u16) -> Begun
             }
             _ => return y,
         }
-        i += 1;
     }
     y
 }
@@ -86,12 +84,10 @@ fn below_runs(cursor: &[u8], k: usize) -> usize
     requires { Lies cursor.now k }
     ensures { RunsAbove cursor.now result k }
 {
-    let mut i = k;
-    while 0 < i {
+    for i in (1..=k).rev() {
         if !is_run(Cell::read(cursor, i).kind) {
             return i;
         }
-        i -= 1;
     }
     0
 }
@@ -116,10 +112,8 @@ fn over_runs(work: &mut [u8], cursor: &[u8], n: u16, x: Begun, i: usize, k: usiz
         Grown (hole_in s n cursor.now k) x result s work.new }
 {
     let mut y = x;
-    let mut j = i;
-    while j < k {
-        j += 1;
-        y = over_run(work, cursor, n, y, j);
+    for j in i..k {
+        y = over_run(work, cursor, n, y, j + 1);
     }
     y
 }

@@ -8,13 +8,13 @@ use mathlib.Core.List.{List}
 use lib.ListN.{length, get_or}
 use Rattle.rule.specs.declared.Rule.{Rule}
 use Rattle.rule.specs.Names.{Names}
-use Rattle.reach.proofs.Places.{AtFirst, first-none, first_more}
+use Rattle.reach.proofs.Places.{AtFirst, first_more}
 use Rattle.work_rows.specs.Rows.{row_length, put_field, rule_in}
 use Rattle.work_rows.specs.Order.{order_end, order_in}
 use Rattle.work_rows.proofs.Rows.{length-put_field, field-other}
 use Rattle.count_capped.specs.Count.{capped, capped_sum, count_length}
 use Rattle.count_passes.specs.Tally.{Ready, Readable, Besides}
-use Rattle.count_passes.proofs.Column.{besides-none, besides-both, besides-wider, besides-put, besides-rule, other_row, count-put}
+use Rattle.count_passes.proofs.Column.{besides-both, besides-wider, besides-put, besides-rule, other_row, count-put}
 use Rattle.count_passes.proofs.Ordered.{at_place, place-below, place-readable, before-named, at_all, order-besides, ready-besides}
 use Rattle.compare_tokens.specs.Nodes.{before_of, after_of}
 use Rattle.compare_tokens.proofs.Nodes.{before-capped, after-capped, before_same, after_same}
@@ -72,14 +72,6 @@ pub record Passing (n i : ℕ) (s t : List ℕ) : Type 0 where
   pub below : i ≤ n
   pub besides : Besides at_before (count_length + count_length) n s t
   pub columns : (b a : ℕ → ℕ) → NodesRecur s n b a → AtFirst (order_in s n) i (Counted t b a)
-
-pub passing-start : (n : ℕ) (s : List ℕ) → Passing n 0 s s
-passing-start n s =
-    record {
-      below = omega arith;
-      besides = besides-none at_before (count_length + count_length) n s;
-      columns = λ b a h. first-none (order_in s n) (Counted s b a);
-    }
 
 -- the counts of the rule at the next place, from those of the rules that it names
 place-counts : (s t : List ℕ) (n i : ℕ) (b a : ℕ → ℕ) → Ready s n → i < n → rule_in t (at_place s n i) ≡ rule_in s (at_place s n i) → NodesRecur s n b a

@@ -4,7 +4,8 @@
 use Prim.Native.Nat.{ℕ, suc, ◌+◌, ◌≤◌}
 use native.Mathlib.Omega.{arith}
 use mathlib.Core.Path.{◌≡◌}
-use mathlib.Core.Option.{some, none-ne-some, some-injective}
+use Rattle.std.specs.Prelude.{Some}
+use Rattle.std.proofs.lemmas.Option.{none-some, same_Some}
 use Rattle.forest.specs.Expression.{Expression}
 use Rattle.forest.specs.Sizes.{height}
 use Rattle.forest.specs.Place.{Side}
@@ -62,15 +63,15 @@ module _ (Q : Expression → Type 0) (N : ℕ) where
   side-low Side.left x y = x
   side-low Side.right x y = y
 
-  crumbed-continues : (z : Position) (e : Expression) → Crumbed Q N z → continues z ≡ some e → Low Q N 0 e
+  crumbed-continues : (z : Position) (e : Expression) → Crumbed Q N z → continues z ≡ Some e → Low Q N 0 e
   unfolding continues
-  crumbed-continues (Position.start d) e x q = absurd (none-ne-some e q)
-  crumbed-continues (Position.node_row r a c z) e x q = absurd (none-ne-some e q)
-  crumbed-continues (Position.part_row s r a b c z) e x q = absurd (none-ne-some e q)
-  crumbed-continues (Position.pair_side s r b c z) e x q = absurd (none-ne-some e q)
-  crumbed-continues (Position.node_spine r a c z) e x q = absurd (none-ne-some e q)
-  crumbed-continues (Position.fill_spine r b c z) e x q = weaker 0 (omega arith) (rw (some-injective c e q) at x)
-  crumbed-continues (Position.join_side Side.left r b c z) e x q = absurd (none-ne-some e q)
+  crumbed-continues (Position.start d) e x q = absurd (none-some e q)
+  crumbed-continues (Position.node_row r a c z) e x q = absurd (none-some e q)
+  crumbed-continues (Position.part_row s r a b c z) e x q = absurd (none-some e q)
+  crumbed-continues (Position.pair_side s r b c z) e x q = absurd (none-some e q)
+  crumbed-continues (Position.node_spine r a c z) e x q = absurd (none-some e q)
+  crumbed-continues (Position.fill_spine r b c z) e x q = weaker 0 (omega arith) (rw (same_Some c e q) at x)
+  crumbed-continues (Position.join_side Side.left r b c z) e x q = absurd (none-some e q)
   crumbed-continues (Position.join_side Side.right r b c z) e x q = crumbed-continues z e x q
 
   module _ (H : Hereditary Q) where

@@ -4,7 +4,7 @@ use Prim.Native.Nat.{ℕ, ◌*◌, ◌≤◌, ◌<◌}
 use native.Mathlib.Omega.{arith}
 use mathlib.Core.Path.{◌≡◌, refl, sym, ◌∙◌}
 use mathlib.Core.List.{List, []}
-use mathlib.Core.Option.{Option, some}
+use Rattle.std.specs.Prelude.{Option, Some}
 use lib.ListN.{length}
 use Rattle.rule.specs.declared.Rule.{Rule}
 use Rattle.rule.specs.Sound.{rule, Sound, Closed}
@@ -64,7 +64,7 @@ module _ {R : List Rule} {rank : ℕ → ℕ} (S : Sound R rank) {r : ℕ} (clos
       }
 
   -- at the node with an expression and a position
-  pub begins-at : {e : Expression} {z : Position} (p : Path) → label_at (located_of (expression R r)) p ≡ some (e, z)
+  pub begins-at : {e : Expression} {z : Position} (p : Path) → label_at (located_of (expression R r)) p ≡ Some (e, z)
       → Begins R (subtree_at (forest R r) p) (begun_tasks F.rule run (rule_number e) (cells z))
   unfolding forest
   begins-at {e} {z} p q =

@@ -1,12 +1,12 @@
--- Tokens as numbers: what each says of a stack's tokens, and what two of them say of the first difference; a count above the budget is
+-- Tokens: what each says of a stack's tokens, and what two of them say of the first difference; a count above the budget is
 -- spent whatever follows. Assumes nothing.
-use Prim.Native.Nat.{ℕ, zero, suc, ◌+◌, ◌≤◌, ◌<◌, min}
+use Prim.Native.Nat.{ℕ, suc, ◌+◌, ◌≤◌, ◌<◌, min}
 use native.Mathlib.Omega.{arith}
 use mathlib.Core.Path.{◌≡◌, refl, sym, ap, ◌∙◌}
 use mathlib.Core.Bool.{Bool, true, false, ◌&&◌}
 use mathlib.Core.List.{List, [], ◌∷◌, ◌++◌}
 use lib.Dec.{leb}
-use borrow.Author.Tests.{ne_eqb, leb-true, leb-false, lt-leb}
+use borrow.Author.Tests.{leb-true, leb-false, lt-leb}
 use Rattle.forest.specs.declared.Compared.{Compared}
 use Rattle.forest.specs.Compare.{Found, within}
 use Rattle.forest.specs.Spelling.{in_tokens}
@@ -15,56 +15,63 @@ use Rattle.spread_step.specs.declared.Said.{Said}
 use Rattle.spread_step.specs.Step.{said_in}
 use Rattle.compare_tokens.specs.Tokens.{differs, ahead}
 use Rattle.compare_tokens.proofs.Skips.{differs-left-ends, differs-right-ends, differs-here, differs-closing, differs-opening, ahead_none}
-use Rattle.compare_run.specs.Turn.{silent, ended, closes, opens, said_token, token_nodes}
+use Rattle.compare_run.specs.declared.Token.{Token}
+use Rattle.compare_run.specs.Turn.{said_token, token_nodes}
 
 -- the tokens of a stack, from the next one and those of what its top comes to
-unfoldable later : ℕ → List ℕ → List ℕ
-later zero ts = []
-later (suc m) ts = m ∷ ts
-
-unfoldable pub heard : ℕ → List ℕ → List ℕ
-unfolding later
-heard zero ts = ts
-heard (suc p) ts = later p ts
+unfoldable pub heard : Token → List ℕ → List ℕ
+heard Token.Silent ts = ts
+heard Token.Ended ts = []
+heard Token.Closes ts = 0 ∷ ts
+heard (Token.Opens a) ts = suc a ∷ ts
 
 pub said-heard : (y : Said) (ts : List ℕ) → said_in in_tokens y ++ ts ≡ heard (said_token y) ts
 unfolding said_in in_tokens said_token heard
 said-heard Said.Nothing ts = refl
-said-heard (Said.Opening a) ts = let e : opens a ≡ suc (suc (suc a)) = omega arith in rw e
+said-heard (Said.Opening a) ts = refl
 said-heard Said.Closing ts = refl
 
-pub heard-silent : {p : ℕ} (ts : List ℕ) → p ≡ silent → heard p ts ≡ ts
+pub heard-silent : {p : Token} (ts : List ℕ) → p ≡ Token.Silent → heard p ts ≡ ts
 unfolding heard
 heard-silent ts q = rw q
 
 -- two tokens that differ
-pub heard-apart : (p q : ℕ) (ts us : List ℕ) → (p ≡ silent → ⊥) → (q ≡ silent → ⊥) → (p ≡ q → ⊥) → differs (heard p ts) (heard q us) ≡ (false, 1)
+pub heard-apart : (p q : Token) (ts us : List ℕ) → (p ≡ Token.Silent → ⊥) → (q ≡ Token.Silent → ⊥) → (p ≡ q → ⊥)
+    → differs (heard p ts) (heard q us) ≡ (false, 1)
 unfolding heard
-heard-apart zero q ts us a b n = absurd (a refl)
-heard-apart (suc p) zero ts us a b n = absurd (b refl)
-heard-apart (suc p) (suc q) ts us a b n = later-apart p q (λ e. n (ap suc e))
-  where
-    later-apart : (p q : ℕ) → (p ≡ q → ⊥) → differs (later p ts) (later q us) ≡ (false, 1)
-    later-apart zero zero n = absurd (n refl)
-    later-apart zero (suc q) n = differs-left-ends q us
-    later-apart (suc p) zero n = differs-right-ends p ts
-    later-apart (suc p) (suc q) n = differs-here p q ts us (λ e. n (ap suc e))
+heard-apart Token.Silent q ts us a b n = absurd (a refl)
+heard-apart Token.Ended Token.Silent ts us a b n = absurd (b refl)
+heard-apart Token.Ended Token.Ended ts us a b n = absurd (n refl)
+heard-apart Token.Ended Token.Closes ts us a b n = differs-left-ends 0 us
+heard-apart Token.Ended (Token.Opens y) ts us a b n = differs-left-ends (suc y) us
+heard-apart Token.Closes Token.Silent ts us a b n = absurd (b refl)
+heard-apart Token.Closes Token.Ended ts us a b n = differs-right-ends 0 ts
+heard-apart Token.Closes Token.Closes ts us a b n = absurd (n refl)
+heard-apart Token.Closes (Token.Opens y) ts us a b n = differs-here 0 (suc y) ts us (λ e. omega (arith, e))
+heard-apart (Token.Opens x) Token.Silent ts us a b n = absurd (b refl)
+heard-apart (Token.Opens x) Token.Ended ts us a b n = differs-right-ends (suc x) ts
+heard-apart (Token.Opens x) Token.Closes ts us a b n = differs-here (suc x) 0 ts us (λ e. omega (arith, e))
+heard-apart (Token.Opens x) (Token.Opens y) ts us a b n =
+    differs-here (suc x) (suc y) ts us (λ e. n (ap Token.Opens (let z : x ≡ y = omega (arith, e) in z)))
 
 -- the same token
-pub heard-same : (p : ℕ) (ts us : List ℕ) → (p ≡ silent → ⊥) → (p ≡ ended → ⊥) → differs (heard p ts) (heard p us) ≡ ahead (token_nodes p) (differs ts us)
+pub heard-same : (p : Token) (ts us : List ℕ) → (p ≡ Token.Silent → ⊥) → (p ≡ Token.Ended → ⊥)
+    → differs (heard p ts) (heard p us) ≡ ahead (token_nodes p) (differs ts us)
 unfolding heard token_nodes
-heard-same zero ts us a b = absurd (a refl)
-heard-same (suc zero) ts us a b = absurd (b refl)
-heard-same (suc (suc zero)) ts us a b = differs-closing ts us ∙ sym (ahead_none (differs ts us))
-heard-same (suc (suc (suc m))) ts us a b =
-    rw (ne_eqb (suc (suc (suc m))) closes (λ e. omega arith)) (differs-opening m ts us)
+heard-same Token.Silent ts us a b = absurd (a refl)
+heard-same Token.Ended ts us a b = absurd (b refl)
+heard-same Token.Closes ts us a b = differs-closing ts us ∙ sym (ahead_none (differs ts us))
+heard-same (Token.Opens x) ts us a b = differs-opening x ts us
 
 -- no token that a step says is the end
-pub said-some : (y : Said) → said_token y ≡ ended → ⊥
+pub silent-ended : Token.Silent ≡ Token.Ended → ⊥
+silent-ended q = let z : ◌≡◌ {A = ℕ} 0 1 = cc in omega (arith, z)
+
+pub said-some : (y : Said) → said_token y ≡ Token.Ended → ⊥
 unfolding said_token
-said-some Said.Nothing q = omega arith
-said-some (Said.Opening a) q = omega arith
-said-some Said.Closing q = omega arith
+said-some Said.Nothing q = silent-ended q
+said-some (Said.Opening a) q = let z : ◌≡◌ {A = ℕ} 0 1 = cc in omega (arith, z)
+said-some Said.Closing q = let z : ◌≡◌ {A = ℕ} 0 1 = cc in omega (arith, z)
 
 -- what follows pairs of which so many agreed
 unfoldable pub since : Bool → ℕ → Found → Found

@@ -2,7 +2,7 @@
 -- it. Assumes nothing.
 use Prim.Native.Nat.{ℕ, zero, suc, ◌+◌, ◌-◌, ◌*◌, ◌/◌, ◌≤◌, ◌<◌}
 use native.Mathlib.Omega.{arith}
-use mathlib.Core.Path.{◌≡◌, refl, ap, ap₂, ◌∙◌}
+use mathlib.Core.Path.{◌≡◌, refl, sym, ap, ap₂, ◌∙◌}
 use mathlib.Core.List.{List, [], ◌∷◌}
 use lib.Dec.{eqb}
 use borrow.Author.Tests.{eqb-true, eqb-false, eq-eqb, ne_eqb}
@@ -20,8 +20,9 @@ use Rattle.spread_stack.proofs.Turns.{Turned, turn}
 use Rattle.spread_stack.proofs.Rows.{View}
 use Rattle.spread_stack.proofs.Runs.{stacked-top}
 use Rattle.compare_tokens.specs.Stacks.{tasks_tokens}
-use Rattle.compare_run.specs.Turn.{top_in, top_step, silent, ended, next_token, top_token}
-use Rattle.compare_run.proofs.Tokens.{heard, said-heard, said-some}
+use Rattle.compare_run.specs.declared.Token.{Token}
+use Rattle.compare_run.specs.Turn.{top_in, top_step, next_token, top_token}
+use Rattle.compare_run.proofs.Tokens.{heard, said-heard, said-some, silent-ended}
 
 -- the task on top, where there is one
 pub top-over : (t : List ℕ) (from k : ℕ) → (k ≡ 0 → ⊥) → top_in t from k ≡ task_over t from (k - 1)
@@ -75,7 +76,7 @@ top-ended t from zero s q = refl
 top-ended t from (suc k) s q = absurd (stacked-some s q)
 
 -- no task says the end
-pub none-ended : (t : List ℕ) (v : ℕ) → v ≡ no_task → top_token t v ≡ ended
+pub none-ended : (t : List ℕ) (v : ℕ) → v ≡ no_task → top_token t v ≡ Token.Ended
 unfolding next_token
 none-ended t v q = rw (eq-eqb v no_task q)
 
@@ -129,11 +130,11 @@ module _ {E : ℕ → Expression} {n H : ℕ} {t : List ℕ} (rows : View E n t)
       ∙ said-heard (top_step t (top_in t from k)).said (tasks_tokens E (add_tasks (top_step t (top_in t from k)) (tasks_in t from (k - 1))))))
 
   -- a top that says nothing yet is a task
-  pub top-silent : top_token t (top_in t from k) ≡ silent → top_in t from k ≡ no_task → ⊥
-  top-silent q z = let e : top_token t (top_in t from k) ≡ ended = none-ended t (top_in t from k) z in omega arith
+  pub top-silent : top_token t (top_in t from k) ≡ Token.Silent → top_in t from k ≡ no_task → ⊥
+  top-silent q z = silent-ended (sym q ∙ none-ended t (top_in t from k) z)
 
 -- and nothing else does
-pub ended-none : (t : List ℕ) (v : ℕ) → top_token t v ≡ ended → v ≡ no_task
+pub ended-none : (t : List ℕ) (v : ℕ) → top_token t v ≡ Token.Ended → v ≡ no_task
 unfolding next_token
 ended-none t v q =
     by_bool (eqb v no_task) (λ u. eqb-true v no_task u) (λ u. absurd (said-some (top_step t v).said (rw u at q)))

@@ -25,7 +25,8 @@ use Rattle.compare_tokens.proofs.Skips.{differs-ends}
 use Rattle.compare_tokens.proofs.Stacks.{skip-task}
 use Rattle.compare_nodes.specs.Columns.{task_nodes_in}
 use Rattle.compare_nodes.proofs.Kept.{task-nodes-kept}
-use Rattle.compare_run.specs.Turn.{top_in, top_step, silent, ended, closes, top_token, token_nodes}
+use Rattle.compare_run.specs.declared.Token.{Token}
+use Rattle.compare_run.specs.Turn.{top_in, top_step, top_token, token_nodes}
 use Rattle.compare_run.specs.Run.{highest, Comparable}
 use Rattle.compare_run.proofs.Tokens.{heard, heard-silent, heard-apart, heard-same, since, since-ahead, since-differs, capped-since}
 use Rattle.compare_run.proofs.Tops.{top-list, top-ended, top-turned, top_below, rest-stacked, rest-turns, step-turns, top-tokens, top-silent, ended-none, none-ended}
@@ -50,9 +51,12 @@ same_answer E budget b c m vs ws vs' ws' q =
     ap (within budget) (sym (ap (since b c) q ∙ since-ahead b c m (differs (tasks_tokens E vs') (tasks_tokens E ws'))))
 
 -- a token counts one node at most
-token-small : (p : ℕ) → token_nodes p ≤ 1
+token-small : (p : Token) → token_nodes p ≤ 1
 unfolding token_nodes
-token-small p = by_bool (eqb p closes) (λ u. rw u (omega arith)) (λ u. rw u (omega arith))
+token-small Token.Silent = omega arith
+token-small Token.Ended = omega arith
+token-small Token.Closes = omega arith
+token-small (Token.Opens a) = omega arith
 
 -- a stack has at most one task more than may lie under a task
 pub stacked-length : {E : ℕ → Expression} {n H : ℕ} {vs : List ℕ} → Stacked E n H vs → length vs ≤ H + 1
@@ -126,7 +130,7 @@ module _ {t : List ℕ} {n first j second k : ℕ} (a : Comparable t n first j s
       })
 
   -- one top replaced
-  pub turned-first : top_token t v ≡ silent → c ≤ budget → Next b c vs' ws
+  pub turned-first : top_token t v ≡ Token.Silent → c ≤ budget → Next b c vs' ws
   turned-first q low =
       let some : v ≡ no_task → ⊥ = top-silent rows first j a.one q in
       let l : tasks_turns (meant t n) vs' < tasks_turns (meant t n) vs = step-turns rows first j a.one some in
@@ -138,7 +142,7 @@ module _ {t : List ℕ} {n first j second k : ℕ} (a : Comparable t n first j s
         counted = omega arith;
       }
 
-  pub turned-second : top_token t w ≡ silent → c ≤ budget → Next b c vs ws'
+  pub turned-second : top_token t w ≡ Token.Silent → c ≤ budget → Next b c vs ws'
   turned-second q low =
       let some : w ≡ no_task → ⊥ = top-silent rows second k a.two q in
       let l : tasks_turns (meant t n) ws' < tasks_turns (meant t n) ws = step-turns rows second k a.two some in
@@ -156,7 +160,7 @@ module _ {t : List ℕ} {n first j second k : ℕ} (a : Comparable t n first j s
   next-tokens = ap₂ differs (top-tokens rows first j a.one) (top-tokens rows second k a.two)
 
   -- a difference
-  pub turned-parted : (top_token t v ≡ silent → ⊥) → (top_token t w ≡ silent → ⊥) → (top_token t v ≡ top_token t w → ⊥) → 0 < j + k → c ≤ budget
+  pub turned-parted : (top_token t v ≡ Token.Silent → ⊥) → (top_token t w ≡ Token.Silent → ⊥) → (top_token t v ≡ top_token t w → ⊥) → 0 < j + k → c ≤ budget
       → Next false (c + 1) [] []
   unfolding tasks_spoken tasks_turns
   turned-parted x y z more low =
@@ -172,9 +176,9 @@ module _ {t : List ℕ} {n first j second k : ℕ} (a : Comparable t n first j s
       }
 
   -- the same token
-  pub turned-both : (v ≡ w → ⊥) → (top_token t v ≡ silent → ⊥) → top_token t v ≡ top_token t w → c ≤ budget → Next b (c + token_nodes (top_token t v)) vs' ws'
+  pub turned-both : (v ≡ w → ⊥) → (top_token t v ≡ Token.Silent → ⊥) → top_token t v ≡ top_token t w → c ≤ budget → Next b (c + token_nodes (top_token t v)) vs' ws'
   turned-both x y z low =
-      let end-one : top_token t v ≡ ended → ⊥ = λ e. x (ended-none t v e ∙ sym (ended-none t w (sym z ∙ e))) in
+      let end-one : top_token t v ≡ Token.Ended → ⊥ = λ e. x (ended-none t v e ∙ sym (ended-none t w (sym z ∙ e))) in
       let one : v ≡ no_task → ⊥ = λ e. end-one (none-ended t v e) in
       let two : w ≡ no_task → ⊥ = λ e. end-one (z ∙ none-ended t w e) in
       let l : tasks_turns (meant t n) vs' < tasks_turns (meant t n) vs = step-turns rows first j a.one one in
@@ -183,7 +187,7 @@ module _ {t : List ℕ} {n first j second k : ℕ} (a : Comparable t n first j s
         answer =
             same_answer (meant t n) budget b c (token_nodes (top_token t v)) vs ws vs' ws'
             (next-tokens
-            ∙ ap (λ (p : ℕ). differs (heard (top_token t v) (tasks_tokens (meant t n) vs')) (heard p (tasks_tokens (meant t n) ws'))) (sym z)
+            ∙ ap (λ (p : Token). differs (heard (top_token t v) (tasks_tokens (meant t n) vs')) (heard p (tasks_tokens (meant t n) ws'))) (sym z)
             ∙ heard-same (top_token t v) (tasks_tokens (meant t n) vs') (tasks_tokens (meant t n) ws') y end-one);
         one = (top-turned rows first j a.one one).stacked;
         two = (top-turned rows second k a.two two).stacked;

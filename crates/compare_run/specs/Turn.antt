@@ -9,6 +9,7 @@ use Rattle.spread_step.specs.Step.{leaving, step_in, Decidable}
 use Rattle.spread_stack.specs.Stack.{task_over, AllPushed}
 use Rattle.compare_nodes.specs.Columns.{task_nodes_in}
 use Rattle.compare_run.specs.declared.Progress.{Progress}
+use Rattle.compare_run.specs.declared.Token.{Token}
 
 -- the task on top of k tasks; no task where there are none
 unfoldable pub top_in : List ℕ → ℕ → ℕ → ℕ
@@ -19,33 +20,24 @@ top_in t from (suc k) = task_over t from k
 unfoldable pub top_step : List ℕ → ℕ → Step
 top_step t v = cond (eqb v no_task) (leaving Said.Nothing no_task no_task no_task) (step_in t v)
 
--- the next token of a stack, as a number: none yet, that there is no more, a node closed, or a node opened with its label
-abbrev pub silent : ℕ
-silent = 0
+-- the next token of a stack: none yet, that there is no more, a node closed, or a node opened with its label
+unfoldable pub said_token : Said → Token
+said_token Said.Nothing = Token.Silent
+said_token (Said.Opening a) = Token.Opens a
+said_token Said.Closing = Token.Closes
 
-abbrev pub ended : ℕ
-ended = 1
+unfoldable pub next_token : ℕ → Said → Token
+next_token v x = cond (eqb v no_task) Token.Ended (said_token x)
 
-abbrev pub closes : ℕ
-closes = 2
-
-abbrev pub opens : ℕ → ℕ
-opens a = 3 + a
-
-unfoldable pub said_token : Said → ℕ
-said_token Said.Nothing = silent
-said_token (Said.Opening a) = opens a
-said_token Said.Closing = closes
-
-unfoldable pub next_token : ℕ → Said → ℕ
-next_token v x = cond (eqb v no_task) ended (said_token x)
-
-abbrev pub top_token : List ℕ → ℕ → ℕ
+abbrev pub top_token : List ℕ → ℕ → Token
 top_token t v = next_token v (top_step t v).said
 
 -- the nodes that a token counts
-unfoldable pub token_nodes : ℕ → ℕ
-token_nodes p = cond (eqb p closes) 0 1
+unfoldable pub token_nodes : Token → ℕ
+token_nodes Token.Silent = 1
+token_nodes Token.Ended = 1
+token_nodes Token.Closes = 0
+token_nodes (Token.Opens a) = 1
 
 -- how far it has come after a turn: how many tasks are left, whether all agreed, and how many pairs of nodes that is
 abbrev pub progress : ℕ → ℕ → Bool → ℕ → Progress
@@ -69,14 +61,14 @@ pub data TurnMade (first second budget : ℕ) (x : Progress) (v w : ℕ) (s : Li
   skipped : v ≡ w
       → TurnMade first second budget x v w s (progress (x.one - 1) (x.two - 1) x.agree (min (x.count + task_nodes_in s v) (budget + 1))) s
   -- one of them that says no token yet, replaced by what it comes to
-  first_replaced : {j : ℕ} {t : List ℕ} → top_token s v ≡ silent → AllPushed first (x.one - 1) (top_step s v) j s t
+  first_replaced : {j : ℕ} {t : List ℕ} → top_token s v ≡ Token.Silent → AllPushed first (x.one - 1) (top_step s v) j s t
       → TurnMade first second budget x v w s (progress j x.two x.agree x.count) t
-  second_replaced : {k : ℕ} {t : List ℕ} → top_token s w ≡ silent → AllPushed second (x.two - 1) (top_step s w) k s t
+  second_replaced : {k : ℕ} {t : List ℕ} → top_token s w ≡ Token.Silent → AllPushed second (x.two - 1) (top_step s w) k s t
       → TurnMade first second budget x v w s (progress x.one k x.agree x.count) t
   -- two tokens that differ, or one against an ended list: the next pair of nodes differs, and no task is left
-  parted : (top_token s v ≡ silent → ⊥) → (top_token s w ≡ silent → ⊥) → (top_token s v ≡ top_token s w → ⊥)
+  parted : (top_token s v ≡ Token.Silent → ⊥) → (top_token s w ≡ Token.Silent → ⊥) → (top_token s v ≡ top_token s w → ⊥)
       → TurnMade first second budget x v w s (progress 0 0 false (x.count + 1)) s
   -- the same token: both replaced
-  both_replaced : {j k : ℕ} {t u : List ℕ} → (v ≡ w → ⊥) → (top_token s v ≡ silent → ⊥) → top_token s v ≡ top_token s w
+  both_replaced : {j k : ℕ} {t u : List ℕ} → (v ≡ w → ⊥) → (top_token s v ≡ Token.Silent → ⊥) → top_token s v ≡ top_token s w
       → AllPushed first (x.one - 1) (top_step s v) j s t → AllPushed second (x.two - 1) (top_step s w) k t u
       → TurnMade first second budget x v w s (progress j k x.agree (x.count + token_nodes (top_token s v))) u

@@ -4,9 +4,10 @@
 
 ghost use Rattle.std.specs.Prelude.{◌≡◌, true, false, ◌+◌, ◌-◌, ◌*◌, ◌≤◌, ◌<◌, min, length, leb};
 ghost use Rattle.forest.specs.Compare.{within};
-ghost use Rattle.count_capped.specs.Count.{capped, number_of};
+ghost use Rattle.count_capped.specs.Count.{capped};
 ghost use Rattle.compare_nodes.specs.Columns.{Countable, task_nodes_in};
-ghost use Rattle.compare_run.specs.Turn.{silent, top_in, top_step, next_token, token_nodes, progress, Readable, Turnable, TurnMade};
+ghost use Rattle.compare_run.specs.declared.Token.{Token};
+ghost use Rattle.compare_run.specs.Turn.{top_in, top_step, next_token, token_nodes, progress, Readable, Turnable, TurnMade};
 ghost use Rattle.compare_run.specs.Run.{Comparable, RunMade};
 
 use count_capped::Count;
@@ -22,14 +23,14 @@ struct Progress {
     count: u64,
 }
 
-// A stack's next token, as a number: none yet, that there is no more, a node closed, or from OPENS on a node opened, with its label.
-const SILENT: u64 = 0;
-
-const ENDED: u64 = 1;
-
-const CLOSES: u64 = 2;
-
-const OPENS: u64 = 3;
+// A stack's next token: none yet, that there is no more, a node closed, or a node opened, with its label.
+#[derive(Clone, Copy, Debug, PartialEq, Eq)]
+enum Token {
+    Silent,
+    Ended,
+    Closes,
+    Opens(u32),
+}
 
 // The task on top of k tasks.
 fn top(work: &[u8], from: usize, k: usize) -> u16
@@ -40,16 +41,6 @@ fn top(work: &[u8], from: usize, k: usize) -> u16
         return Step::NONE;
     }
     words::read16(work, from + 2 * (k - 1))
-}
-
-// How many tasks are left without the one on top.
-fn below(k: usize) -> usize
-    ensures { result ≡ k - 1 }
-{
-    if k == 0 {
-        return 0;
-    }
-    k - 1
 }
 
 // What a task on top comes to.
@@ -69,43 +60,42 @@ fn step_of(work: &[u8], task: u16) -> Step
 }
 
 // The token that a task on top says.
-fn token(task: u16, said: Said) -> u64
+#[tactic(auto, unfolding(crate::specs::Turn::next_token, crate::specs::Turn::said_token))]
+fn next_token(task: u16, said: Said) -> Token
     ensures { result ≡ next_token task said }
 {
     if task == Step::NONE {
-        return ENDED;
+        return Token::Ended;
     }
     match said {
-        Said::Nothing => SILENT,
-        Said::Opening(label) => OPENS + (label as u64),
-        Said::Closing => CLOSES,
+        Said::Nothing => Token::Silent,
+        Said::Opening(label) => Token::Opens(label),
+        Said::Closing => Token::Closes,
     }
 }
 
 // A count with the node that a token opens.
-fn counted(count: u64, token: u64, budget: u32) -> u64
+#[tactic(auto, unfolding(crate::specs::Turn::token_nodes))]
+fn counted(count: u64, token: Token, budget: u32) -> u64
     requires { count ≤ budget }
     ensures { result ≡ count + token_nodes token }
 {
-    if token == CLOSES {
-        return count;
+    match token {
+        Token::Closes => count,
+        _ => count + 1,
     }
-    count + 1
 }
 
 // A count with nodes more, or one above the budget.
 fn added(count: u64, nodes: Count, budget: u32) -> u64
     requires { count ≤ budget }
-    ensures { result ≡ min (count + number_of nodes) (budget + 1) }
+    ensures { result ≡ min (count + nodes) (budget + 1) }
 {
-    let budget = budget as u64;
-    if nodes.over != 0 {
-        return budget + 1;
+    let most = budget as u64 + 1;
+    match nodes.number() {
+        Some(n) => count.saturating_add(n).min(most),
+        None => most,
     }
-    if budget - count < nodes.low {
-        return budget + 1;
-    }
-    count + nodes.low
 }
 
 // Whether the first of two tasks opens no fewer nodes, as far as they are counted.
@@ -114,27 +104,25 @@ fn no_fewer(work: &[u8], v: u16, w: u16) -> bool
     ensures { let s = work.now in
         result ≡ leb (capped (task_nodes_in s w)) (capped (task_nodes_in s v)) }
 {
-    let one = compare_nodes::task_nodes(work, v);
-    let two = compare_nodes::task_nodes(work, w);
-    if one.over != 0 {
+    let Some(one) = compare_nodes::task_nodes(work, v).number() else {
         return true;
-    }
-    if two.over != 0 {
+    };
+    let Some(two) = compare_nodes::task_nodes(work, w).number() else {
         return false;
-    }
-    two.low <= one.low
+    };
+    two <= one
 }
 
 // Whether the first stack's top is to be replaced: it says no token yet, and if the second's says none either, it opens no fewer nodes, so
 // that rules that both share come to lie against each other.
-fn first_turns(work: &[u8], v: u16, w: u16, p: u64, q: u64) -> bool
+fn first_turns(work: &[u8], v: u16, w: u16, p: Token, q: Token) -> bool
     requires { Countable work.now v × Countable work.now w }
-    ensures { (result ≡ true → p ≡ silent) × (result ≡ false → p ≡ silent → q ≡ silent) }
+    ensures { (result ≡ true → p ≡ Token.Silent) × (result ≡ false → p ≡ Token.Silent → q ≡ Token.Silent) }
 {
-    if p != SILENT {
+    if p != Token::Silent {
         return false;
     }
-    if q != SILENT {
+    if q != Token::Silent {
         return true;
     }
     no_fewer(work, v, w)
@@ -148,8 +136,8 @@ fn skip(work: &[u8], task: u16, budget: u32, at: Progress) -> Progress
 {
     let nodes = compare_nodes::task_nodes(work, task);
     Progress {
-        one: below(at.one),
-        two: below(at.two),
+        one: at.one.saturating_sub(1),
+        two: at.two.saturating_sub(1),
         agree: at.agree,
         count: added(at.count, nodes, budget),
     }
@@ -173,15 +161,15 @@ fn unlike(
     let y = step_of(work, w);
     let x_said = x.said;
     let y_said = y.said;
-    let p = token(v, x_said);
-    let q = token(w, y_said);
+    let p = next_token(v, x_said);
+    let q = next_token(w, y_said);
     let mut next = at;
     if first_turns(work, v, w, p, q) {
-        next.one = spread_stack::push_all(work, first, below(at.one), x);
+        next.one = spread_stack::push_all(work, first, at.one.saturating_sub(1), x);
         return next;
     }
-    if q == SILENT {
-        next.two = spread_stack::push_all(work, second, below(at.two), y);
+    if q == Token::Silent {
+        next.two = spread_stack::push_all(work, second, at.two.saturating_sub(1), y);
         return next;
     }
     if p != q {
@@ -192,8 +180,8 @@ fn unlike(
             count: at.count + 1,
         };
     }
-    next.one = spread_stack::push_all(work, first, below(at.one), x);
-    next.two = spread_stack::push_all(work, second, below(at.two), y);
+    next.one = spread_stack::push_all(work, first, at.one.saturating_sub(1), x);
+    next.two = spread_stack::push_all(work, second, at.two.saturating_sub(1), y);
     next.count = counted(at.count, p, budget);
     next
 }

@@ -3,7 +3,7 @@
 use Prim.Native.Nat.{ℕ, ◌≤◌}
 use mathlib.Core.Path.{◌≡◌, refl, sym, ◌∙◌, ap, ap₂}
 use mathlib.Core.List.{List, [], ◌∷◌, ◌++◌, append_assoc, append-nil}
-use mathlib.Core.Option.{some}
+use Rattle.std.specs.Prelude.{Some}
 use Rattle.forest.specs.Expression.{Expression, rule_number}
 use Rattle.forest.specs.Algebra.{Hedge, ◌⟨◌⟩, value}
 use Rattle.forest.specs.Forest.{trees}
@@ -60,7 +60,7 @@ module _ (x : Spelling) where
   parts-stand z (Stander.part g) k = around-spoken (filling z) (in_hole z) g (hole-spoken z k)
 
   -- the subtree at a node is what its parts say
-  pub subtree-spoken : {w : Expression} → Good Sort.row w → {e : Expression} {z : Position} (p : Path) → label_at (located_of w) p ≡ some (e, z)
+  pub subtree-spoken : {w : Expression} → Good Sort.row w → {e : Expression} {z : Position} (p : Path) → label_at (located_of w) p ≡ Some (e, z)
       → spelled x (subtree_at (trees (value w)) p) ≡ parts_spoken x (subtree_parts e z)
   subtree-spoken g {e} {z} p q =
       let s = node-subtree g p q in

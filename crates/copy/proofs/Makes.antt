@@ -1,5 +1,7 @@
 -- Each step of a copy leaves what the next one asks: the rules of an accepted plan in the rows with their order, the words that tell what
 -- may be seen of them, and the copy of the rows, which is one of the plan. Assumes nothing.
+use Rattle.std.specs.Prelude.{Result}
+use Rattle.refusal.specs.declared.Refusal.{Refusal}
 use Prim.Native.Nat.{ℕ, ◌*◌, ◌≤◌}
 use native.Mathlib.Omega.{arith}
 use mathlib.Core.Bool.{Bool, true, false, cond}
@@ -11,7 +13,6 @@ use Rattle.record.specs.Format.{word_length}
 use Rattle.rule.specs.declared.Rule.{Rule}
 use Rattle.rule.specs.Sound.{Sound, Closed}
 use Rattle.reach.specs.Order.{rank}
-use Rattle.plan.specs.declared.Written.{Written}
 use Rattle.plan.specs.Check.{checked, rules_of, most_rules}
 use Rattle.plan.proofs.Sound.{Plan, checked-plan}
 use Rattle.forest.specs.Outcome.{work_words}
@@ -83,7 +84,7 @@ module _ {s : List ℕ} {rows : List LabelRow} {n start : ℕ} {work out : List 
           }
 
       -- the copy of the rows is written
-      pub made : {x : Written} {z out' : List ℕ} → CopyWritten n start u out x z out' → Copies s rows class n start work z out out' x
+      pub made : {x : Result ℕ Refusal} {z out' : List ℕ} → CopyWritten n start u out x z out' → Copies s rows class n start work z out out' x
       made {x} {z} {out'} c =
           let p : CopyPut (seen_by rows class) (rules_of s) start out x out' = rw same-rules at (c.copies (seen_by rows class) column) in
           let few : length (rules_of s) ≤ most_copied = rw plan.rules K.few in

@@ -9,7 +9,7 @@ ghost use Rattle.copy.specs.Copy.{class_judged, count_judged, lent_judged, copy_
 ghost use Rattle.copy.specs.Made.{Makeable};
 
 use label_rows::LabelRow;
-use plan::{Checked, Trailer, Written};
+use plan::{Checked, Trailer};
 use refusal::Refusal;
 
 // The largest number of rules of a plan that is copied.
@@ -19,21 +19,18 @@ const MOST_COPIED: u16 = 4096;
 const COPY_LENGTH: usize = 40;
 
 // The plan judged, and then the class.
-fn judge_class(plan: &[u8], class: u16) -> Checked
+fn judge_class(plan: &[u8], class: u16) -> Result<Checked, Refusal>
     ensures { result ≡ class_judged class (checked plan.now) }
 {
-    match plan::check(plan) {
-        Checked::Accepted { n, start } => {
-            if LabelRow::LARGEST_CLASS < class {
-                return Checked::Refused(Refusal::Row(0));
-            }
-            Checked::Accepted { n, start }
-        }
-        Checked::Refused(why) => Checked::Refused(why),
+    let checked = plan::check(plan)?;
+    if LabelRow::LARGEST_CLASS < class {
+        return Err(Refusal::Row(0));
     }
+    Ok(checked)
 }
 
 // Whether n rules have enough work and output, of so many bytes each.
+#[tactic(auto, unfolding(forest::specs::Outcome::enough_work))]
 fn enough_lent(n: u16, work: usize, out: usize) -> bool
     ensures { (s : List ℕ) → length s ≡ work → result ≡ (enough_work n s && leb (copy_room n) out) }
 {
@@ -41,21 +38,17 @@ fn enough_lent(n: u16, work: usize, out: usize) -> bool
 }
 
 // What is judged behind the list: the number of rules, and then what is lent, of so many bytes each.
-fn judge_lent(listed: Checked, work: usize, out: usize) -> Checked
+fn judge_lent(listed: Result<Checked, Refusal>, work: usize, out: usize) -> Result<Checked, Refusal>
     ensures { (s t : List ℕ) → length s ≡ work → length t ≡ out → result ≡ lent_judged s t (count_judged listed) }
 {
-    match listed {
-        Checked::Accepted { n, start } => {
-            if MOST_COPIED < n {
-                return Checked::Refused(Refusal::TooMany);
-            }
-            if enough_lent(n, work, out) {
-                return Checked::Accepted { n, start };
-            }
-            Checked::Refused(Refusal::Lent)
-        }
-        Checked::Refused(why) => Checked::Refused(why),
+    let Checked { n, start } = listed?;
+    if MOST_COPIED < n {
+        return Err(Refusal::TooMany);
     }
+    if enough_lent(n, work, out) {
+        return Ok(Checked { n, start });
+    }
+    Err(Refusal::Lent)
 }
 
 // The copy, where nothing is turned down: the rules go to the rows of work, each row is told whether the client may see its label, and the
@@ -68,7 +61,7 @@ fn make(
     out: &mut [u8],
     n: u16,
     start: u16,
-) -> Written
+) -> Result<usize, Refusal>
     requires { Makeable plan.now rows.now n start work.old out.old }
     ensures { let work' = work.new in
         let out' = out.new in
@@ -80,7 +73,13 @@ fn make(
 }
 
 // The copy of a plan for a client of a class, by a list of label rows, at the front of out: its length, or why it is turned down.
-pub fn copy(plan: &[u8], rows: &[LabelRow], class: u16, work: &mut [u8], out: &mut [u8]) -> Written
+pub fn copy(
+    plan: &[u8],
+    rows: &[LabelRow],
+    class: u16,
+    work: &mut [u8],
+    out: &mut [u8],
+) -> Result<usize, Refusal>
     ensures { let work' = work.new in
         let out' = out.new in
         let plan = plan.now in
@@ -91,9 +90,6 @@ pub fn copy(plan: &[u8], rows: &[LabelRow], class: u16, work: &mut [u8], out: &m
 {
     let judged = judge_class(plan, class);
     let listed = list_judge::judge_list(judged, rows);
-    let ready = judge_lent(listed, work.len(), out.len());
-    match ready {
-        Checked::Accepted { n, start } => make(plan, rows, class, work, out, n, start),
-        Checked::Refused(why) => Written::Refused(why),
-    }
+    let Checked { n, start } = judge_lent(listed, work.len(), out.len())?;
+    make(plan, rows, class, work, out, n, start)
 }

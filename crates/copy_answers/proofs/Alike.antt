@@ -1,13 +1,13 @@
 -- Two accepted plans with equal forests answer alike: by demand 3 the answers are those of the finger on the forest, which is fed nothing
 -- else but the letters. So two copies whose visible forests agree tell a client the same. Assumes nothing.
+use Rattle.std.specs.Prelude.{Result, Ok}
+use Rattle.refusal.specs.declared.Refusal.{Refusal}
 use Prim.Native.Nat.{ℕ}
 use mathlib.Core.Bool.{not}
 use mathlib.Core.List.{List, [], ◌∷◌, map}
 use mathlib.Core.Path.{◌≡◌, refl, sym, ap, ap₂, ◌∙◌}
 use lib.ListN.{length, take}
 use Rattle.rule.specs.declared.Rule.{Rule}
-use Rattle.plan.specs.declared.Checked.{Checked}
-use Rattle.plan.specs.declared.Written.{Written}
 use Rattle.plan.specs.Check.{checked, rules_of}
 use Rattle.forest.specs.Forest.{Forest, forest}
 use Rattle.forest.specs.Reference.{Path, answers, path_after}
@@ -51,7 +51,7 @@ module _ (n m : ℕ) (cursor other : List ℕ) where
   asked-finger g (Asked.more {c} {d} e s q r) p =
       rw (same-down c d e s q, e, asked-finger g r p, asked-finger g r (path_after g (letters_of d.letters) p))
 
-module _ (s t : List ℕ) (n m start top : ℕ) (e : checked s ≡ Checked.Accepted n start) (f : checked t ≡ Checked.Accepted m top) where
+module _ (s t : List ℕ) (n m start top : ℕ) (e : checked s ≡ Ok (record { n = n; start = start })) (f : checked t ≡ Ok (record { n = m; start = top })) where
   pub tell-alike : forest (rules_of s) start ≡ forest (rules_of t) top → TellAlike walk_of s n t m
   unfolding Demand3 told
   tell-alike same cursor other cs ds a b q =
@@ -71,9 +71,9 @@ module _ (s t : List ℕ) (n m start top : ℕ) (e : checked s ≡ Checked.Accep
 
 -- "Two plans whose visible forests agree must give the client equal answers to every string of letters from above the forest": plans s and
 -- t, lists and classes of any kind, and what copy wrote for the one and for the other
-module _ {s t : List ℕ} {rows others : List LabelRow} {c d n m a b : ℕ} {work work' out out' lent lent' place place' : List ℕ} {x y : Written}
+module _ {s t : List ℕ} {rows others : List LabelRow} {c d n m a b : ℕ} {work work' out out' lent lent' place place' : List ℕ} {x y : Result ℕ Refusal}
     (X : Copies s rows c n a work work' out out' x) (Y : Copies t others d m b lent lent' place place' y) where
-  pub equal-answers : {l k : ℕ} → x ≡ Written.Length l → y ≡ Written.Length k
+  pub equal-answers : {l k : ℕ} → x ≡ Ok l → y ≡ Ok k
       → visible (seen_by rows c) (forest (rules_of s) a) ≡ visible (seen_by others d) (forest (rules_of t) b)
       → TellAlike walk_of (take l out') (length X.rules) (take k place') (length Y.rules)
   equal-answers e f same =

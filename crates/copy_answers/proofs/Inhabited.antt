@@ -1,5 +1,6 @@
 -- What the theorem of equal answers asks is met: every accepted plan of few rules that name only lower ones has copies, so those of the
 -- sample's two plans, as plans in bytes, tell the client the same. Assumes nothing.
+use Rattle.std.specs.Prelude.{Ok}
 use Prim.Native.Nat.{ℕ, ◌*◌, ◌≤◌}
 use native.Mathlib.Omega.{arith}
 use mathlib.Core.List.{List, [], map}
@@ -15,8 +16,6 @@ use Rattle.reach.specs.Reaches.{lowest_cycle, cycle_from, reaches, within, any_n
 use Rattle.reach.specs.Order.{Lower, Orders, numbers_from, lower_below}
 use Rattle.reach.proofs.Orders.{lower-orders, lower-test}
 use Rattle.judge.specs.Judge.{cycle_judged}
-use Rattle.plan.specs.declared.Checked.{Checked}
-use Rattle.plan.specs.declared.Written.{Written}
 use Rattle.plan.specs.Check.{checked, rules_of, plan_bytes, most_rules}
 use Rattle.plan.proofs.Sound.{Plan, checked-plan}
 use Rattle.forest.specs.Outcome.{work_words, cleared}
@@ -36,7 +35,7 @@ use Rattle.copy_answers.proofs.Alike.{equal-answers}
 use Rattle.copy_answers.proofs.Sample.{few, many, list, visible-same}
 
 -- the variants of the rules in the order of their numbers are what copy may write
-module _ (s : List ℕ) (rows : List LabelRow) (c n start : ℕ) (e : checked s ≡ Checked.Accepted n start) (few-rules : n ≤ most_copied) (low : Lower (rules_of s)) where
+module _ (s : List ℕ) (rows : List LabelRow) (c n start : ℕ) (e : checked s ≡ Ok (record { n = n; start = start })) (few-rules : n ≤ most_copied) (low : Lower (rules_of s)) where
   plan : Plan most_rules s n start
   plan = checked-plan s n start e
 
@@ -49,7 +48,7 @@ module _ (s : List ℕ) (rows : List LabelRow) (c n start : ℕ) (e : checked s 
   abbrev top : ℕ
   top = copy_start (variants (seen_by rows c) (rules_of s)) (length (rules_of s)) (λ i. get_or (numbers_from 0 (length (rules_of s))) i 0) order.place start
 
-  pub may_write : (work out : List ℕ) → Copies s rows c n start work (cleared (word_length * work_words n) work) out (in_front (copy_bytes rules top) out) (Written.Length (length (copy_bytes rules top)))
+  pub may_write : (work out : List ℕ) → Copies s rows c n start work (cleared (word_length * work_words n) work) out (in_front (copy_bytes rules top) out) (Ok (length (copy_bytes rules top)))
   may_write work out =
       let copied : Copied (seen_by rows c) (rules_of s) start rules top
       = three-passes (seen_by rows c) plan.sound (orders-placing order) (variants (seen_by rows c) (rules_of s)) (varied (seen_by rows c) plan.sound) start plan.ends in
@@ -72,11 +71,11 @@ few_plan = plan_bytes Format.Narrow (map encode few) 3
 pub many_plan : List ℕ
 many_plan = plan_bytes Format.Narrow (map encode many) 5
 
-pub few-checked : checked few_plan ≡ Checked.Accepted 4 3
+pub few-checked : checked few_plan ≡ Ok (record { n = 4; start = 3 })
 unfolding few_plan few plan_bytes checked bytes number high_length most_label lowest_cycle cycle_from reaches within any_named cycle_judged rule encode
 few-checked = refl
 
-pub many-checked : checked many_plan ≡ Checked.Accepted 6 5
+pub many-checked : checked many_plan ≡ Ok (record { n = 6; start = 5 })
 unfolding many_plan many plan_bytes checked bytes number high_length most_label lowest_cycle cycle_from reaches within any_named cycle_judged rule encode
 many-checked = refl
 

@@ -1,5 +1,6 @@
 -- The theorem of equal answers is not vacuous: two plans with different forests, of which a client, who sees the labels below 200, sees the
 -- same, and their copies, which are different plans too. Each is computed from the plan's bytes on. Assumes nothing.
+use Rattle.std.specs.Prelude.{Ok, Err}
 use Prim.Native.Nat.{ℕ}
 use mathlib.Core.Bool.{Bool}
 use mathlib.Core.List.{List, [], ◌∷◌}
@@ -17,10 +18,8 @@ use Rattle.rule.specs.Sound.{kind_in}
 use Rattle.reach.specs.Reaches.{lowest_cycle, cycle_from, reaches, within, any_named}
 use Rattle.reach.specs.Order.{count}
 use Rattle.judge.specs.Judge.{cycle_judged}
-use Rattle.plan.specs.declared.Checked.{Checked}
 use Rattle.plan.specs.Check.{checked, rules_of}
 use Rattle.forest.specs.Forest.{forest, weigh, one}
-use Rattle.forest.specs.declared.Walked.{Walked}
 use Rattle.forest.specs.Place.{placed_forest}
 use Rattle.forest.specs.Letter.{letter_of}
 use Rattle.forest.specs.Reference.{answers, path_after}
@@ -31,7 +30,6 @@ use Rattle.demand.specs.Demand.{AboveStart}
 use Rattle.copy_answers.specs.Asked.{Enough, Asked, Told, told, TellAlike}
 use Rattle.copy_answers.proofs.Alike.{tell-alike}
 use Rattle.label_rows.specs.declared.LabelRow.{LabelRow}
-use Rattle.label_rows.specs.declared.Coverage.{Coverage}
 use Rattle.label_rows.specs.Coverage.{coverage, coverage_from, extended, ended, invalid}
 use Rattle.label_rows.specs.Class.{row_of, covers}
 use Rattle.copy_variants.specs.Visible.{visible, seen_by}
@@ -46,7 +44,7 @@ list =
     ∷ record { lowest = 200; highest = 16777215; class = 2; grams = 500 }
     ∷ []
 
-list-sound : coverage list ≡ Coverage.Whole
+list-sound : coverage list ≡ Ok tt
 unfolding list coverage coverage_from extended ended invalid
 list-sound = refl
 
@@ -88,11 +86,11 @@ few_bytes = copy_bytes (Rule.Empty ∷ Rule.Node 97 0 ∷ Rule.Empty ∷ Rule.Pa
 abbrev pub many_bytes : List ℕ
 many_bytes = copy_bytes (Rule.Empty ∷ Rule.Pair 0 0 ∷ Rule.Pair 0 1 ∷ Rule.Node 97 2 ∷ Rule.Pair 3 1 ∷ []) 4
 
-few-accepted : checked few_bytes ≡ Checked.Accepted 4 3
+few-accepted : checked few_bytes ≡ Ok (record { n = 4; start = 3 })
 unfolding copy_bytes checked bytes number high_length most_label lowest_cycle cycle_from reaches within any_named cycle_judged rule
 few-accepted = refl
 
-many-accepted : checked many_bytes ≡ Checked.Accepted 5 4
+many-accepted : checked many_bytes ≡ Ok (record { n = 5; start = 4 })
 unfolding copy_bytes checked bytes number high_length most_label lowest_cycle cycle_from reaches within any_named cycle_judged rule
 many-accepted = refl
 
@@ -123,7 +121,7 @@ sample-asked = Asked.more refl refl refl (Asked.more refl refl refl Asked.none)
 
 -- entry 97 is the only root; the second call is refused with 9 at 1, and has no answers
 abbrev pub client : Told
-client = record { replies = Walked.Accepted ∷ Walked.Refused (Refusal.Letter 1) ∷ []; answers = 97 ∷ nowhere ∷ [] }
+client = record { replies = Ok tt ∷ Err (Refusal.Letter 1) ∷ []; answers = 97 ∷ nowhere ∷ [] }
 
 few-told : told walk_of few_bytes above calls ≡ client
 unfolding told walk_of copy_bytes checked high_length most_label cycle_from reaches within any_named in_front forest placed_forest letter_of answers path_after enough_work cursor_words enough_lent and_letters letters_of other_at first_other cell_at cells_in used_cells closed kind_in rule_word rule_named walked_rule is_closed headed path_of stored place_in place_judged letters_judged begun_from cells_of place_at cell_bytes cells_bytes padded stored_cursor answer_word answers_bytes

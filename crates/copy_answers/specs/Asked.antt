@@ -1,7 +1,7 @@
 -- Document 02, Note 6: "Two plans whose visible forests agree must give the client equal answers to every string of letters from above the
 -- forest, although their bytes and refusals for size may differ."
-use Rattle.std.specs.Prelude.{ℕ, true, List, [], ◌∷◌, map, ◌≡◌}
-use Rattle.forest.specs.declared.Walked.{Walked}
+use Rattle.std.specs.Prelude.{ℕ, true, List, [], ◌∷◌, map, ◌≡◌, Result}
+use Rattle.refusal.specs.declared.Refusal.{Refusal}
 use Rattle.forest.specs.Walk.{enough_lent}
 use Rattle.demand.specs.Calls.{Walk, Call, Left, lefts}
 use Rattle.demand.specs.Demand.{AboveStart, walk_answers}
@@ -19,7 +19,7 @@ pub data Asked (n m : ℕ) (cursor other : List ℕ) : List Call → List Call �
 
 -- what the client gets from a list of calls: what each answers, refused or not, and the words to the letters of those accepted
 pub record Told : Type 0 where
-  pub replies : List Walked
+  pub replies : List (Result Unit Refusal)
   pub answers : List ℕ
 
 unfoldable pub told : Walk → List ℕ → List ℕ → List Call → Told

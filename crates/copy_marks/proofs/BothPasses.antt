@@ -1,6 +1,6 @@
 -- Both passes, one after the other: what is written are the rules of the client's copy, and the start's number is the copy's start. Assumes
 -- nothing.
-use Prim.Native.Nat.{ℕ, ◌*◌, ◌<◌}
+use Prim.Native.Nat.{ℕ, ◌<◌}
 use native.Mathlib.Omega.{arith}
 use mathlib.Core.Path.{◌≡◌}
 use mathlib.Core.List.{List}
@@ -8,7 +8,7 @@ use lib.ListN.{length, get_or}
 use Rattle.words.specs.Front.{in_front}
 use Rattle.work_rows.specs.Order.{order_in}
 use Rattle.copy_variants.specs.Variants.{threefold, whole_name}
-use Rattle.copy_passes.specs.Passes.{Placing, copy_rules, copy_start, reached_rules, reached_number}
+use Rattle.copy_passes.specs.Passes.{Placing, copy_rules, copy_start}
 use Rattle.copy_rows.specs.Table.{variants_at}
 use Rattle.copy_marks.specs.Marks.{number_in, variants_in, places_in, OnlyMarks, HasMarks, Marked}
 use Rattle.copy_marks.specs.Written.{wide_bytes, Written}

@@ -1,7 +1,7 @@
 -- What a mark that is written does to the marks, and what stays: the variants, their order and what may be read. Assumes nothing.
 use Prim.Native.Nat.{ℕ, zero, suc, ◌+◌, ◌-◌, ◌*◌, ◌/◌, ◌%◌, ◌≤◌, ◌<◌}
 use native.Mathlib.Omega.{arith}
-use mathlib.Core.Bool.{Bool, true, false, cond, ◌||◌, or-true, or-false, or_assoc}
+use mathlib.Core.Bool.{Bool, true, false, ◌||◌, or-true, or-false, or_assoc}
 use mathlib.Core.Logic.{inr}
 use mathlib.Core.Path.{◌≡◌, refl, sym, ap, ap₂, ◌∙◌}
 use mathlib.Core.List.{List, ◌∷◌, ◌++◌}
@@ -17,27 +17,25 @@ use Rattle.words.specs.Front.{cleared}
 use Rattle.words.proofs.Words.{word_at}
 use Rattle.words.proofs.Parts.{part_length, within-part, words-part}
 use Rattle.rule.specs.declared.Rule.{Rule}
-use Rattle.rule.specs.Names.{Names, pair_one, pair_two, node_one, fill_one, fill_two, part_one, part_two, join_one, join_two}
+use Rattle.rule.specs.Names.{Names, pair_one, pair_two, fill_one, fill_two, part_one, part_two, join_one, join_two}
 use Rattle.rule.specs.Sound.{rule}
-use Rattle.reach.specs.Order.{Ranged}
 use Rattle.reach.specs.Reaches.{any_named}
 use Rattle.reach.proofs.Steps.{named-below}
-use Rattle.work_rows.specs.Rows.{row_length, rule_in, first_rules, Within}
+use Rattle.work_rows.specs.Rows.{rule_in, first_rules, Within}
 use Rattle.work_rows.specs.Order.{order_end, order_in}
 use Rattle.work_rows.proofs.Rows.{within-rule}
 use Rattle.work_rows.proofs.Kept.{first-same}
 use Rattle.work_rows.proofs.Order.{order-kept}
-use Rattle.count_passes.specs.Tally.{Ready}
 use Rattle.count_passes.proofs.Ordered.{place-below}
 use Rattle.copy_variants.specs.declared.Variants.{Variants}
 use Rattle.copy_variants.specs.Variants.{variant, rules_from, variant_rules, threefold}
 use Rattle.copy_variants.proofs.Table.{variants_length, variants-rule}
-use Rattle.copy_passes.specs.Passes.{mark_named, renamed}
-use Rattle.copy_rows.specs.Table.{most_copied, variants_at, Readable}
+use Rattle.copy_passes.specs.Passes.{mark_named}
+use Rattle.copy_rows.specs.Table.{variants_at, Readable}
 use Rattle.copy_rows.proofs.Varying.{ready-readable}
 use Rattle.copy_rows.proofs.Kept.{variants-past}
 use Rattle.copy_marks.specs.Marks.{mark_at, marks_end, mark_in, marked, number_in, variant_in, variants_in, places_in}
-use Rattle.copy_marks.specs.Marks.{Markable, OnlyMarks, Nameable, MarkedOne, MarkedNamed, Passed, Unmarked, MarkedAll, Marked, HasMarks}
+use Rattle.copy_marks.specs.Marks.{Markable, OnlyMarks, Nameable, MarkedOne, MarkedNamed, Passed, Unmarked, MarkedAll, Marked}
 
 -- the place of a mark
 pub mark-read : {v at : ℕ} (s : List ℕ) (n k : ℕ) → v ≡ number 2 s at → at ≡ mark_at n k → v ≡ mark_in s n k
@@ -253,12 +251,3 @@ marked_from {n} {start} {s} {t} {u} {v} none one all =
       only = within_both w all.only;
       marks = λ place P. rw (kept-list n w, kept-order n w) at (all.marks start place (rw (kept-list n w, kept-order n w) P) first);
     }
-
--- a rule with a label, its names renumbered
-pub renamed-node : (f : ℕ → ℕ) {x : Rule} {a c m : ℕ} → x ≡ Rule.Node a c → m ≡ f c → Rule.Node a m ≡ renamed f x
-unfolding renamed
-renamed-node f {x} {a} {c} {m} e q = rw (e, q)
-
-pub renamed-part : (f : ℕ → ℕ) {x : Rule} {a b c l m : ℕ} → x ≡ Rule.Part a b c → l ≡ f b → m ≡ f c → Rule.Part a l m ≡ renamed f x
-unfolding renamed
-renamed-part f {x} {a} {b} {c} {l} {m} e p q = rw (e, p, q)

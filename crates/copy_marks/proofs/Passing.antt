@@ -1,16 +1,14 @@
 -- The first pass so far: from the marks as they are, the places below i go on to the last. Assumes nothing.
-use Prim.Native.Nat.{ℕ, suc, ◌+◌, ◌*◌, ◌≤◌, ◌<◌}
+use Prim.Native.Nat.{ℕ, suc, ◌*◌, ◌≤◌, ◌<◌}
 use native.Mathlib.Omega.{arith}
-use mathlib.Core.Bool.{Bool, cond}
-use mathlib.Core.Path.{◌≡◌, refl, sym, ap, ap₂, ◌∙◌}
+use mathlib.Core.Path.{◌≡◌, sym, ◌∙◌}
 use mathlib.Core.List.{List}
 use lib.ListN.{length}
 use lib.Dec.{eqb}
 use Rattle.words.proofs.Within.{within_none, within_both}
-use Rattle.rule.specs.declared.Rule.{Rule}
 use Rattle.rule.specs.Sound.{rule}
 use Rattle.copy_variants.proofs.Table.{variants_length}
-use Rattle.copy_passes.specs.Passes.{Placing, mark_named}
+use Rattle.copy_passes.specs.Passes.{Placing}
 use Rattle.copy_passes.proofs.Turns.{Marking, marking-first, marking-more, marking-last}
 use Rattle.copy_rows.specs.Table.{variants_at}
 use Rattle.copy_marks.specs.Marks.{marked, variant_in, variants_in, places_in, Markable, OnlyMarks, Passed, MarkedAll}

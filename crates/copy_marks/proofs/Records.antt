@@ -1,9 +1,9 @@
 -- The second pass so far: the marked variants at the places below i are written and have their numbers. Assumes nothing.
-use Prim.Native.Nat.{ℕ, zero, suc, ◌+◌, ◌-◌, ◌*◌, ◌≤◌, ◌<◌}
+use Prim.Native.Nat.{ℕ, suc, ◌+◌, ◌-◌, ◌*◌, ◌≤◌, ◌<◌}
 use native.Mathlib.Omega.{arith}
 use native.Mathlib.Numerals.{add-one}
-use mathlib.Core.Bool.{Bool, true, false, cond, false≢true}
-use mathlib.Core.Path.{◌≡◌, refl, sym, ap, ap₂, ◌∙◌}
+use mathlib.Core.Bool.{true, false, false≢true}
+use mathlib.Core.Path.{◌≡◌, refl, sym, ap, ◌∙◌}
 use mathlib.Core.List.{List, [], ◌∷◌, ◌++◌, map, append_assoc, append-nil}
 use lib.ListN.{length, take, drop, length-map, length-append, length-drop}
 use lib.Seq.{length-take-le}
@@ -29,7 +29,7 @@ use Rattle.copy_passes.proofs.Turns.{Numbered, written-more, written-kept, numbe
 use Rattle.copy_passes.proofs.Marking.{marks-start}
 use Rattle.copy_passes.proofs.Numbering.{written-length}
 use Rattle.copy_rows.specs.Table.{variants_at}
-use Rattle.copy_marks.specs.Marks.{mark_at, mark_in, marked, number_in, variant_in, variants_in, places_in, Markable, OnlyMarks, HasMarks}
+use Rattle.copy_marks.specs.Marks.{mark_at, marked, number_in, variant_in, variants_in, places_in, Markable, OnlyMarks, HasMarks}
 use Rattle.copy_marks.specs.Written.{wide_bytes, with_rule, Writable, VariantWritten, Written}
 use Rattle.copy_marks.proofs.Marks.{put-own, put-others, put_only, as-rule, kept_variant, kept-places, kept-markable}
 

@@ -14,7 +14,7 @@ use Rattle.rule.specs.declared.Rule.{Rule}
 use Rattle.rule.specs.Rule.{encode}
 use Rattle.copy_passes.specs.Passes.{renamed}
 use Rattle.copy_marks.specs.Marks.{mark_at, marked, number_in, variant_in}
-use Rattle.copy_marks.specs.Written.{with_rule, VariantWritten}
+use Rattle.copy_marks.specs.Written.{VariantWritten}
 
 -- a record more has room
 pub wide_fits : (n m room : ℕ) → length_of_record Format.Wide * (3 * n) ≤ room → m < 3 * n → 10 * m + length_of_record Format.Wide ≤ room

@@ -35,6 +35,7 @@ fn put_mark(work: &mut [u8], n: u16, k: u16, v: u16)
 }
 
 // Whether variant k is marked.
+#[tactic(auto, unfolding(crate::specs::Marks::marked))]
 fn is_marked(work: &[u8], n: u16, k: u16) -> bool
     requires { mark_at n k + 2 ≤ length work.now }
     ensures { result ≡ marked work.now n k }
@@ -107,9 +108,7 @@ fn mark_all(work: &mut [u8], n: u16)
     requires { Markable work.old n }
     ensures { MarkedAll n work.old work.new }
 {
-    let mut i = VARIANTS * n;
-    while 0 < i {
-        i -= 1;
+    for i in (0..VARIANTS * n).rev() {
         let k = placed_at(work, n, i);
         pass(work, n, k);
     }
@@ -151,6 +150,7 @@ pub fn number_of(work: &[u8], n: u16, k: u16) -> u16
 }
 
 // A rule with the numbers of the variants that it names.
+#[tactic(auto, unfolding(copy_passes::specs::Passes::renamed))]
 fn renumbered(work: &[u8], n: u16, rule: Rule) -> Rule
     requires { Nameable work.now n rule }
     ensures { result ≡ renamed (number_in work.now n) rule }
@@ -205,6 +205,7 @@ fn record(kind: u16, one: u16, two: u16, three: u16, high: u16) -> Record
 }
 
 // A rule's record.
+#[tactic(auto, unfolding(rule::specs::Rule::encode))]
 fn encode(rule: Rule) -> Record
     ensures { result ≡ encode rule }
 {
@@ -250,13 +251,10 @@ pub fn write(work: &mut [u8], out: &mut [u8], n: u16) -> u16
     requires { Writable work.old out.old n }
     ensures { Written n work.old out.old result work.new out.new }
 {
-    let count = VARIANTS * n;
-    let mut m: u16 = 0;
-    let mut i: u16 = 0;
-    while i < count {
+    let mut m = 0;
+    for i in 0..VARIANTS * n {
         let k = placed_at(work, n, i);
         m = write_variant(work, out, n, k, m);
-        i += 1;
     }
     m
 }

@@ -1,5 +1,6 @@
 -- The rules of a client's copy, written as a plan, are an accepted plan of the visible forest, and fit into the output: a plan of at most
 -- 4,096 rules has a copy of at most 12,288. Assumes nothing.
+use Rattle.std.specs.Prelude.{Ok}
 use Prim.Native.Nat.{ℕ, ◌+◌, ◌*◌, ◌≤◌, ◌<◌}
 use native.Mathlib.Omega.{arith}
 use mathlib.Core.Bool.{Bool}
@@ -12,7 +13,6 @@ use Rattle.record.specs.Format.{high_length, most_label}
 use Rattle.rule.specs.declared.Rule.{Rule}
 use Rattle.rule.specs.Rule.{labelled, labelled_to}
 use Rattle.rule.specs.Sound.{rule}
-use Rattle.plan.specs.declared.Checked.{Checked}
 use Rattle.plan.specs.Check.{most_rules, checked, format_of, rules_of}
 use Rattle.plan_rules.proofs.Accepted.{rules-bytes, rules-format, rules-read, rules-accepted}
 use Rattle.forest.specs.Forest.{forest}
@@ -33,7 +33,7 @@ module _ {v : ℕ → Bool} {R C : List Rule} {start top : ℕ} (X : Copied v R 
   unfolding copy_bytes
   copy-format = rules-format _ C X.sound wide top X.ends in-limit
 
-  pub copy-accepted : checked (copy_bytes C top) ≡ Checked.Accepted (length C) top
+  pub copy-accepted : checked (copy_bytes C top) ≡ Ok (record { n = (length C); start = top })
   unfolding copy_bytes
   copy-accepted = rules-accepted _ C X.sound wide top X.ends in-limit
 

@@ -24,9 +24,6 @@ use Rattle.copy_rows.proofs.Varying.{variants-same}
 pub varied-rules : {n : ℕ} {s t : List ℕ} → VariedRows n s t → first_rules t n ≡ first_rules s n
 varied-rules p = rules-besides p.besides (omega arith)
 
-pub varied-ready : {n : ℕ} {s t : List ℕ} → VariedRows n s t → Ready s n → Ready t n
-varied-ready p g = ready-besides p.besides (omega arith) g
-
 module _ (v : ℕ → Bool) {rank : ℕ → ℕ} (s : List ℕ) (n : ℕ) (S : Sound (first_rules s n) rank) where
   -- the variants of the rules obey the recurrence
   recurs : SeenColumn v s n → Recurs s n (variants v (first_rules s n))
@@ -40,26 +37,8 @@ module _ (v : ℕ → Bool) {rank : ℕ → ℕ} (s : List ℕ) (n : ℕ) (S : S
   pub rows-variants : {t : List ℕ} → SeenColumn v s n → VariedRows n s t → (r : ℕ) → r < n → variants_at t r ≡ variants v (first_rules s n) r
   rows-variants told p r below = p.table (variants v (first_rules s n)) (recurs told) r below
 
-  pub rows-varied : {t : List ℕ} → SeenColumn v s n → VariedRows n s t → Varied v (first_rules t n) (variants_at t)
-  rows-varied {t} told p r h =
-      let same : first_rules t n ≡ first_rules s n = varied-rules p in
-      let long : length (first_rules s n) ≡ n = first-length s n in
-      let long' : length (first_rules t n) ≡ n = first-length t n in
-      let R : List Rule = first_rules s n in
-      rw same
-      (rows-variants told p r (omega arith)
-      ∙ varied v S r (omega arith)
-      ∙ from-same (seen_in v (rule R r)) r (rule R r) (variants v R) (variants_at t)
-      (λ k m. let l : k < length R = named-below S r k (omega arith) m in sym (rows-variants told p k (omega arith))))
-
 -- writes past the rows
 pub variants-past : {a e : ℕ} {s t : List ℕ} (n : ℕ) → row_length * n ≤ a → Within a e s t → (k : ℕ) → k < n → variants_at t k ≡ variants_at s k
 variants-past {a} {e} {s} {t} n past w k below =
     variants-same s t k (within-rule w k (λ h. absurd (omega arith))) (within-rule_at w k at_whole (λ h. absurd (omega arith)))
     (within-rule_at w k at_shut (λ h. absurd (omega arith)))
-
--- the word that tells what may be seen, once written
-pub seen-put : (t : List ℕ) (r : ℕ) (b : Bool) → row_length * (r + 1) ≤ length t → seen_at (put_field 2 t r at_seen (cond b 1 0)) r ≡ b
-unfolding seen_at
-seen-put t r true room = ap (λ (w : ℕ). eqb w 1) (field-same 2 t r at_seen 1 (omega arith) (omega arith))
-seen-put t r false room = ap (λ (w : ℕ). eqb w 1) (field-same 2 t r at_seen 0 (omega arith) (omega arith))

@@ -2,14 +2,13 @@
 -- that a match found. Assumes nothing.
 use Prim.Native.Nat.{ℕ, zero, suc, ◌*◌, ◌<◌}
 use native.Mathlib.Omega.{arith}
-use mathlib.Core.Bool.{Bool, cond}
-use mathlib.Core.Path.{◌≡◌, refl, sym, ap, ◌∙◌}
+use mathlib.Core.Path.{◌≡◌, refl, ◌∙◌}
 use mathlib.Core.List.{List}
 use Rattle.rule.specs.declared.Rule.{Rule}
 use Rattle.rule.specs.Names.{Names}
 use Rattle.work_rows.specs.Rows.{own_end, rule_at, rule_in}
 use Rattle.copy_variants.specs.Variants.{filling, variant, variant_name, whole_name}
-use Rattle.copy_rows.specs.Table.{most_copied, at_whole, at_shut, seen_at, inner_of, variants_at, row_variants, Fits, Readable, NamesFew}
+use Rattle.copy_rows.specs.Table.{most_copied, at_whole, at_shut, inner_of, variants_at, Fits, Readable, NamesFew}
 
 pub at-rule : {t : List ℕ} {r : ℕ} {x y : Rule} → x ≡ y → Readable t r x → Readable t r y
 at-rule q h = rw q at h
@@ -23,21 +22,12 @@ named-few q h k m = (named-fits q h k m).few
 pub named_in : {x y : Rule} → x ≡ y → NamesFew x → NamesFew y
 named_in q h = rw q at h
 
--- a right-hand side whose label may be seen
-pub seen-rule : {x y z : Rule} {b : Bool} (t : List ℕ) (r : ℕ) → x ≡ cond b y Rule.Empty → b ≡ seen_at t r → y ≡ z → x ≡ cond (seen_at t r) z Rule.Empty
-seen-rule t r p q e = p ∙ rw (q, e)
-
 -- the filling of variants that are read from rows
 pub put-rows : {x whole shut z : Rule} {m k : ℕ} (s : List ℕ) (b c t : ℕ) → x ≡ filling (record { inner = Rule.Empty; whole = whole; shut = shut }) m z k
     → whole ≡ rule_at s b at_whole → shut ≡ rule_at s b at_shut → z ≡ rule_at s c (own_end * t) → m ≡ whole_name b → k ≡ variant_name c t
     → x ≡ filling (variants_at s b) (whole_name b) (rule_at s c (own_end * t)) (variant_name c t)
 unfolding filling variants_at
 put-rows s b c t e p q r u v = e ∙ rw (p, q, r, u, v)
-
--- the shut variant of a rule whose shut variant is the whole one
-pub shut-whole : {x y w : Rule} (t : List ℕ) (r : ℕ) → x ≡ y → w ≡ (row_variants t r x).whole → (row_variants t r y).whole ≡ (row_variants t r y).shut
-    → w ≡ (row_variants t r x).shut
-shut-whole t r q p e = p ∙ ap (λ (z : Rule). (row_variants t r z).whole) q ∙ e ∙ sym (ap (λ (z : Rule). (row_variants t r z).shut) q)
 
 -- a variant read from its row: the inner one is made of the rule, the others stand one behind the other
 pub variant-inner : {x : Rule} (s : List ℕ) (r t : ℕ) → t ≡ 0 → x ≡ inner_of (rule_in s r) → x ≡ variant (variants_at s r) t

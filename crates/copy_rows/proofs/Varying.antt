@@ -8,12 +8,12 @@ use mathlib.Core.List.{List}
 use lib.Dec.{eqb}
 use lib.ListN.{length, get_or}
 use Rattle.rule.specs.declared.Rule.{Rule}
-use Rattle.reach.proofs.Places.{AtFirst, first-none, first_more}
+use Rattle.reach.proofs.Places.{AtFirst, first_more}
 use Rattle.work_rows.specs.Rows.{row_length, own_end, rule_at, rule_in, Within, Stored}
 use Rattle.work_rows.specs.Order.{order_end, order_in}
 use Rattle.work_rows.proofs.Rows.{within_both, within_wider, within-rule, within-rule_at}
 use Rattle.count_passes.specs.Tally.{Ready, Besides}
-use Rattle.count_passes.proofs.Column.{besides-none, besides-both, besides-within, besides-rule}
+use Rattle.count_passes.proofs.Column.{besides-both, besides-within, besides-rule}
 use Rattle.count_passes.proofs.Ordered.{at_place, place-below, named-below, before-named, at_all, order-besides, ready-besides}
 use Rattle.copy_variants.specs.declared.Variants.{Variants}
 use Rattle.copy_variants.specs.Variants.{variants_from}
@@ -85,14 +85,6 @@ pub record Passing (n i : ℕ) (s t : List ℕ) : Type 0 where
   pub below : i ≤ n
   pub besides : Besides at_whole (own_end + own_end) n s t
   pub table : (W : ℕ → Variants) → Recurs s n W → AtFirst (order_in s n) i (λ k. variants_at t k ≡ W k)
-
-pub passing-start : (n : ℕ) (s : List ℕ) → Passing n 0 s s
-passing-start n s =
-    record {
-      below = omega arith;
-      besides = besides-none at_whole (own_end + own_end) n s;
-      table = λ W h. first-none (order_in s n) (λ k. variants_at s k ≡ W k);
-    }
 
 module _ {n i : ℕ} {s t : List ℕ} (g : Ready s n) (p : Passing n i s t) where
   -- the order is still there, and a row may be given its variants whatever its place

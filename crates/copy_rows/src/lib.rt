@@ -42,37 +42,24 @@ pub fn name(r: u16, t: u16) -> u16
     VARIANTS * r + t
 }
 
-// The kind of a rule.
-fn kind(rule: Rule) -> u16
-    ensures { result ≡ kind_of rule }
-{
-    match rule {
-        Rule::Empty => Rule::EMPTY,
-        Rule::Pair { .. } => Rule::PAIR,
-        Rule::Node { .. } => Rule::NODE,
-        Rule::Fill { .. } => Rule::FILL,
-        Rule::Part { .. } => Rule::PART,
-        Rule::Join { .. } => Rule::JOIN,
-    }
-}
-
 // Whether a rule is holed.
+#[tactic(auto, unfolding(rule::specs::Rule::encode, rule::specs::Rule::holed))]
 fn is_holed(rule: Rule) -> bool
     ensures { result ≡ holed (kind_of rule) }
 {
-    let kind = kind(rule);
-    (kind == Rule::PART) | (kind == Rule::JOIN)
+    matches!(rule, Rule::Part { .. } | Rule::Join { .. })
 }
 
 // Whether a rule is a tree.
+#[tactic(auto, unfolding(rule::specs::Rule::encode, rule::specs::Rule::tree))]
 fn is_tree(rule: Rule) -> bool
     ensures { result ≡ tree (kind_of rule) }
 {
-    let kind = kind(rule);
-    (kind == Rule::NODE) | (kind == Rule::FILL)
+    matches!(rule, Rule::Node { .. } | Rule::Fill { .. })
 }
 
 // The whole variant of a rule, named b, around z, named c. Where its hole is gone nothing is filled; where z is empty the hole is shut.
+#[tactic(auto, unfolding(copy_variants::specs::Variants::filling))]
 fn put(whole: Rule, shut: Rule, b: u16, z: Rule, c: u16) -> Rule
     ensures { result ≡ filling (record { inner = Rule.Empty; whole = whole; shut = shut }) b z c }
 {
@@ -101,6 +88,7 @@ fn around(work: &[u8], b: u16, c: u16, t: u16) -> Rule
 }
 
 // Whether the own label of row r's rule, if it has one, may be seen.
+#[tactic(auto, unfolding(crate::specs::Table::seen_at))]
 fn seen_at(work: &[u8], r: u16) -> bool
     requires { Fits work.now r }
     ensures { result ≡ seen_at work.now r }
@@ -145,6 +133,7 @@ fn node(label: u32, b: u16, t: u16) -> Rule
 }
 
 // The whole variant of row r's rule, from the rows of the rules that it names.
+#[tactic(auto, unfolding(copy_variants::specs::Variants::variants_from, crate::specs::Table::variants_at))]
 fn whole_of(work: &[u8], r: u16, rule: Rule) -> Rule
     requires { Readable work.now r rule }
     ensures { result ≡ (row_variants work.now r rule).whole }
@@ -153,22 +142,21 @@ fn whole_of(work: &[u8], r: u16, rule: Rule) -> Rule
         Rule::Empty => Rule::Empty,
         Rule::Pair { first, second } => pair(first, second),
         Rule::Node { label, under } => if_seen(seen_at(work, r), node(label, under, WHOLE)),
-        Rule::Fill { outer, inner } => around(work, outer, inner, WHOLE),
         Rule::Part { label, left, right } => if_seen(seen_at(work, r), part(label, left, right)),
-        Rule::Join { outer, inner } => around(work, outer, inner, WHOLE),
+        Rule::Fill { outer, inner } | Rule::Join { outer, inner } => around(
+            work, outer, inner, WHOLE,
+        ),
     }
 }
 
 // The shut variant: that of a closed rule is the whole one.
+#[tactic(auto, unfolding(copy_variants::specs::Variants::variants_from, crate::specs::Table::variants_at))]
 fn shut_of(work: &[u8], r: u16, rule: Rule, whole: Rule) -> Rule
     requires { Readable work.now r rule × (whole ≡ (row_variants work.now r rule).whole) }
     ensures { result ≡ (row_variants work.now r rule).shut }
 {
     match rule {
-        Rule::Empty => whole,
-        Rule::Pair { .. } => whole,
-        Rule::Node { .. } => whole,
-        Rule::Fill { .. } => whole,
+        Rule::Empty | Rule::Pair { .. } | Rule::Node { .. } | Rule::Fill { .. } => whole,
         Rule::Part { label, .. } => if_seen(seen_at(work, r), node(label, r, INNER)),
         Rule::Join { outer, inner } => around(work, outer, inner, SHUT),
     }
@@ -191,26 +179,21 @@ pub fn vary_rows(work: &mut [u8], n: u16)
     requires { Ready work.old n × (n ≤ most_copied) }
     ensures { VariedRows n work.old work.new }
 {
-    let mut i: u16 = 0;
-    while i < n {
+    for i in 0..n {
         let r = work_rows::order_at(work, n, i);
         vary_row(work, r);
-        i += 1;
     }
 }
 
 // The inner variant of a rule.
+#[tactic(auto, unfolding(crate::specs::Table::inner_of))]
 fn inner_of(rule: Rule) -> Rule
     requires { NamesFew rule }
     ensures { result ≡ inner_of rule }
 {
     match rule {
-        Rule::Empty => Rule::Empty,
-        Rule::Pair { .. } => Rule::Empty,
-        Rule::Node { .. } => Rule::Empty,
-        Rule::Fill { .. } => Rule::Empty,
         Rule::Part { left, right, .. } => pair(left, right),
-        Rule::Join { .. } => Rule::Empty,
+        _ => Rule::Empty,
     }
 }
 

@@ -1,5 +1,6 @@
 -- The rows with their variants are a table of the variants of sound rules, so both passes may run over them and what they write are the
 -- rules of a copy; with the trailer behind them these are the copy's bytes. Assumes nothing.
+use Rattle.std.specs.Prelude.{Ok}
 use Prim.Native.Nat.{ℕ, ◌+◌, ◌*◌, ◌≤◌, ◌<◌}
 use native.Mathlib.Omega.{arith}
 use mathlib.Core.Bool.{Bool}
@@ -15,7 +16,6 @@ use Rattle.record.proofs.RecordBytes.{length-records_bytes}
 use Rattle.rule.specs.declared.Rule.{Rule}
 use Rattle.rule.specs.Rule.{encode}
 use Rattle.rule.specs.Sound.{rule, Sound, Closed}
-use Rattle.plan.specs.declared.Written.{Written}
 use Rattle.plan.specs.Check.{trailer_length, trailer_bytes, plan_bytes}
 use Rattle.plan.proofs.TrailerBytes.{length-trailer_bytes}
 use Rattle.forest.specs.Outcome.{work_words, cleared}
@@ -128,7 +128,7 @@ module _ {n start : ℕ} {s out : List ℕ} (K : Copyable n start s out) {t : Li
     -- what all that leaves: the bytes of the copy, and the work cleared
     pub finished : {top : ℕ} {z out'' : List ℕ} → top ≡ number_in w n whole
         → out'' ≡ take (length_of_record Format.Wide * m) out' ++ (trailer_bytes Format.Wide m top ++ drop (length_of_record Format.Wide * m + trailer_length) out')
-        → z ≡ cleared (word_length * work_words n) w → CopyWritten n start s out (Written.Length (10 * m + trailer_length)) z out''
+        → z ≡ cleared (word_length * work_words n) w → CopyWritten n start s out (Ok (10 * m + trailer_length)) z out''
     finished {top} {z} {out''} e p q =
         let (front, counted, numbered) = passed in
         let frame : Within 0 (work_length * n) s w
@@ -140,7 +140,7 @@ module _ {n start : ℕ} {s out : List ℕ} (K : Copyable n start s out) {t : Li
                 rules = copy;
                 top = copy_top;
                 copied = c;
-                answer = ap Written.Length (omega (arith, copy-length c (rw long K.few)));
+                answer = ap Ok (omega (arith, copy-length c (rw long K.few)));
                 writes = rw (p, front, e, same, numbered, counted) (behind-rules copy copy_top out);
               };
           clears = q ∙ cleared-same (within_wider 0 (word_length * work_words n) (omega arith) (work-least n) frame);

@@ -4,11 +4,12 @@
 
 ghost use Rattle.copy_write.specs.Write.{Copyable, CopyWritten};
 
-use plan::{Trailer, Written};
+use plan::Trailer;
 use record::Format;
+use refusal::Refusal;
 
 // The copy of the rules in the rows, at the front of out, and its length; the work is then cleared.
-pub fn write_copy(work: &mut [u8], out: &mut [u8], n: u16, start: u16) -> Written
+pub fn write_copy(work: &mut [u8], out: &mut [u8], n: u16, start: u16) -> Result<usize, Refusal>
     requires { Copyable n start work.old out.old }
     ensures { CopyWritten n start work.old out.old result work.new out.new }
 {
@@ -19,5 +20,5 @@ pub fn write_copy(work: &mut [u8], out: &mut [u8], n: u16, start: u16) -> Writte
     let top = copy_marks::number_of(work, n, whole);
     Trailer::write(out, Format::Wide, m, top);
     work_rows::clear_work(work, n);
-    Written::Length(Format::WIDE_LENGTH * (m as usize) + Trailer::LENGTH)
+    Ok(Format::WIDE_LENGTH * (m as usize) + Trailer::LENGTH)
 }

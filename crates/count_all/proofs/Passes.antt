@@ -2,7 +2,7 @@
 -- from those of the rules that it names, which stand before it. Assumes nothing.
 use Rattle.std.proofs.Common.{◌≡◌, ℕ, ◌+◌, ◌<◌, ◌≤◌, List, length, get_or, ap, ◌∙◌, arith}
 use Rattle.rule.specs.declared.Rule.{Rule}
-use Rattle.reach.proofs.Places.{AtFirst, first-none, first_more}
+use Rattle.reach.proofs.Places.{AtFirst, first_more}
 use Rattle.work_rows.specs.Rows.{rule_in}
 use Rattle.work_rows.specs.Order.{order_end, order_in}
 use Rattle.count_passes.proofs.Ordered.{at_place, place-below, named-below, before-named, at_all}
@@ -10,7 +10,7 @@ use Rattle.count_all.specs.declared.Counts.{Counts}
 use Rattle.count_all.specs.Counts.{counts_of}
 use Rattle.count_all.specs.Kept.{Keeps}
 use Rattle.count_all.specs.Rows.{counts_at, RulesKept, OfRule, Readable, Passable, Countable, RowCounted, AllCounted}
-use Rattle.count_all.proofs.Places.{kept-none, kept-both, kept_rule_lem, kept-passable}
+use Rattle.count_all.proofs.Places.{kept-both, kept_rule_lem, kept-passable}
 
 -- what a row's rule may read
 pub countable-readable : {t : List ℕ} {n r : ℕ} {x : Rule} → Countable t n r → x ≡ rule_in t r → Readable t n x
@@ -33,9 +33,6 @@ pub record Passing (n i : ℕ) (s t : List ℕ) : Type 0 where
   pub below : i ≤ n
   pub kept : RulesKept n s t
   pub passed : (f : ℕ → Counts) → Recurs s n f → AtFirst (order_in s n) i (Has t n f)
-
-pub passing-start : (n : ℕ) (s : List ℕ) → Passing n 0 s s
-passing-start n s = record { below = omega arith; kept = kept-none n s; passed = λ f recurs. first-none (order_in s n) (Has s n f) }
 
 module _ {n i : ℕ} {s t : List ℕ} (a : Passable s n) (p : Passing n i s t) where
   pub passing-room : order_end n ≤ length t

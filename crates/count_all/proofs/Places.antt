@@ -1,6 +1,6 @@
 -- Where the counts lie: a row's tops and levels behind its rule, its nodes and entries behind the order, so what is written for one rule leaves
 -- the rules, the order and the counts of the others. Assumes nothing.
-use Rattle.std.proofs.Common.{◌≡◌, ℕ, ◌+◌, ◌*◌, ◌/◌, ◌%◌, ◌<◌, ◌≤◌, List, length, sym, refl, ap, ◌∙◌, inl, inr, arith}
+use Rattle.std.proofs.Common.{◌≡◌, ℕ, ◌+◌, ◌*◌, ◌<◌, ◌≤◌, List, length, sym, refl, ap, ◌∙◌, inl, inr, arith}
 use Rattle.words.specs.Number.{number}
 use Rattle.words.specs.Put.{put}
 use Rattle.words.proofs.Laws.{length-put, put_same, put_other}
@@ -11,17 +11,8 @@ use Rattle.work_rows.proofs.Rows.{within_none, within_both, within_wider, within
 use Rattle.work_rows.proofs.Kept.{first-rule, first-same}
 use Rattle.work_rows.proofs.Order.{order-kept}
 use Rattle.count_capped.specs.Count.{count_limit}
-use Rattle.count_capped.proofs.Digits.{put-add}
 use Rattle.count_all.specs.declared.Counts.{Counts}
 use Rattle.count_all.specs.Rows.{long_length, tops_at, behind_at, counts_at, TwoPut, RulesKept, CountsPut, Passable}
-
--- eight bytes are written as two double words
-pub written-long : (s : List ℕ) {t u : List ℕ} (at x : ℕ) → x < count_limit → t ≡ put 4 s at (x % 4294967296) → u ≡ put 4 t (at + 4) (x / 4294967296)
-    → u ≡ put long_length s at x
-written-long s at x small p q = q ∙ rw p (sym (ap (put long_length s at) parts ∙ put-add 4 4 s at (x % 4294967296) (x / 4294967296) (omega arith)))
-  where
-    parts : x ≡ x % 4294967296 + 4294967296 * (x / 4294967296)
-    parts = omega arith
 
 -- two numbers, one after another
 pub two-put : (s : List ℕ) {t u : List ℕ} (at a b : ℕ) → at + long_length + long_length ≤ length s → a < count_limit → b < count_limit → t ≡ put long_length s at a

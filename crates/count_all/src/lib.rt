@@ -1,9 +1,7 @@
 // The counts that measure asks for: nodes, entries, trees and levels of every rule, in one pass over the rows of work.
 #![tactic(auto)]
 
-ghost use Rattle.std.specs.Prelude.{◌≡◌, ◌+◌, ◌<◌, ◌≤◌, min, max, length};
-ghost use Rattle.words.specs.Number.{number};
-ghost use Rattle.words.specs.Put.{put};
+ghost use Rattle.std.specs.Prelude.{◌≡◌, ◌+◌, ◌<◌, ◌≤◌, length};
 ghost use Rattle.forest.specs.Outcome.{entry};
 ghost use Rattle.count_all.specs.Counts.{beside, filling, over, one_tree};
 ghost use Rattle.count_all.specs.Kept.{Joins, Makes, Turns, IsNone, TooMany, is_above};
@@ -32,20 +30,6 @@ fn weight(label: u32) -> u64
         return 0;
     }
     Counts::ENTRY
-}
-
-// The larger of two numbers.
-fn larger(a: u64, b: u64) -> u64
-    ensures { result ≡ max a b }
-{
-    if a <= b { b } else { a }
-}
-
-// A number, or 1 where it is more.
-fn at_most_one(a: u64) -> u64
-    ensures { result ≡ min a 1 }
-{
-    if a == 0 { 0 } else { 1 }
 }
 
 impl Counts {
@@ -98,8 +82,8 @@ impl Counts {
         }
         Counts {
             nodes: self.nodes + other.nodes,
-            entries: std::num::wrapping_add_u64(self.entries, other.entries),
-            tops: std::num::wrapping_add_u64(self.tops, other.tops),
+            entries: self.entries.wrapping_add(other.entries),
+            tops: self.tops.wrapping_add(other.tops),
             levels,
         }
     }
@@ -108,15 +92,15 @@ impl Counts {
     fn beside(self, other: Counts) -> Counts
         ensures { Makes beside self other result }
     {
-        self.both(other, larger(self.levels, other.levels))
+        self.both(other, self.levels.max(other.levels))
     }
 
     // A forest in the hole of another: it begins as deep as the hole lies.
     fn filled(self, inner: Counts) -> Counts
         ensures { Makes filling self inner result }
     {
-        let below = std::num::wrapping_add_u64(self.tops, inner.levels);
-        self.both(inner, larger(self.levels, below))
+        let below = self.tops.wrapping_add(inner.levels);
+        self.both(inner, self.levels.max(below))
     }
 
     // A node over a forest, of which it makes one tree; or over a hole, which it is then above.
@@ -129,9 +113,9 @@ impl Counts {
         let entry = weight(label);
         Counts {
             nodes: self.nodes + 1,
-            entries: std::num::wrapping_add_u64(self.entries, entry),
+            entries: self.entries.wrapping_add(entry),
             tops: 1,
-            levels: std::num::wrapping_add_u64(self.levels, 1),
+            levels: self.levels.wrapping_add(1),
         }
     }
 
@@ -142,7 +126,7 @@ impl Counts {
         Counts {
             nodes: self.nodes,
             entries: self.entries,
-            tops: at_most_one(self.tops),
+            tops: self.tops.min(1),
             levels: self.levels,
         }
     }
@@ -151,32 +135,13 @@ impl Counts {
 // Bytes of a 64-bit number.
 const LONG: usize = 8;
 
-// The 64-bit number that begins at an offset.
-fn read64(s: &[u8], at: usize) -> u64
-    requires { at + long_length ≤ length s.now }
-    ensures { result ≡ number long_length s.now at }
-{
-    let low = words::read32(s, at) as u64;
-    let high = words::read32(s, at + 4) as u64;
-    low + 4294967296 * high
-}
-
-// A 64-bit number into the eight bytes from an offset on.
-fn write64(s: &mut [u8], at: usize, v: u64)
-    requires { at + long_length ≤ length s.old }
-    ensures { s.new ≡ put long_length s.old at v }
-{
-    words::write32(s, at, (v % 4294967296) as u32);
-    words::write32(s, at + 4, (v / 4294967296) as u32);
-}
-
 // Two numbers, one after another.
 fn put_two(s: &mut [u8], at: usize, a: u64, b: u64)
     requires { at + long_length + long_length ≤ length s.old }
     ensures { TwoPut at a b s.old s.new }
 {
-    write64(s, at, a);
-    write64(s, at + LONG, b);
+    words::write64(s, at, a);
+    words::write64(s, at + LONG, b);
 }
 
 // Where a row keeps its tops and levels: behind the rule.
@@ -200,10 +165,10 @@ fn counts_at(work: &[u8], n: u16, r: u16) -> Counts
     let behind = behind(n, r);
     let tops = Row::LENGTH * (r as usize) + TOPS;
     Counts {
-        nodes: read64(work, behind),
-        entries: read64(work, behind + LONG),
-        tops: read64(work, tops),
-        levels: read64(work, tops + LONG),
+        nodes: words::read64(work, behind),
+        entries: words::read64(work, behind + LONG),
+        tops: words::read64(work, tops),
+        levels: words::read64(work, tops + LONG),
     }
 }
 
@@ -254,11 +219,9 @@ fn count_rows(work: &mut [u8], n: u16)
     requires { Passable work.old n }
     ensures { AllCounted n work.old work.new }
 {
-    let mut i: u16 = 0;
-    while i < n {
+    for i in 0..n {
         let r = work_rows::order_at(work, n, i);
         count_row(work, n, r);
-        i += 1;
     }
 }
 

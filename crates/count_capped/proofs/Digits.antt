@@ -1,9 +1,9 @@
 -- A number of w + v bytes is one of w bytes and one of v bytes after it, to read and to write: by induction on w, one byte at a
--- time. A count's ten bytes are two of four and one of two. Assumes nothing.
+-- time. A count's ten bytes are eight and two. Assumes nothing.
 use Prim.Native.Nat.{ℕ, zero, suc, ◌+◌, ◌*◌, ◌/◌, ◌%◌, ◌^◌, ◌<◌}
 use native.Mathlib.Nat.{add-zero, suc-add, pow-succ', mul_assoc, zero-add}
 use native.Mathlib.Omega.{arith}
-use mathlib.Core.Path.{◌≡◌, sym, ap, ◌∙◌}
+use mathlib.Core.Path.{◌≡◌, sym, ◌∙◌}
 use mathlib.Core.List.{List}
 use lib.ListN.{set}
 use Rattle.words.specs.Number.{base, number, bytes}
@@ -38,20 +38,9 @@ put-add (suc w) v s at a b small =
     digits m q = omega arith
 
 -- a count's ten bytes
-pub number-count : (s : List ℕ) (at : ℕ)
-    → number count_length s at ≡ number 4 s at + 4294967296 * number 4 s (at + 4) + count_limit * number 2 s (at + 8)
-number-count s at = number-add 8 2 s at ∙ ap (λ (n : ℕ). n + count_limit * number 2 s (at + 8)) (number-add 4 4 s at)
+pub number-count : (s : List ℕ) (at : ℕ) → number count_length s at ≡ number 8 s at + count_limit * number 2 s (at + 8)
+number-count s at = number-add 8 2 s at
 
-pub put_count : (s : List ℕ) (at x c : ℕ) → x < count_limit
-    → put count_length s at (x + count_limit * c) ≡ put 2 (put 4 (put 4 s at (x % 4294967296)) (at + 4) (x / 4294967296)) (at + 8) c
-put_count s at x c small =
-    put-add 8 2 s at x c small
-    ∙ ap (λ (t : List ℕ). put 2 t (at + 8) c)
-    (ap (put 8 s at) parts ∙ put-add 4 4 s at (x % 4294967296) (x / 4294967296) (omega arith))
-  where
-    parts : x ≡ x % 4294967296 + 4294967296 * (x / 4294967296)
-    parts = omega arith
-
-pub written_count : (s : List ℕ) {t u v : List ℕ} (at x c : ℕ) → t ≡ put 4 s at (x % 4294967296) → u ≡ put 4 t (at + 4) (x / 4294967296)
-    → v ≡ put 2 u (at + 8) c → x < count_limit → v ≡ put count_length s at (x + count_limit * c)
-written_count s at x c p q r small = r ∙ rw (q, p) (sym (put_count s at x c small))
+pub written-count : (s : List ℕ) {t u : List ℕ} (at x c : ℕ) → t ≡ put 8 s at x → u ≡ put 2 t (at + 8) c → x < count_limit
+    → u ≡ put count_length s at (x + count_limit * c)
+written-count s at x c p q small = q ∙ rw p (sym (put-add 8 2 s at x c small))

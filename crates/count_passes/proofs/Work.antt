@@ -1,4 +1,6 @@
 -- An accepted plan's rules in the rows: what the passes ask of them. Assumes nothing.
+use Rattle.std.specs.Prelude.{Result, Ok}
+use Rattle.refusal.specs.declared.Refusal.{Refusal}
 use Prim.Native.Nat.{ℕ, ◌*◌, ◌≤◌, ◌<◌}
 use native.Mathlib.Omega.{arith}
 use mathlib.Core.Path.{◌≡◌}
@@ -30,7 +32,7 @@ pub record Held (s : List ℕ) (n start : ℕ) (t : List ℕ) : Type 0 where
   pub room : work_length * n ≤ length t
   pub words : word_length * work_words n ≤ length t
 
-pub held : {s u t : List ℕ} {j x : Checked} {n start : ℕ} → Prepared s u t j x → x ≡ Checked.Accepted n start → Held s n start t
+pub held : {s u t : List ℕ} {j x : Result Checked Refusal} {n start : ℕ} → Prepared s u t j x → x ≡ Ok (record { n = n; start = start }) → Held s n start t
 unfolding Holds
 held {s} {u} {t} {n = n} {start = start} b e =
     let loads : Loads s u t n start = b.loaded n start e in

@@ -9,15 +9,14 @@ use lib.ListN.{length, get_or}
 use Rattle.record.specs.Format.{word_length}
 use Rattle.rule.specs.declared.Rule.{Rule}
 use Rattle.rule.specs.Names.{Names, pair_one, pair_two, node_one, fill_one, fill_two, part_one, part_two, join_one, join_two}
-use Rattle.reach.proofs.Places.{AtFirst, first-none, first_more}
+use Rattle.reach.proofs.Places.{AtFirst, first_more}
 use Rattle.forest.specs.Expression.{Expression, rhs}
 use Rattle.work_rows.specs.Rows.{put_field, rule_in}
 use Rattle.work_rows.specs.Order.{order_end, order_in}
-use Rattle.count_capped.specs.declared.Count.{Count}
-use Rattle.count_capped.specs.Count.{capped, capped_sum, number_of, count_length}
+use Rattle.count_capped.specs.Count.{capped, capped_sum, count_length}
 use Rattle.count_capped.proofs.Capped.{capped-sum, capped-more}
 use Rattle.count_passes.specs.Tally.{Ready, Readable, Unfolds, Besides}
-use Rattle.count_passes.proofs.Column.{besides-none, besides-both, besides-put, besides-rule, other_row, count-put}
+use Rattle.count_passes.proofs.Column.{besides-both, besides-put, besides-rule, other_row, count-put}
 use Rattle.count_passes.proofs.Ordered.{at_place, place-below, place-readable, before-named, at_all, order-besides, ready-besides}
 use Rattle.count_weights.specs.Weights.{own_weight, named_sum, weight_in, at_sum, at_weight, sum_at, weight_at, sum_from}
 use Rattle.count_weights.specs.Weights.{WeightColumn, SumRecur, Summed, Totalled}
@@ -47,14 +46,6 @@ pub record Passing (n i : ℕ) (s t : List ℕ) : Type 0 where
   pub below : i ≤ n
   pub besides : Besides at_sum count_length n s t
   pub column : (f : ℕ → ℕ) → SumRecur s n f → AtFirst (order_in s n) i (Has t f)
-
-pub passing-start : (n : ℕ) (s : List ℕ) → Passing n 0 s s
-passing-start n s =
-    record {
-      below = omega arith;
-      besides = besides-none at_sum count_length n s;
-      column = λ f recurs. first-none (order_in s n) (Has s f);
-    }
 
 module _ {n i : ℕ} {s t : List ℕ} (g : Ready s n) (p : Passing n i s t) where
   -- the order is still there, and a row may be given its sum whatever its place
@@ -115,7 +106,7 @@ sums-recur : (w : ℕ → ℕ) (s : List ℕ) (n : ℕ) (E : ℕ → Expression)
 sums-recur w s n E own u k inside = rw (u.unfolds k inside, own k inside) (weight-rhs w k (rule_in s k) E)
 
 -- so a row's sum is its rule's
-pub totalled : {n r : ℕ} {c : Count} {s t : List ℕ} → r < n → Summed n s t → number_of c ≡ sum_at t r → Totalled n r c s t
+pub totalled : {n r : ℕ} {c : ℕ} {s t : List ℕ} → r < n → Summed n s t → c ≡ sum_at t r → Totalled n r c s t
 totalled {n} {r} {c} {s} below p e =
     record {
       besides = p.besides;

@@ -5,8 +5,7 @@ use Rattle.record.specs.Format.{word_length}
 use Rattle.rule.specs.declared.Rule.{Rule}
 use Rattle.forest.specs.Expression.{Expression}
 use Rattle.work_rows.specs.Rows.{field, rule_in}
-use Rattle.count_capped.specs.declared.Count.{Count}
-use Rattle.count_capped.specs.Count.{capped, capped_sum, number_of, count_length}
+use Rattle.count_capped.specs.Count.{capped, capped_sum, count_length}
 use Rattle.count_passes.specs.Tally.{Unfolds, Column, Besides}
 
 -- the weight of a rule's own label; 0 where it has none
@@ -67,6 +66,6 @@ pub record Summed (n : ℕ) (s t : List ℕ) : Type 0 where
   pub column : (f : ℕ → ℕ) → SumRecur s n f → Column t at_sum n f
 
 -- c is rule r's sum, of any weight that the rows' words are and whatever expressions unfold the rules in the rows
-pub record Totalled (n r : ℕ) (c : Count) (s t : List ℕ) : Type 0 where
+pub record Totalled (n r : ℕ) (c : ℕ) (s t : List ℕ) : Type 0 where
   pub besides : Besides at_sum count_length n s t
-  pub total : (w : ℕ → ℕ) → WeightColumn w s n → (E : ℕ → Expression) → Unfolds s n E → number_of c ≡ capped (weight_in w (E r))
+  pub total : (w : ℕ → ℕ) → WeightColumn w s n → (E : ℕ → Expression) → Unfolds s n E → c ≡ capped (weight_in w (E r))

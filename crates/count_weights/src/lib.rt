@@ -4,7 +4,7 @@
 
 ghost use Rattle.std.specs.Prelude.{◌≡◌, ◌<◌};
 ghost use Rattle.work_rows.specs.Rows.{put_field};
-ghost use Rattle.count_capped.specs.Count.{capped_sum, number_of, count_length};
+ghost use Rattle.count_capped.specs.Count.{capped_sum, count_length};
 ghost use Rattle.count_passes.specs.Tally.{Ready, NamedRows, Readable};
 ghost use Rattle.count_weights.specs.Weights.{at_sum, sum_at, sum_from, named_sum, Summed, Totalled};
 
@@ -17,9 +17,10 @@ const AT_SUM: usize = 10;
 pub const AT_WEIGHT: usize = 28;
 
 // The sums of the rules that a rule names, together.
+#[tactic(auto, unfolding(crate::specs::Weights::named_sum))]
 fn named_sum(work: &[u8], rule: Rule) -> Count
     requires { NamedRows work.now rule }
-    ensures { number_of result ≡ named_sum capped_sum (sum_at work.now) rule }
+    ensures { result ≡ named_sum capped_sum (sum_at work.now) rule }
 {
     match rule {
         Rule::Empty => Count::of(0),
@@ -48,11 +49,9 @@ fn sum_rows(work: &mut [u8], n: u16)
     requires { Ready work.old n }
     ensures { Summed n work.old work.new }
 {
-    let mut i: u16 = 0;
-    while i < n {
+    for i in 0..n {
         let r = work_rows::order_at(work, n, i);
         sum_row(work, r);
-        i += 1;
     }
 }
 

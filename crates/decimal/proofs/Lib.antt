@@ -1,3 +1,4 @@
 pub mod Puts
 pub mod Decimals
 pub mod Next
+pub mod Texts

@@ -1,11 +1,10 @@
 -- Texts put one after the other are their text put at once, since each store goes to the next place. Assumes nothing.
-use Prim.Native.Nat.{ℕ, suc, ◌+◌, ◌<◌, ◌≤◌}
+use Prim.Native.Nat.{ℕ, suc, ◌+◌, ◌≤◌}
 use native.Mathlib.Omega.{arith}
-use native.Mathlib.Numerals.{add-one}
 use mathlib.Core.Path.{◌≡◌, refl, sym, ap, ◌∙◌, subst}
 use mathlib.Core.List.{List, [], ◌∷◌, ◌++◌}
-use lib.ListN.{length, get_or, drop, set, length-append}
-use lib.Seq.{sets, length-sets, drop-cons, drop-length}
+use lib.ListN.{length, set, length-append}
+use lib.Seq.{sets, length-sets}
 use Rattle.decimal.specs.Put.{Put}
 
 sets-append : (a b s : List ℕ) (at end : ℕ) → end ≡ at + length a → sets (sets s at a) end b ≡ sets s at (a ++ b)
@@ -45,10 +44,3 @@ put-end {b = b} {s} {t} {at} {end} e P =
     let Q = put_as e P in
     let same : length t ≡ length s = ap length (sym Q.stored) ∙ length-sets s at b in
     record { stored = sym Q.stored; ends = omega arith; room = omega arith }
-
--- a text from place i on
-pub drop_more : (text : List ℕ) (i : ℕ) → i < length text → drop i text ≡ (get_or text i 0 ∷ []) ++ drop (i + 1) text
-drop_more text i h = rw (add-one, drop-cons text i 0 h)
-
-pub drop-none : (text : List ℕ) (i : ℕ) → i ≡ length text → drop i text ≡ []
-drop-none text i e = rw (e, drop-length text)

@@ -1,66 +1,60 @@
 // Texts and numbers in decimal, written into a lent slice.
 #![tactic(auto)]
 
-ghost use Rattle.std.specs.Prelude.{◌≡◌, ◌∷◌, [], ◌+◌, ◌≤◌, length};
-ghost use Rattle.decimal.specs.Decimal.{decimal, digit as Decimal·digit};
-ghost use Rattle.decimal.specs.Put.{Put, most_digits, Spelt};
+ghost use Rattle.std.specs.Prelude.{◌≡◌, ◌∷◌, [], length};
+ghost use Rattle.decimal.specs.Decimal.{decimal};
 
-// Digits of a number of 64 bits, at most.
-const DIGITS: usize = 20;
+use itoa::Buffer;
 
-// A byte at an offset of the output; gives the offset after it, as each of the writers below does.
-pub fn put_byte(out: &mut [u8], at: usize, b: u8) -> usize
-    requires { at + 1 ≤ length out.old }
-    ensures { Put (b ∷ []) at out.old out.new result }
-{
-    out[at] = b;
-    at + 1
+// A text at the front of a lent slice, which grows at its end.
+#[derive(Drop)]
+pub struct Text<'a> {
+    out: &'a mut [u8],
+    len: usize,
 }
 
-// A text.
-pub fn put_text(out: &mut [u8], at: usize, text: &[u8]) -> usize
-    requires { at + length text.now ≤ length out.old }
-    ensures { Put text.now at out.old out.new result }
-{
-    let mut end = at;
-    let mut i = 0;
-    while i < text.len() {
-        end = put_byte(out, end, text[i]);
-        i += 1;
+impl<'a> Text<'a> {
+    ghost use Rattle.decimal.specs.Text.{Room, Begun, Pushed};
+
+    // Nothing is written yet.
+    pub fn new(out: &'a mut [u8]) -> Text<'a>
+        ensures { Begun out.entry result }
+    {
+        Text { out, len: 0 }
     }
-    end
-}
 
-// The last digit of a number.
-fn digit(v: u64) -> u8
-    ensures { result ≡ Decimal·digit v }
-{
-    b'0' + (v % 10) as u8
-}
-
-// The digits of a number, at the end of what is lent; gives where the first stands.
-fn spell(v: u64, digits: &mut [u8]) -> usize
-    requires { length digits.old ≡ most_digits }
-    ensures { Spelt (decimal v) digits.new result }
-{
-    let mut first = DIGITS;
-    let mut rest = v;
-    while 10 <= rest {
-        first -= 1;
-        digits[first] = digit(rest);
-        rest = rest / 10;
+    // Its length.
+    pub fn len(&self) -> usize
+        ensures { result ≡ self.now.len }
+    {
+        self.len
     }
-    first -= 1;
-    digits[first] = digit(rest);
-    first
-}
 
-// A number in decimal.
-pub fn put_decimal(out: &mut [u8], at: usize, v: u64) -> usize
-    requires { at + length (decimal v) ≤ length out.old }
-    ensures { Put (decimal v) at out.old out.new result }
-{
-    let mut digits = [0u8; DIGITS];
-    let first = spell(v, &mut digits);
-    put_text(out, at, &digits[first..])
+    // A byte more.
+    pub fn push(&mut self, b: u8)
+        requires { Room self.old 1 }
+        ensures { Pushed (b ∷ []) self.old self.new }
+    {
+        self.out[self.len] = b;
+        self.len += 1;
+    }
+
+    // Bytes more.
+    pub fn push_bytes(&mut self, bytes: &[u8])
+        requires { Room self.old (length bytes.now) }
+        ensures { Pushed bytes.now self.old self.new }
+    {
+        let end = self.len + bytes.len();
+        self.out[self.len..end].copy_from_slice(bytes);
+        self.len = end;
+    }
+
+    // A number in decimal.
+    pub fn push_decimal(&mut self, v: u64)
+        requires { Room self.old (length (decimal v)) }
+        ensures { Pushed (decimal v) self.old self.new }
+    {
+        let mut digits = Buffer::new();
+        self.push_bytes(digits.format(v).as_bytes());
+    }
 }

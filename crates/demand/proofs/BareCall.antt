@@ -6,16 +6,14 @@ use native.Mathlib.Omega.{arith}
 use mathlib.Core.Path.{◌≡◌, refl, sym, ap, ◌∙◌}
 use mathlib.Core.Bool.{Bool, true, false, cond, ◌&&◌, and-eq-true_iff}
 use mathlib.Core.List.{List, [], ◌++◌, append_assoc}
-use mathlib.Core.Option.{Option, none, some}
+use Rattle.std.specs.Prelude.{Option, None, Some, Ok}
 use lib.ListN.{length, take, drop, replicate}
 use lib.Seq.{take-add}
 use Rattle.words.specs.Front.{in_front}
 use Rattle.refusal.specs.declared.Refusal.{Refusal}
 use Rattle.record.specs.Record.{word_length}
 use Rattle.record.proofs.RecordBytes.{Bytes, four_bytes}
-use Rattle.plan.specs.declared.Checked.{Checked}
 use Rattle.plan.specs.Check.{checked, rules_of}
-use Rattle.forest.specs.declared.Walked.{Walked}
 use Rattle.forest.specs.Forest.{Forest}
 use Rattle.forest.specs.Place.{Cell, Cells, Placed, placed_forest}
 use Rattle.forest.specs.Reference.{Path, answers, path_after}
@@ -58,18 +56,18 @@ record Passes (t h : Bool) (x : Option Path) : Type 0 where
   path : Path
   lent : t ≡ true
   head : h ≡ true
-  found : x ≡ some path
+  found : x ≡ Some path
 
 passes : (t h : Bool) (x : Option Path) (n r : ℕ)
-    → walked (cond t (cond h (stored n r x) (Begun.refused Refusal.Place)) (Begun.refused Refusal.Lent)) ≡ Walked.Accepted
+    → walked (cond t (cond h (stored n r x) (Begun.refused Refusal.Place)) (Begun.refused Refusal.Lent)) ≡ Ok tt
     → Passes t h x
 unfolding walked stored
-passes true true (some p) n r e = record { path = p; lent = refl; head = refl; found = refl }
-passes true true none n r e = absurd (let z : ◌≡◌ {A = ℕ} 0 1 = cc in omega arith)
+passes true true (Some p) n r e = record { path = p; lent = refl; head = refl; found = refl }
+passes true true None n r e = absurd (let z : ◌≡◌ {A = ℕ} 0 1 = cc in omega arith)
 passes true false x n r e = absurd (let z : ◌≡◌ {A = ℕ} 0 1 = cc in omega arith)
 passes false h x n r e = absurd (let z : ◌≡◌ {A = ℕ} 0 1 = cc in omega arith)
 
-module _ (s work cursor given : List ℕ) (n start : ℕ) (accepted : checked s ≡ Checked.Accepted n start) (b : Bytes cursor) where
+module _ (s work cursor given : List ℕ) (n start : ℕ) (accepted : checked s ≡ Ok (record { n = n; start = start })) (b : Bytes cursor) where
   begins : begun s work cursor [] given
       ≡ cond (enough_lent work cursor [] given n) (place_judged (rules_of s) n start cursor) (Begun.refused Refusal.Lent)
   unfolding begun begun_from letters_judged first_other
@@ -96,16 +94,16 @@ module _ (s work cursor given : List ℕ) (n start : ℕ) (accepted : checked s 
 
   all_left : Begins
       → walk_of (lends s work cursor [] given)
-      ≡ leaves Walked.Accepted (cleared (word_length * work_words n) work) (only_cleared n k cursor) given
+      ≡ leaves (Ok tt) (cleared (word_length * work_words n) work) (only_cleared n k cursor) given
   unfolding walk_of walked walked_work work_after cursor_after answers_after answers_bytes in_front answers path_after letters_of place_judged place_in stored
   all_left q =
       let at : begun s work cursor [] given ≡ Begun.at n r q.path = begins ∙ rw (q.lent, q.head, q.found) in
       rw (at, accepted, q.lent, place_kept q)
 
   -- and work is cleared, as by every call that 8 lets pass
-  pub no-letters : (walk_of (lends s work cursor [] given)).answer ≡ Walked.Accepted
+  pub no-letters : (walk_of (lends s work cursor [] given)).answer ≡ Ok tt
       → walk_of (lends s work cursor [] given)
-      ≡ leaves Walked.Accepted (cleared (word_length * work_words n) work) (only_cleared n k cursor) given
+      ≡ leaves (Ok tt) (cleared (word_length * work_words n) work) (only_cleared n k cursor) given
   unfolding walk_of place_judged place_in
   no-letters e =
       let e' = sym (ap walked begins) ∙ e in

@@ -7,15 +7,14 @@ use mathlib.Core.Path.{◌≡◌, refl, sym, ap, ◌∙◌, subst}
 use mathlib.Core.Logic.{◌↔◌, ◌≢◌, inl, inr, ⊎_elim}
 use mathlib.Core.Bool.{Bool, true, false, cond, not, true≢false, ◌&&◌}
 use mathlib.Core.List.{List, [], ◌∷◌}
-use mathlib.Core.Option.{Option, none, some, none-ne-some}
+use Rattle.std.specs.Prelude.{Option, None, Some, Ok, Err}
+use Rattle.std.proofs.lemmas.Option.{none-some}
 use lib.ListN.{length}
 use lib.Dec.{leb}
 use borrow.Author.Tests.{le-leb, leb-true}
 use Rattle.refusal.specs.declared.Refusal.{Refusal}
 use Rattle.rule.specs.Sound.{Closed}
-use Rattle.plan.specs.declared.Checked.{Checked}
 use Rattle.plan.specs.Check.{checked, rules_of}
-use Rattle.forest.specs.declared.Walked.{Walked}
 use Rattle.forest.specs.Forest.{Forest, forest}
 use Rattle.forest.specs.Place.{Cells, Placed, placed_forest}
 use Rattle.forest.specs.Letter.{Letter}
@@ -38,17 +37,17 @@ use Rattle.demand.proofs.Plans.{walkable}
 
 module _ {n : ℕ} {g : Forest ℕ} {G : Forest Placed} (W : Walkable n g G) where
   -- what is found is above the forest or a node, so letters lead there
-  found-reached : (cells : Cells) (p : Path) → path_of G cells ≡ some p → ¬ Unreached g G cells
+  found-reached : (cells : Cells) (p : Path) → path_of G cells ≡ Some p → ¬ Unreached g G cells
   unfolding Unreached
   found-reached cells p e unreached =
       unreached (letters p) (ap (place_at G) (same-paths W (letters p) [] ∙ letters-after G p (path-named G cells p e)) ∙ path-cells G cells p e)
 
   -- and where nothing is found no letters lead
-  none-unreached : (cells : Cells) → path_of G cells ≡ none → Unreached g G cells
+  none-unreached : (cells : Cells) → path_of G cells ≡ None → Unreached g G cells
   unfolding Unreached
   none-unreached cells e cs h =
       let p = path_after g cs [] in
-      none-ne-some _ (sym e ∙ ap (path_of G) (sym h) ∙ path-of-place G W.distinct p (named-after W cs [] Named.above))
+      none-some _ (sym e ∙ ap (path_of G) (sym h) ∙ path-of-place G W.distinct p (named-after W cs [] Named.above))
 
   -- what letters lead to lies in the words that n rules need
   short-reached : (cs : List Letter) → cell_words * (length (place_at G (path_after g cs [])) + 1) ≤ cursor_words n
@@ -64,7 +63,7 @@ module _ {n : ℕ} {g : Forest ℕ} {G : Forest Placed} (W : Walkable n g G) whe
 -- ---- refusal 10
 
 -- that cells 1 to k must lie in 16 × (n + 1) words turns down no place of an accepted plan that letters lead to
-pub reached-lies : (s : List ℕ) (n start : ℕ) → checked s ≡ Checked.Accepted n start → (r : ℕ) → Closed (rules_of s) r → (cs : List Letter)
+pub reached-lies : (s : List ℕ) (n start : ℕ) → checked s ≡ Ok (record { n = n; start = start }) → (r : ℕ) → Closed (rules_of s) r → (cs : List Letter)
     → cell_words * (length (place_at (placed_forest (rules_of s) r) (path_after (forest (rules_of s) r) cs [])) + 1) ≤ cursor_words n
 reached-lies s n start accepted r C cs = short-reached (walkable s n start accepted r C) cs
 
@@ -77,14 +76,14 @@ unfolding is_at
 at-not-refused e = true≢false (ap is_at e)
 
 -- the place is judged last, and only it is refused with 10: t says whether 8 is passed, x where 9 finds a byte
-judged-last : (t : Bool) (x : Option ℕ) (b : Begun) → (walked (cond t (letters_judged x b) (Begun.refused Refusal.Lent)) ≡ Walked.Refused Refusal.Place) ↔ ((not (t && is_none x) ≡ false) × (b ≡ Begun.refused Refusal.Place))
+judged-last : (t : Bool) (x : Option ℕ) (b : Begun) → (walked (cond t (letters_judged x b) (Begun.refused Refusal.Lent)) ≡ Err Refusal.Place) ↔ ((not (t && is_none x) ≡ false) × (b ≡ Begun.refused Refusal.Place))
 unfolding walked letters_judged is_none
-judged-last true none (Begun.refused r) = (λ e. (refl, cc), λ h. ap walked h.1)
-judged-last true none (Begun.at n r p) = (λ e. (refl, cc), λ h. cc)
-judged-last true (some i) b = (λ e. (cc, cc), λ h. cc)
+judged-last true None (Begun.refused r) = (λ e. (refl, cc), λ h. ap walked h.1)
+judged-last true None (Begun.at n r p) = (λ e. (refl, cc), λ h. cc)
+judged-last true (Some i) b = (λ e. (cc, cc), λ h. cc)
 judged-last false x b = (λ e. (cc, cc), λ h. cc)
 
-module _ (s : List ℕ) (n start : ℕ) (cursor : List ℕ) (accepted : checked s ≡ Checked.Accepted n start) where
+module _ (s : List ℕ) (n start : ℕ) (cursor : List ℕ) (accepted : checked s ≡ Ok (record { n = n; start = start })) where
   -- the walked rule
   abbrev r : ℕ
   r = walked_rule start cursor
@@ -129,7 +128,7 @@ module _ (s : List ℕ) (n start : ℕ) (cursor : List ℕ) (accepted : checked 
   refused-by-letters = (refused-misplaced, misplaced-refused)
 
   -- and a walk answers 10 exactly then, past 8 and 9
-  pub walk-refused-by-letters : (c : Call) → ((walk_of (lent s cursor c)).answer ≡ Walked.Refused Refusal.Place) ↔ ((turned_down n cursor c ≡ false) × Misplaced (rules_of s) start cursor)
+  pub walk-refused-by-letters : (c : Call) → ((walk_of (lent s cursor c)).answer ≡ Err Refusal.Place) ↔ ((turned_down n cursor c ≡ false) × Misplaced (rules_of s) start cursor)
   unfolding walk_of lent turned_down begun begun_from
   walk-refused-by-letters c =
       let t = enough_lent c.work cursor c.letters c.answers n in
@@ -139,7 +138,7 @@ module _ (s : List ℕ) (n start : ℕ) (cursor : List ℕ) (accepted : checked 
       (λ e. let h = last.0 (sym (ap walked eq) ∙ e) in (h.0, refused-misplaced h.1), λ h. ap walked eq ∙ last.1 (h.0, misplaced-refused h.1))
 
   -- no cells are above the forest
-  above-found : used_cells cursor ≡ 0 → found ≡ some []
+  above-found : used_cells cursor ≡ 0 → found ≡ Some []
   unfolding cells_in path_of
   above-found k = rw k
 

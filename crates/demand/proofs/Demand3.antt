@@ -1,12 +1,12 @@
 -- Demand 3: over every list of walk calls on an accepted plan the answers are the finger's and the used cells are those of the
 -- node where it stands. A closed rule's forest is walkable, and on a walkable forest each call keeps the cursor at the finger's
 -- path. What it says of letters after the calls it says of every key inside a next call. Assumes nothing.
+use Rattle.std.specs.Prelude.{Ok}
 use Prim.Native.Nat.{ℕ, ◌*◌, ◌≤◌}
 use mathlib.Core.Path.{◌≡◌, ap, ◌∙◌}
 use mathlib.Core.Bool.{Bool, false, cond}
 use mathlib.Core.List.{List, [], ◌∷◌, ◌++◌}
 use lib.ListN.{length}
-use Rattle.plan.specs.declared.Checked.{Checked}
 use Rattle.plan.specs.Check.{checked, rules_of}
 use Rattle.forest.specs.Forest.{Forest, forest}
 use Rattle.forest.specs.Place.{Placed, placed_forest}
@@ -39,7 +39,7 @@ path-end g down [] c p e = rw e
 path-end g down (d ∷ ds) c p e = path-end g down ds c (cond (down d) p (path_after g (letters_of d.letters) p)) e
 
 -- "and a call that ends there leaves them": a call with the letters up to a key leaves the place after it
-pub ends_there : (s : List ℕ) (n start : ℕ) (cursor : List ℕ) (calls : List Call) (c : Call) → checked s ≡ Checked.Accepted n start
+pub ends_there : (s : List ℕ) (n start : ℕ) (cursor : List ℕ) (calls : List Call) (c : Call) → checked s ≡ Ok (record { n = n; start = start })
     → Above (rules_of s) start cursor → turned_down n cursor c ≡ false
     → cells_in (cursor_after_calls walk_of s cursor (calls ++ (c ∷ []))) (used_cells (cursor_after_calls walk_of s cursor (calls ++ (c ∷ []))))
     ≡ place_at (placed_forest (rules_of s) (walked_rule start cursor))

@@ -5,16 +5,14 @@ use native.Mathlib.Omega.{arith}
 use mathlib.Core.Path.{◌≡◌, refl, sym, ap, ◌∙◌}
 use mathlib.Core.Bool.{true, false≢true}
 use mathlib.Core.List.{List, [], map}
-use mathlib.Core.Option.{none, some}
+use Rattle.std.specs.Prelude.{None, Some, Ok, Err}
 use lib.ListN.{length, get_or, replicate}
 use borrow.Author.Tests.{le-leb}
 use Rattle.words.specs.Number.{number, word_count}
 use Rattle.rule.specs.declared.Rule.{Rule}
 use Rattle.rule.specs.Sound.{Closed}
 use Rattle.refusal.specs.declared.Refusal.{Refusal}
-use Rattle.plan.specs.declared.Checked.{Checked}
 use Rattle.plan.specs.Check.{checked, rules_of}
-use Rattle.forest.specs.declared.Walked.{Walked}
 use Rattle.forest.specs.Forest.{forest}
 use Rattle.forest.specs.Place.{Cell, placed_forest}
 use Rattle.forest.specs.Reference.{answers}
@@ -60,7 +58,7 @@ start-above {R} {start} C cursor a =
       };
     }
 
-module _ (s work cursor letters given : List ℕ) (n start : ℕ) (accepted : checked s ≡ Checked.Accepted n start) (above : AboveStart cursor)
+module _ (s work cursor letters given : List ℕ) (n start : ℕ) (accepted : checked s ≡ Ok (record { n = n; start = start })) (above : AboveStart cursor)
     (worked : word_length * work_words n ≤ length work) (room : 32 * (n + 1) ≤ length cursor) (answerable : answer_length * length letters ≤ length given) where
   abbrev call : Call
   call = record { work = work; letters = letters; answers = given }
@@ -85,15 +83,15 @@ module _ (s work cursor letters given : List ℕ) (n start : ℕ) (accepted : ch
   begins-above : begun s work cursor letters given ≡ letters_judged (first_other letters 0) (Begun.at n start [])
   begins-above = begins s n start cursor accepted start (start-walked start cursor above) C cursor [] stands call ∙ rw enough
 
-  pub above-accepted : first_other letters 0 ≡ none → left.answer ≡ Walked.Accepted
+  pub above-accepted : first_other letters 0 ≡ None → left.answer ≡ Ok tt
   unfolding walk_of walked letters_judged
   above-accepted e = rw (begins-above, e)
 
-  pub above-refused : (i : ℕ) → first_other letters 0 ≡ some i → left.answer ≡ Walked.Refused (Refusal.Letter i)
+  pub above-refused : (i : ℕ) → first_other letters 0 ≡ Some i → left.answer ≡ Err (Refusal.Letter i)
   unfolding walk_of walked letters_judged
   above-refused i e = rw (begins-above, e)
 
-  pub above-answers : first_other letters 0 ≡ none → answer_words (length letters) left.answers 0 ≡ map answer_word (answers (forest (rules_of s) start) (letters_of letters) [])
+  pub above-answers : first_other letters 0 ≡ None → answer_words (length letters) left.answers 0 ≡ map answer_word (answers (forest (rules_of s) start) (letters_of letters) [])
   unfolding lent is_refused
   above-answers e = go (one-call s n start cursor accepted start (start-walked start cursor above) C cursor [] stands call)
     where

@@ -1,11 +1,11 @@
 -- Demand 3 over a list of calls, from what each call comes to: by induction over the list, with the cursor at the finger's path
 -- before each call. Assumes nothing.
+use Rattle.std.specs.Prelude.{Ok}
 use Prim.Native.Nat.{ℕ}
 use mathlib.Core.Path.{◌≡◌, refl, sym, ap, ap₂, ◌∙◌, subst}
 use mathlib.Core.Bool.{Bool, true, false, ◌||◌, false≢true}
 use mathlib.Core.List.{List, [], ◌∷◌, ◌++◌, map, map-append}
 use Rattle.rule.specs.Sound.{Closed}
-use Rattle.plan.specs.declared.Checked.{Checked}
 use Rattle.plan.specs.Check.{checked, rules_of}
 use Rattle.forest.specs.Forest.{Forest, forest}
 use Rattle.forest.specs.Place.{Cell, Placed, placed_forest}
@@ -18,7 +18,7 @@ use Rattle.demand.proofs.Walkable.{Walkable, Stands}
 use Rattle.demand.proofs.Plans.{walkable}
 use Rattle.demand.proofs.OneCall.{Came, one-call, named-after, same_move, place_short, stands-used}
 
-module _ (s : List ℕ) (n start : ℕ) (first : List ℕ) (accepted : checked s ≡ Checked.Accepted n start) (r : ℕ) (names : walked_rule start first ≡ r) (C : Closed (rules_of s) r) where
+module _ (s : List ℕ) (n start : ℕ) (first : List ℕ) (accepted : checked s ≡ Ok (record { n = n; start = start })) (r : ℕ) (names : walked_rule start first ≡ r) (C : Closed (rules_of s) r) where
   abbrev g : Forest ℕ
   g = forest (rules_of s) r
 

@@ -6,7 +6,7 @@ use Prim.Native.Nat.{ℕ, suc, ◌+◌, ◌*◌}
 use mathlib.Core.Path.{◌≡◌, refl, sym, ap, ap₂, ◌∙◌}
 use mathlib.Core.Bool.{Bool, true, false, cond, ◌&&◌}
 use mathlib.Core.List.{List, [], map}
-use mathlib.Core.Option.{Option, none, some}
+use Rattle.std.specs.Prelude.{Option, None, Some, Result, Ok, Err}
 use lib.ListN.{length}
 use lib.Dec.{leb, eqb}
 use Rattle.rule.specs.declared.Rule.{Rule}
@@ -30,7 +30,7 @@ use Rattle.demand.proofs.Demand3.{demand3}
 
 -- ---- a place that 10 doesn't refuse
 
-module _ (s : List ℕ) (n start : ℕ) (cursor : List ℕ) (accepted : checked s ≡ Checked.Accepted n start) {m r : ℕ} {p : Path} (H : Holds (rules_of s) n start m r cursor p) where
+module _ (s : List ℕ) (n start : ℕ) (cursor : List ℕ) (accepted : checked s ≡ Ok (record { n = n; start = start })) {m r : ℕ} {p : Path} (H : Holds (rules_of s) n start m r cursor p) where
   pub holds-closed : Closed (rules_of s) r
   holds-closed = walked-closed (rules_of s) r H.can_walk
 
@@ -54,8 +54,8 @@ module _ (s : List ℕ) (n start : ℕ) (cursor : List ℕ) (accepted : checked 
 turned-place : (t : Bool) (x : Option ℕ) (y : Refusal)
     → (z : Refusal) × (cond t (letters_judged x (Begun.refused y)) (Begun.refused Refusal.Lent) ≡ Begun.refused z)
 unfolding letters_judged
-turned-place true none y = (y, refl)
-turned-place true (some i) y = (Refusal.Letter i, refl)
+turned-place true None y = (y, refl)
+turned-place true (Some i) y = (Refusal.Letter i, refl)
 turned-place false x y = (Refusal.Lent, refl)
 
 -- "The word stays through every walk": whatever is lent, accepted or refused
@@ -72,7 +72,7 @@ word-stays l = by-check (checked s) refl
     kept : {z : Refusal} → begun s l.work l.cursor l.letters l.answers ≡ Begun.refused z → rule_word (walk_of l).cursor ≡ rule_word l.cursor
     kept b = ap rule_word (refused-keeps (rules_of s) l.letters l.cursor b)
 
-    by_place : (n start : ℕ) → checked s ≡ Checked.Accepted n start → (b : Begun) → place_judged (rules_of s) n start l.cursor ≡ b
+    by_place : (n start : ℕ) → checked s ≡ Ok (record { n = n; start = start }) → (b : Begun) → place_judged (rules_of s) n start l.cursor ≡ b
         → rule_word (walk_of l).cursor ≡ rule_word l.cursor
     by_place n start a (Begun.refused y) b =
         let z = turned-place (enough_lent l.work l.cursor l.letters l.answers n) (first_other l.letters 0) y in
@@ -86,9 +86,9 @@ word-stays l = by-check (checked s) refl
         came (Came.turned d f k) = ap rule_word k
         came (Came.went d f T k w x) = stands_word (walkable s n start a r (holds-closed s n start l.cursor a (judged-holds (rules_of s) n start m r l.cursor p b))) T
 
-    by-check : (x : Checked) → checked s ≡ x → rule_word (walk_of l).cursor ≡ rule_word l.cursor
-    by-check (Checked.Refused y) a = kept {z = y} (rw a)
-    by-check (Checked.Accepted n start) a = by_place n start a (place_judged (rules_of s) n start l.cursor) refl
+    by-check : (x : Result Checked Refusal) → checked s ≡ x → rule_word (walk_of l).cursor ≡ rule_word l.cursor
+    by-check (Err y) a = kept {z = y} (rw a)
+    by-check (Ok x) a = by_place x.n x.start a (place_judged (rules_of s) x.n x.start l.cursor) refl
 
 -- ---- one rule by two words
 
@@ -108,7 +108,7 @@ same-down n first second e = λ i c. down c i
     down : (c : Call) → turned_down n first c ≡ turned_down n second c
     down c = rw e
 
-module _ (s : List ℕ) (n start : ℕ) (accepted : checked s ≡ Checked.Accepted n start) (first second : List ℕ) (one : Above (rules_of s) start first) (two : Above (rules_of s) start second)
+module _ (s : List ℕ) (n start : ℕ) (accepted : checked s ≡ Ok (record { n = n; start = start })) (first second : List ℕ) (one : Above (rules_of s) start first) (two : Above (rules_of s) start second)
     (long : length first ≡ length second) where
   pub named-alike : walked_rule start first ≡ walked_rule start second → (calls : List Call) → Alike s first second calls
   unfolding Demand3
@@ -142,12 +142,12 @@ place_before : List Rule → ℕ → ℕ → List ℕ → Begun
 place_before R n start cursor =
     cond (headed_before n cursor) (stored n start (path_of (placed_forest R start) (cells_in cursor (used_cells cursor)))) (Begun.refused Refusal.Place)
 
-begun_before : Lent → Checked → Begun
-begun_before l (Checked.Accepted n start) =
-    cond (enough_lent l.work l.cursor l.letters l.answers n)
-    (letters_judged (first_other l.letters 0) (place_before (rules_of l.plan) n start l.cursor))
+begun_before : Lent → Result Checked Refusal → Begun
+begun_before l (Ok x) =
+    cond (enough_lent l.work l.cursor l.letters l.answers x.n)
+    (letters_judged (first_other l.letters 0) (place_before (rules_of l.plan) x.n x.start l.cursor))
     (Begun.refused Refusal.Lent)
-begun_before l (Checked.Refused r) = Begun.refused r
+begun_before l (Err r) = Begun.refused r
 
 cursor_before : List Rule → Begun → List ℕ → List ℕ → List ℕ
 cursor_before R (Begun.refused r) letters cursor = cursor
@@ -168,18 +168,18 @@ module _ (l : Lent) (zero : rule_word l.cursor ≡ 0) where
   unfolding headed_before headed rule_word
   head-same n = rw zero
 
-  place_same : (n start : ℕ) → checked l.plan ≡ Checked.Accepted n start
+  place_same : (n start : ℕ) → checked l.plan ≡ Ok (record { n = n; start = start })
       → place_before (rules_of l.plan) n start l.cursor ≡ place_judged (rules_of l.plan) n start l.cursor
   unfolding place_before place_judged place_in
   place_same n start e =
       rw (start-by-zero start l.cursor zero, closed-walked (rules_of l.plan) start (start-closed l.plan n start e), head-same n)
 
-  begun-same : (x : Checked) → checked l.plan ≡ x → begun_before l x ≡ begun_from l.plan l.work l.cursor l.letters l.answers x
+  begun-same : (x : Result Checked Refusal) → checked l.plan ≡ x → begun_before l x ≡ begun_from l.plan l.work l.cursor l.letters l.answers x
   unfolding begun_before begun_from
-  begun-same (Checked.Accepted n start) e =
-      ap (λ (b : Begun). cond (enough_lent l.work l.cursor l.letters l.answers n) (letters_judged (first_other l.letters 0) b) (Begun.refused Refusal.Lent))
-      (place_same n start e)
-  begun-same (Checked.Refused r) e = refl
+  begun-same (Ok x) e =
+      ap (λ (b : Begun). cond (enough_lent l.work l.cursor l.letters l.answers x.n) (letters_judged (first_other l.letters 0) b) (Begun.refused Refusal.Lent))
+      (place_same x.n x.start e)
+  begun-same (Err r) e = refl
 
   cursor-same : (b : Begun) → cursor_before (rules_of l.plan) b l.letters l.cursor ≡ cursor_after (rules_of l.plan) b l.letters l.cursor
   unfolding cursor_before cursor_after

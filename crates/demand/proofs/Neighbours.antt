@@ -4,9 +4,8 @@
 use Prim.Native.Nat.{ℕ}
 use mathlib.Core.Path.{◌≡◌, refl, sym, ap, ◌∙◌}
 use mathlib.Core.List.{List}
-use mathlib.Core.Option.{Option, none, some, map}
+use Rattle.std.specs.Prelude.{Option, None, Some, option_map, Ok}
 use Rattle.rule.specs.Sound.{Closed}
-use Rattle.plan.specs.declared.Checked.{Checked}
 use Rattle.plan.specs.Check.{checked, rules_of}
 use Rattle.forest.specs.Expression.{expression}
 use Rattle.forest.specs.Forest.{Forest, forest}
@@ -25,11 +24,11 @@ use Rattle.demand.proofs.Walkable.{Walkable}
 use Rattle.demand.proofs.Plans.{walked-good, walked-fit, walkable}
 
 -- labels taken off one by one
-map-twice : (F : Facts) (x : Option Node) → map label (map (placed_node F) x) ≡ map (λ (y : Node). model.label (F.rule y.0)) x
-map-twice F none = refl
-map-twice F (some y) = refl
+map-twice : (F : Facts) (x : Option Node) → option_map label (option_map (placed_node F) x) ≡ option_map (λ (y : Node). model.label (F.rule y.0)) x
+map-twice F None = refl
+map-twice F (Some y) = refl
 
-module _ (s : List ℕ) (n start : ℕ) (accepted : checked s ≡ Checked.Accepted n start) (r : ℕ) (C : Closed (rules_of s) r) where
+module _ (s : List ℕ) (n start : ℕ) (accepted : checked s ≡ Ok (record { n = n; start = start })) (r : ℕ) (C : Closed (rules_of s) r) where
   abbrev G : Forest Placed
   G = placed_forest (rules_of s) r
 
@@ -37,15 +36,15 @@ module _ (s : List ℕ) (n start : ℕ) (accepted : checked s ≡ Checked.Accept
   F = facts_of (rules_of s)
 
   -- at every node, known by its cells, exactly one condition holds, and the first that holds gives the finger's answer
-  pub neighbour-cases : (side : Side) (p : Path) (a : Placed) → label_at G p ≡ some a → FirstCase F side (standing F a.1, a.1) (answer G (Letter.sibling side) p)
+  pub neighbour-cases : (side : Side) (p : Path) (a : Placed) → label_at G p ≡ Some a → FirstCase F side (standing F a.1, a.1) (answer G (Letter.sibling side) p)
   unfolding placed_forest
   neighbour-cases side p a h = first-cases F (expression (rules_of s) r) (walked-fit s n start accepted r C) (walked-good s n start accepted r C) side p a h
 
   -- and so of the labels that a walk answers
-  pub neighbour-labels : (side : Side) (p : Path) (a : Placed) → label_at G p ≡ some a
-      → answer (forest (rules_of s) r) (Letter.sibling side) p ≡ map (λ (y : Node). model.label (F.rule y.0)) (first_that (sibling_cases F side (standing F a.1, a.1)))
+  pub neighbour-labels : (side : Side) (p : Path) (a : Placed) → label_at G p ≡ Some a
+      → answer (forest (rules_of s) r) (Letter.sibling side) p ≡ option_map (λ (y : Node). model.label (F.rule y.0)) (first_that (sibling_cases F side (standing F a.1, a.1)))
   neighbour-labels side p a h =
       ap (λ (g : Forest ℕ). answer g (Letter.sibling side) p) (sym (walkable s n start accepted r C).forgets)
       ∙ answer-relabel label G (Letter.sibling side) p
-      ∙ ap (map label) (neighbour-cases side p a h).first
+      ∙ ap (option_map label) (neighbour-cases side p a h).first
       ∙ map-twice F (first_that (sibling_cases F side (standing F a.1, a.1)))

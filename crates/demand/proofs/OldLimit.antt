@@ -1,6 +1,7 @@
 -- "A place stored under the old limit is accepted as before in the same plan, and leads to the same entry" (document 02, Note 3). The walk
 -- with a limit as a parameter and 32 words of work a rule, as it was; wherever a plan is accepted up to 1,024 rules, it answers and leaves
 -- what the walk does. Assumes nothing.
+use Rattle.std.specs.Prelude.{Result, Ok, Err}
 use Prim.Native.Nat.{ℕ, ◌*◌}
 use native.Mathlib.Omega.{arith}
 use mathlib.Core.Bool.{Bool, cond, ◌&&◌}
@@ -21,14 +22,14 @@ use Rattle.demand.specs.Calls.{Lent, Left, walk_of}
 enough_before : Lent → ℕ → Bool
 enough_before l n = leb (rule_work * n) (word_count l.work) && (enough_cursor n l.cursor && enough_answers l.letters l.answers)
 
-begun_before : Lent → Checked → Begun
-begun_before l (Checked.Accepted n start) =
-    cond (enough_before l n) (letters_judged (first_other l.letters 0) (place_judged (rules_of l.plan) n start l.cursor)) (Begun.refused Refusal.Lent)
-begun_before l (Checked.Refused r) = Begun.refused r
+begun_before : Lent → Result Checked Refusal → Begun
+begun_before l (Ok x) =
+    cond (enough_before l x.n) (letters_judged (first_other l.letters 0) (place_judged (rules_of l.plan) x.n x.start l.cursor)) (Begun.refused Refusal.Lent)
+begun_before l (Err r) = Begun.refused r
 
-work_before : Lent → Checked → List ℕ
-work_before l (Checked.Accepted n start) = cond (enough_before l n) (cleared (word_length * (rule_work * n)) l.work) l.work
-work_before l (Checked.Refused r) = l.work
+work_before : Lent → Result Checked Refusal → List ℕ
+work_before l (Ok x) = cond (enough_before l x.n) (cleared (word_length * (rule_work * x.n)) l.work) l.work
+work_before l (Err r) = l.work
 
 pub walk_up_to : ℕ → Lent → Left
 walk_up_to most l =
@@ -40,11 +41,11 @@ walk_up_to most l =
       answers = answers_after (rules_of l.plan) b l.letters l.answers;
     }
 
-module _ (l : Lent) (n start : ℕ) (e : checked_up_to few_rules l.plan ≡ Checked.Accepted n start) where
+module _ (l : Lent) (n start : ℕ) (e : checked_up_to few_rules l.plan ≡ Ok (record { n = n; start = start })) where
   few : work_words n ≡ rule_work * n
   few = few_words n (accepted-plan few_rules l.plan n start e).greatest
 
-  still : checked l.plan ≡ Checked.Accepted n start
+  still : checked l.plan ≡ Ok (record { n = n; start = start })
   unfolding checked
   still = accepted-more few_rules most_rules l.plan n start (omega arith) e
 
@@ -64,7 +65,7 @@ module _ (l : Lent) (n start : ℕ) (e : checked_up_to few_rules l.plan ≡ Chec
   work-same =
       ap (work_before l) e
       ∙ ap₂ (λ (b : Bool) (k : ℕ). cond b (cleared (word_length * k) l.work) l.work) enough-same (sym few)
-      ∙ sym (ap (λ (c : Checked). work_after (enough_lent l.work l.cursor l.letters l.answers) c l.work) still)
+      ∙ sym (ap (λ (c : Result Checked Refusal). work_after (enough_lent l.work l.cursor l.letters l.answers) c l.work) still)
 
   pub old-limit : walk_up_to few_rules l ≡ walk_of l
   unfolding walk_up_to walk_of

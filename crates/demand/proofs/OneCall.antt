@@ -6,14 +6,13 @@ use native.Mathlib.Omega.{arith}
 use mathlib.Core.Path.{◌≡◌, refl, sym, ap, ◌∙◌, subst}
 use mathlib.Core.Bool.{Bool, true, false, cond, ◌&&◌}
 use mathlib.Core.List.{List, map}
-use mathlib.Core.Option.{Option, none, some}
+use Rattle.std.specs.Prelude.{Option, None, Some, Ok}
 use lib.ListN.{length}
 use lib.Dec.{leb, eqb}
 use borrow.Author.Tests.{le-leb}
 use Rattle.rule.specs.declared.Rule.{Rule}
 use Rattle.rule.specs.Sound.{Closed}
 use Rattle.refusal.specs.declared.Refusal.{Refusal}
-use Rattle.plan.specs.declared.Checked.{Checked}
 use Rattle.record.specs.Record.{word_length}
 use Rattle.plan.specs.Check.{checked, rules_of}
 use Rattle.plan.proofs.Sound.{checked-plan}
@@ -62,7 +61,7 @@ module _ {n : ℕ} {g : Forest ℕ} {G : Forest Placed} {first cursor : List ℕ
       ∙ le-leb (cell_words * (length (place_at G p) + 1)) (16 * (n + 1)) (let h = place_short W p S.named in omega arith)
 
   -- and the stored cells lead to the node
-  stands-found : path_of G (cells_in cursor (used_cells cursor)) ≡ some p
+  stands-found : path_of G (cells_in cursor (used_cells cursor)) ≡ Some p
   stands-found =
       ap (λ (k : ℕ). path_of G (cells_in cursor k)) stands-used ∙ ap (path_of G) S.cells ∙ path-of-place G W.distinct p S.named
 
@@ -120,7 +119,7 @@ pub data Came (s : List ℕ) (n : ℕ) (g : Forest ℕ) (G : Forest Placed) (fir
       → Came s n g G first cursor p c l
 
 -- calls on cursors whose word 1 names rule r, as that of the first one does
-module _ (s : List ℕ) (n start : ℕ) (first : List ℕ) (accepted : checked s ≡ Checked.Accepted n start) (r : ℕ) (names : walked_rule start first ≡ r) (C : Closed (rules_of s) r) where
+module _ (s : List ℕ) (n start : ℕ) (first : List ℕ) (accepted : checked s ≡ Ok (record { n = n; start = start })) (r : ℕ) (names : walked_rule start first ≡ r) (C : Closed (rules_of s) r) where
   abbrev g : Forest ℕ
   g = forest (rules_of s) r
 
@@ -163,7 +162,7 @@ module _ (s : List ℕ) (n start : ℕ) (first : List ℕ) (accepted : checked s
   call-turned cursor p c x d b = Came.turned d (ap (λ (x : Begun). is_refused (walked x)) b) (refused-keeps (rules_of s) _ cursor b)
 
   -- a call that is accepted
-  call-went : (cursor : List ℕ) (p : Path) (c : Call) → Stands G first cursor p → enough_lent c.work first c.letters c.answers n ≡ true → first_other c.letters 0 ≡ none
+  call-went : (cursor : List ℕ) (p : Path) (c : Call) → Stands G first cursor p → enough_lent c.work first c.letters c.answers n ≡ true → first_other c.letters 0 ≡ None
       → begun s c.work cursor c.letters c.answers ≡ Begun.at n r p
       → Came s n g G first cursor p c (walk_of (lent s cursor c))
   unfolding walk_of lent is_refused turned_down is_none ClearPast
@@ -206,6 +205,6 @@ module _ (s : List ℕ) (n start : ℕ) (first : List ℕ) (accepted : checked s
     where
       go : (t : Bool) (x : Option ℕ) → enough_lent c.work first c.letters c.answers n ≡ t → first_other c.letters 0 ≡ x
           → Came s n g G first cursor p c (walk_of (lent s cursor c))
-      go true none e f = call-went cursor p c S e f (begins cursor p S c ∙ rw (e, f))
-      go true (some i) e f = call-turned cursor p c (Refusal.Letter i) (rw (e, f)) (begins cursor p S c ∙ rw (e, f))
+      go true None e f = call-went cursor p c S e f (begins cursor p S c ∙ rw (e, f))
+      go true (Some i) e f = call-turned cursor p c (Refusal.Letter i) (rw (e, f)) (begins cursor p S c ∙ rw (e, f))
       go false x e f = call-turned cursor p c Refusal.Lent (rw e) (begins cursor p S c ∙ rw e)

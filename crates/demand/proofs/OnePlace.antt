@@ -7,14 +7,12 @@ use mathlib.Core.Path.{◌≡◌, refl, sym, ap, ap₂, ◌∙◌}
 use mathlib.Core.Logic.{◌↔◌}
 use mathlib.Core.Bool.{Bool, true, false, ◌||◌, false≢true}
 use mathlib.Core.List.{List, [], ◌∷◌, ◌++◌, append_assoc}
-use mathlib.Core.Option.{some}
+use Rattle.std.specs.Prelude.{Some, Ok}
 use lib.ListN.{length, take, drop, replicate, length-append, length-replicate}
 use lib.Seq.{take_at}
 use Rattle.rule.specs.Sound.{Closed}
 use Rattle.record.specs.Record.{word_length}
-use Rattle.plan.specs.declared.Checked.{Checked}
 use Rattle.plan.specs.Check.{checked, rules_of}
-use Rattle.forest.specs.declared.Walked.{Walked}
 use Rattle.forest.specs.Forest.{Forest, forest}
 use Rattle.forest.specs.Place.{Cell, Cells, Placed, placed_forest}
 use Rattle.forest.specs.Position.{Named}
@@ -73,7 +71,7 @@ module _ (n w : ℕ) (small : w < 65536) where
 
 -- ---- lists of calls
 
-module _ (s : List ℕ) (n start : ℕ) (first : List ℕ) (accepted : checked s ≡ Checked.Accepted n start) (r : ℕ) (names : walked_rule start first ≡ r) (C : Closed (rules_of s) r) where
+module _ (s : List ℕ) (n start : ℕ) (first : List ℕ) (accepted : checked s ≡ Ok (record { n = n; start = start })) (r : ℕ) (names : walked_rule start first ≡ r) (C : Closed (rules_of s) r) where
   abbrev g : Forest ℕ
   g = forest (rules_of s) r
 
@@ -156,7 +154,7 @@ one_place s n start first second cs ds accepted one two word some_one some-two =
         let short = place_short W p A.1 in
         let less = place_short W q B.1 in
         let cells = front_same n (rule_word first) (word_fits s n start first accepted r refl C) (place_at G p) (place_at G q) (omega arith) (omega arith) (place-fits W p A.1) (place-fits W q B.1) fronts in
-        let paths : some p ≡ some q = sym (path-of-place G W.distinct p A.1) ∙ ap (path_of G) cells ∙ path-of-place G W.distinct q B.1 in
+        let paths : Some p ≡ Some q = sym (path-of-place G W.distinct p A.1) ∙ ap (path_of G) cells ∙ path-of-place G W.distinct q B.1 in
         cc
 
 -- the first of a list of tests
@@ -165,20 +163,20 @@ first_of b [] = b
 first_of b (x ∷ xs) = x
 
 -- one call each, with their letters: "two strings of letters .. in walks that aren't refused"
-module _ (s : List ℕ) (n start : ℕ) (first second : List ℕ) (c d : Call) (accepted : checked s ≡ Checked.Accepted n start)
+module _ (s : List ℕ) (n start : ℕ) (first second : List ℕ) (c d : Call) (accepted : checked s ≡ Ok (record { n = n; start = start }))
     (one : Above (rules_of s) start first) (two : Above (rules_of s) start second) (word : rule_word first ≡ rule_word second)
-    (a : (walk_of (lent s first c)).answer ≡ Walked.Accepted) (b : (walk_of (lent s second d)).answer ≡ Walked.Accepted) where
+    (a : (walk_of (lent s first c)).answer ≡ Ok tt) (b : (walk_of (lent s second d)).answer ≡ Ok tt) where
   abbrev walked : Forest ℕ
   walked = forest (rules_of s) (walked_rule start first)
 
   -- an accepted call isn't turned down
-  not-down : (cursor : List ℕ) (e : Call) → Above (rules_of s) start cursor → (walk_of (lent s cursor e)).answer ≡ Walked.Accepted → turned_down n cursor e ≡ false
+  not-down : (cursor : List ℕ) (e : Call) → Above (rules_of s) start cursor → (walk_of (lent s cursor e)).answer ≡ Ok tt → turned_down n cursor e ≡ false
   unfolding Demand3 lefts is_refused first_of
   not-down cursor e above x =
       let refused = (demand3 s n start cursor (e ∷ []) accepted above).refused in
       sym (ap (first_of true) refused) ∙ ap is_refused x
 
-  some-call : (cursor : List ℕ) (e : Call) → (walk_of (lent s cursor e)).answer ≡ Walked.Accepted → some_accepted (lefts walk_of s cursor (e ∷ [])) ≡ true
+  some-call : (cursor : List ℕ) (e : Call) → (walk_of (lent s cursor e)).answer ≡ Ok tt → some_accepted (lefts walk_of s cursor (e ∷ [])) ≡ true
   unfolding some_accepted lefts is_refused
   some-call cursor e x = rw x
 

@@ -1,10 +1,10 @@
 -- The forest of a closed rule of an accepted plan is walkable: its rules are sound, so its nodes are the positions in an expression, each position
 -- has cells of its own, and a letter on positions is a letter on cells. Assumes nothing.
+use Rattle.std.specs.Prelude.{Ok}
 use Prim.Native.Nat.{ℕ}
 use native.Mathlib.Omega.{arith}
 use mathlib.Core.Path.{◌≡◌}
 use mathlib.Core.List.{List}
-use Rattle.plan.specs.declared.Checked.{Checked}
 use Rattle.rule.specs.Sound.{Closed}
 use Rattle.plan.specs.Check.{checked, rules_of}
 use Rattle.plan.proofs.Sound.{checked-plan}
@@ -30,7 +30,7 @@ use Rattle.demand.proofs.Walkable.{Walkable}
 
 -- ---- plans, and any closed rule of one
 
-module _ (s : List ℕ) (n start : ℕ) (e : checked s ≡ Checked.Accepted n start) (r : ℕ) (C : Closed (rules_of s) r) where
+module _ (s : List ℕ) (n start : ℕ) (e : checked s ≡ Ok (record { n = n; start = start })) (r : ℕ) (C : Closed (rules_of s) r) where
   -- the walked rule's expression is a forest's, and the facts of the rules are those of its parts
   pub walked-good : Good Sort.row (expression (rules_of s) r)
   walked-good = closed-row (checked-plan s n start e).sound C
@@ -57,5 +57,5 @@ module _ (s : List ℕ) (n start : ℕ) (e : checked s ≡ Checked.Accepted n st
       }
 
 -- "The start rule is closed."
-pub start-closed : (s : List ℕ) (n start : ℕ) → checked s ≡ Checked.Accepted n start → Closed (rules_of s) start
+pub start-closed : (s : List ℕ) (n start : ℕ) → checked s ≡ Ok (record { n = n; start = start }) → Closed (rules_of s) start
 start-closed s n start e = (checked-plan s n start e).ends

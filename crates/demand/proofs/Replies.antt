@@ -5,12 +5,10 @@ use Prim.Native.Nat.{ℕ}
 use mathlib.Core.Path.{◌≡◌, refl, ap, ap₂, ◌∙◌}
 use mathlib.Core.Bool.{Bool, true, false, cond}
 use mathlib.Core.List.{List, [], ◌∷◌, map}
-use mathlib.Core.Option.{Option, none, some}
+use Rattle.std.specs.Prelude.{Option, None, Some, Result, Ok, Err}
 use Rattle.rule.specs.Sound.{Closed}
 use Rattle.refusal.specs.declared.Refusal.{Refusal}
-use Rattle.plan.specs.declared.Checked.{Checked}
 use Rattle.plan.specs.Check.{checked, rules_of}
-use Rattle.forest.specs.declared.Walked.{Walked}
 use Rattle.forest.specs.Forest.{Forest, forest}
 use Rattle.forest.specs.Place.{Placed, placed_forest}
 use Rattle.forest.specs.Reference.{Path}
@@ -22,25 +20,25 @@ use Rattle.demand.proofs.OneCall.{Came, begins, one-call}
 use Rattle.demand.proofs.Lists.{above-stands}
 
 -- 9 at the first byte that is no letter, or accepted
-unfoldable pub letters_reply : Option ℕ → Walked
-letters_reply none = Walked.Accepted
-letters_reply (some i) = Walked.Refused (Refusal.Letter i)
+unfoldable pub letters_reply : Option ℕ → Result Unit Refusal
+letters_reply None = Ok tt
+letters_reply (Some i) = Err (Refusal.Letter i)
 
 -- 8, else 9, else accepted
-unfoldable pub reply : ℕ → List ℕ → Call → Walked
+unfoldable pub reply : ℕ → List ℕ → Call → Result Unit Refusal
 reply n cursor c =
-    cond (enough_lent c.work cursor c.letters c.answers n) (letters_reply (first_other c.letters 0)) (Walked.Refused Refusal.Lent)
+    cond (enough_lent c.work cursor c.letters c.answers n) (letters_reply (first_other c.letters 0)) (Err Refusal.Lent)
 
 -- a call that begins as 8 and 9 say, and else anywhere: t is 8, x where 9 finds a byte
 begun-reply : (t : Bool) (x : Option ℕ) (n r : ℕ) (p : Path)
     → walked (cond t (letters_judged x (Begun.at n r p)) (Begun.refused Refusal.Lent))
-    ≡ cond t (letters_reply x) (Walked.Refused Refusal.Lent)
+    ≡ cond t (letters_reply x) (Err Refusal.Lent)
 unfolding walked letters_judged letters_reply
-begun-reply true none n r p = refl
-begun-reply true (some i) n r p = refl
+begun-reply true None n r p = refl
+begun-reply true (Some i) n r p = refl
 begun-reply false x n r p = refl
 
-module _ (s : List ℕ) (n start : ℕ) (first : List ℕ) (accepted : checked s ≡ Checked.Accepted n start) (r : ℕ)
+module _ (s : List ℕ) (n start : ℕ) (first : List ℕ) (accepted : checked s ≡ Ok (record { n = n; start = start })) (r : ℕ)
     (names : walked_rule start first ≡ r) (C : Closed (rules_of s) r) where
   abbrev G : Forest Placed
   G = placed_forest (rules_of s) r
@@ -66,7 +64,7 @@ module _ (s : List ℕ) (n start : ℕ) (first : List ℕ) (accepted : checked s
       ap₂ ◌∷◌ (one-reply cursor p S c) (all-replies cs _ q.0 q.1)
 
 -- of a list of calls on an accepted plan, the first cursor above the forest
-pub replies : (s : List ℕ) (n start : ℕ) (cursor : List ℕ) (calls : List Call) → checked s ≡ Checked.Accepted n start → Above (rules_of s) start cursor
+pub replies : (s : List ℕ) (n start : ℕ) (cursor : List ℕ) (calls : List Call) → checked s ≡ Ok (record { n = n; start = start }) → Above (rules_of s) start cursor
     → map (λ (l : Left). l.answer) (lefts walk_of s cursor calls) ≡ map (reply n cursor) calls
 replies s n start cursor calls e a =
     let C = a.in_order.names in

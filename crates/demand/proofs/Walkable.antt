@@ -4,7 +4,7 @@ use Prim.Native.Nat.{ℕ, ◌*◌, ◌≤◌, ◌<◌}
 use mathlib.Core.Path.{◌≡◌}
 use mathlib.Core.Bool.{false}
 use mathlib.Core.List.{List}
-use mathlib.Core.Option.{some}
+use Rattle.std.specs.Prelude.{Some}
 use lib.ListN.{length}
 use Rattle.forest.specs.Forest.{Forest}
 use Rattle.forest.specs.Relabel.{relabel}
@@ -23,9 +23,9 @@ pub record Walkable (n : ℕ) (g : Forest ℕ) (G : Forest Placed) : Type 0 wher
   pub few : n ≤ 16384
   pub forgets : relabel label G ≡ g
   pub distinct : Distinct G
-  pub bounded : (p : Path) (a : Placed) → label_at G p ≡ some a → length a.1 ≤ 3 * n
-  pub fitting : (p : Path) (a : Placed) → label_at G p ≡ some a → AllFitting a.1
-  pub labels : (p : Path) (a : ℕ) → label_at g p ≡ some a → a < nowhere
+  pub bounded : (p : Path) (a : Placed) → label_at G p ≡ Some a → length a.1 ≤ 3 * n
+  pub fitting : (p : Path) (a : Placed) → label_at G p ≡ Some a → AllFitting a.1
+  pub labels : (p : Path) (a : ℕ) → label_at g p ≡ Some a → a < nowhere
   pub near : (p : Path) (c : Letter) → Named G p → is_root c ≡ false → SameButSixteen (place_at G p) (place_at G (moved G c p))
 
 -- a cursor as long as the first one and with its word 1, at the node at path p

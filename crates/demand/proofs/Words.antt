@@ -4,7 +4,8 @@ use Prim.Native.Nat.{ℕ, suc, ◌+◌, ◌<◌}
 use native.Mathlib.Omega.{arith}
 use mathlib.Core.Path.{◌≡◌, refl, sym, ap, ap₂, ◌∙◌}
 use mathlib.Core.List.{List, [], ◌∷◌, ◌++◌, map, append_assoc}
-use mathlib.Core.Option.{Option, none, some, none-ne-some}
+use Rattle.std.specs.Prelude.{Option, None, Some}
+use Rattle.std.proofs.lemmas.Option.{none-some}
 use lib.ListN.{length, drop, length-append, length-map}
 use Rattle.words.specs.Number.{number, bytes}
 use Rattle.words.proofs.Laws.{number-bytes, length-bytes}
@@ -53,12 +54,12 @@ length-answers g [] p = refl
 length-answers g (c ∷ cs) p = ap suc (length-answers g cs (moved g c p))
 
 -- a letter for each byte where every byte is a letter
-no_other : (x : Option Letter) (i : ℕ) (later : Option ℕ) → other_at x i later ≡ none → (c : Letter) × (x ≡ some c) × (later ≡ none)
+no_other : (x : Option Letter) (i : ℕ) (later : Option ℕ) → other_at x i later ≡ None → (c : Letter) × (x ≡ Some c) × (later ≡ None)
 unfolding other_at
-no_other none i later e = absurd (none-ne-some _ (sym e))
-no_other (some c) i later e = (c, refl, e)
+no_other None i later e = absurd (none-some _ (sym e))
+no_other (Some c) i later e = (c, refl, e)
 
-pub length-letters : (bs : List ℕ) (i : ℕ) → first_other bs i ≡ none → length (letters_of bs) ≡ length bs
+pub length-letters : (bs : List ℕ) (i : ℕ) → first_other bs i ≡ None → length (letters_of bs) ≡ length bs
 unfolding letters_of first_other and_letters
 length-letters [] i e = refl
 length-letters (b ∷ bs) i e =
@@ -66,12 +67,12 @@ length-letters (b ∷ bs) i e =
     rw h.1 (ap suc (length-letters bs (suc i) h.2))
 
 -- the words of answers, where every label is below that for nowhere
-word_fits : (x : Option ℕ) → ((a : ℕ) → x ≡ some a → a < nowhere) → answer_word x < 4294967296
+word_fits : (x : Option ℕ) → ((a : ℕ) → x ≡ Some a → a < nowhere) → answer_word x < 4294967296
 unfolding answer_word
-word_fits none h = omega arith
-word_fits (some a) h = let b = h a refl in omega arith
+word_fits None h = omega arith
+word_fits (Some a) h = let b = h a refl in omega arith
 
-pub answers-fit : (g : Forest ℕ) → ((p : Path) (a : ℕ) → label_at g p ≡ some a → a < nowhere) → (cs : List Letter) (p : Path) → AllWords (map answer_word (answers g cs p))
+pub answers-fit : (g : Forest ℕ) → ((p : Path) (a : ℕ) → label_at g p ≡ Some a → a < nowhere) → (cs : List Letter) (p : Path) → AllWords (map answer_word (answers g cs p))
 unfolding answers
 answers-fit g h [] p = tt
 answers-fit g h (c ∷ cs) p =

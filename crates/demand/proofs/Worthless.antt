@@ -3,6 +3,7 @@
 -- (document 02, Note 10) from above the forest of a rule by its number. The fields `small` and `local` speak of the
 -- forms of cells, which no walker makes: each shuts out a worthless form. A spread that says 11 before measuring isn't the
 -- definition's. Assumes nothing.
+use Rattle.std.specs.Prelude.{Result, Ok, Err}
 use Prim.Native.Nat.{ℕ, ◌+◌, ◌≤◌}
 use native.Mathlib.Omega.{arith}
 use mathlib.Core.Path.{◌≡◌, refl, ap}
@@ -12,7 +13,6 @@ use mathlib.Core.Bool.{Bool, true, true≢false}
 use lib.ListN.{length, get_or, take, drop, replicate}
 use Rattle.words.specs.Number.{number, bytes}
 use Rattle.refusal.specs.declared.Refusal.{Refusal}
-use Rattle.plan.specs.declared.Written.{Written}
 use Rattle.record.specs.Format.{high_length, most_label}
 use Rattle.rule.specs.Rule.{closed}
 use Rattle.rule.specs.Sound.{kind_in}
@@ -20,7 +20,6 @@ use Rattle.reach.specs.Reaches.{lowest_cycle, cycle_from, reaches, within, any_n
 use Rattle.judge.specs.Judge.{cycle_judged}
 use Rattle.plan.specs.Check.{checked, rules_of}
 use Rattle.words.specs.Front.{in_front}
-use Rattle.forest.specs.declared.Walked.{Walked}
 use Rattle.forest.specs.Forest.{Forest, forest, weigh, text}
 use Rattle.forest.specs.Relabel.{relabel}
 use Rattle.forest.specs.Place.{Side, Cell, Cells, Placed, placed_forest, first_cells}
@@ -42,9 +41,9 @@ alike m v given = in_front (answers_bytes (replicate m v)) given
 other : Left → List ℕ → List ℕ → Left
 other l answers cursor = go l.answer
   where
-    go : Walked → Left
-    go Walked.Accepted = record { answer = l.answer; work = l.work; cursor = cursor; answers = answers }
-    go (Walked.Refused r) = l
+    go : Result Unit Refusal → Left
+    go (Ok _) = record { answer = l.answer; work = l.work; cursor = cursor; answers = answers }
+    go (Err r) = l
 
 -- "one that walks the first letter and repeats its label": shut out by `answered`
 first_only : Lent → Lent
@@ -68,7 +67,7 @@ says v l = other (walk_of l) (alike (length l.letters) v l.answers) (walk_of l).
 
 -- "one that refuses every plan with 3": `refused`
 pub refuses : Walk
-refuses l = record { answer = Walked.Refused Refusal.Distance; work = l.work; cursor = l.cursor; answers = l.answers }
+refuses l = record { answer = Err Refusal.Distance; work = l.work; cursor = l.cursor; answers = l.answers }
 
 -- a walk that leaves one byte of the cursor as v
 spoils : ℕ → ℕ → Walk
@@ -117,8 +116,8 @@ pub alike_cells : ℕ → Forest Placed
 alike_cells m = relabel (λ (a : Placed). (a.0, replicate m (a.0, 0, 0, 0))) (placed_forest (rules_of sample) 7)
 
 -- "a spread that says 11 before measuring"
-pub room_first : List ℕ → List ℕ → List ℕ → Written
-room_first s work out = Written.Refused Refusal.Room
+pub room_first : List ℕ → List ℕ → List ℕ → Result ℕ Refusal
+room_first s work out = Err Refusal.Room
 
 -- a call of the letters a f on the sample plan, from above the forest
 call : Call
@@ -171,9 +170,9 @@ first_cell (c ∷ []) = c
 first_cell (c ∷ d ∷ cs) = first_cell (d ∷ cs)
 
 -- the length that spread gives
-abbrev length_given : Written → ℕ
-length_given (Written.Length m) = m
-length_given (Written.Refused r) = 0
+abbrev length_given : Result ℕ Refusal → ℕ
+length_given (Ok m) = m
+length_given (Err r) = 0
 
 pub record Worthless : Type 0 where
   pub first_repeated : Demand3 repeats → ⊥
@@ -226,5 +225,5 @@ worthless =
           ap (λ (l : List ℕ). get_or l 0 0)
           ((d sample 8 7 first first (letters-call [] ∷ []) (letters-call (97 ∷ []) ∷ []) starred.accepted in_order in_order refl refl refl).0 refl) in
           omega arith;
-      no_room_first = λ e. let h : ◌≡◌ {A = ℕ} 0 33 = ap (λ (f : List ℕ → List ℕ → List ℕ → Written). length_given (f sample (replicate 512 0) (replicate 33 0))) e in omega arith;
+      no_room_first = λ e. let h : ◌≡◌ {A = ℕ} 0 33 = ap (λ (f : List ℕ → List ℕ → List ℕ → Result ℕ Refusal). length_given (f sample (replicate 512 0) (replicate 33 0))) e in omega arith;
     }

@@ -1,7 +1,7 @@
 -- A walk as a function from what a call is lent to what it answers and leaves, and lists of calls.
-use Rattle.std.specs.Prelude.{ℕ, List, [], ◌∷◌}
+use Rattle.std.specs.Prelude.{ℕ, List, [], ◌∷◌, Result}
+use Rattle.refusal.specs.declared.Refusal.{Refusal}
 use Rattle.plan.specs.Check.{rules_of}
-use Rattle.forest.specs.declared.Walked.{Walked}
 use Rattle.forest.specs.Walk.{begun, walked, walked_work, cursor_after, answers_after}
 
 -- "Walk (plan, work, cursor, letters, answers)": what a call is lent, as bytes
@@ -14,7 +14,7 @@ pub record Lent : Type 0 where
 
 -- what it answers and leaves; plan and letters are only read
 pub record Left : Type 0 where
-  pub answer : Walked
+  pub answer : Result Unit Refusal
   pub work : List ℕ
   pub cursor : List ℕ
   pub answers : List ℕ
@@ -23,7 +23,7 @@ pub record Left : Type 0 where
 abbrev pub lends : List ℕ → List ℕ → List ℕ → List ℕ → List ℕ → Lent
 lends plan work cursor letters given = record { plan = plan; work = work; cursor = cursor; letters = letters; answers = given }
 
-abbrev pub leaves : Walked → List ℕ → List ℕ → List ℕ → Left
+abbrev pub leaves : Result Unit Refusal → List ℕ → List ℕ → List ℕ → Left
 leaves x work cursor given = record { answer = x; work = work; cursor = cursor; answers = given }
 
 abbrev pub Walk : Type 0

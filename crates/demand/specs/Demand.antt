@@ -1,14 +1,13 @@
 -- Demand 3 (document 01, "The finger of demand 3"), as a predicate on a walk. The reference walker (document 01's finger) is fed
 -- the plan, the first cursor, and each call's letters and slice lengths, and nothing that the walk wrote.
-use Rattle.std.specs.Prelude.{ℕ, zero, suc, ◌+◌, ◌-◌, ◌*◌, ◌≤◌, min, ◌≡◌, Bool, true, false, cond, not, ◌&&◌, ◌||◌, List, [], ◌∷◌, ◌++◌, map, length, take, drop, replicate}
-use Rattle.std.proofs.Math.Option.{Option, none, some}
+use Rattle.std.specs.Prelude.{ℕ, zero, suc, ◌+◌, ◌-◌, ◌*◌, ◌≤◌, min, ◌≡◌, Bool, true, false, cond, not, ◌&&◌, ◌||◌, List, [], ◌∷◌, ◌++◌, map, length, take, drop, replicate, Result, Ok, Err}
+use Rattle.refusal.specs.declared.Refusal.{Refusal}
+use Rattle.std.specs.Prelude.{Option, None, Some}
 use Rattle.words.specs.Number.{number}
 use Rattle.rule.specs.declared.Rule.{Rule}
 use Rattle.rule.specs.Sound.{Closed}
-use Rattle.plan.specs.declared.Checked.{Checked}
 use Rattle.record.specs.Record.{word_length}
 use Rattle.plan.specs.Check.{checked, rules_of}
-use Rattle.forest.specs.declared.Walked.{Walked}
 use Rattle.forest.specs.Forest.{Forest, forest}
 use Rattle.forest.specs.Place.{Cells, Placed, placed_forest, first_cells}
 use Rattle.forest.specs.Letter.{Letter, is_root}
@@ -17,17 +16,17 @@ use Rattle.forest.specs.Walk.{answer_length, cell_length, cursor_words, enough_l
 use Rattle.demand.specs.Calls.{Walk, Call, Left, lefts, cursor_after_calls}
 
 unfoldable pub is_none : Option ℕ → Bool
-is_none none = true
-is_none (some i) = false
+is_none None = true
+is_none (Some i) = false
 
 -- "In the list a call is refused exactly when 8 or 9 says so": from n, the slices' lengths and the letters
 unfoldable pub turned_down : ℕ → List ℕ → Call → Bool
 unfolding enough_lent first_other is_none
 turned_down n cursor c = not (enough_lent c.work cursor c.letters c.answers n && is_none (first_other c.letters 0))
 
-unfoldable pub is_refused : Walked → Bool
-is_refused Walked.Accepted = false
-is_refused (Walked.Refused r) = true
+unfoldable pub is_refused : Result Unit Refusal → Bool
+is_refused (Ok _) = false
+is_refused (Err r) = true
 
 -- "A call that 8 or 9 turns down gives no answers and leaves the path. Any other takes its letters in turn."
 unfoldable pub finger_path : Forest ℕ → (Call → Bool) → List Call → Path → Path
@@ -118,7 +117,7 @@ unfoldable pub Demand3 : Walk → Type 0
 unfolding walked_rule turned_down finger_path lefts cursor_after_calls forest placed_forest
 Demand3 w =
     (plan : List ℕ) (n start : ℕ) (cursor : List ℕ) (calls : List Call)
-    → checked plan ≡ Checked.Accepted n start
+    → checked plan ≡ Ok (record { n = n; start = start })
     → Above (rules_of plan) start cursor
     → Meets n (forest (rules_of plan) (walked_rule start cursor)) (placed_forest (rules_of plan) (walked_rule start cursor)) (turned_down n cursor) calls
     (lefts w plan cursor calls)

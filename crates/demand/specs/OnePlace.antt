@@ -1,7 +1,6 @@
 -- Document 02, Note 14: "We compare stored places byte by byte to see who stands where." As a predicate on a walk, over lists of calls.
-use Rattle.std.specs.Prelude.{ℕ, ◌*◌, ◌≡◌, ◌↔◌, true, List, [], take}
+use Rattle.std.specs.Prelude.{ℕ, ◌*◌, ◌≡◌, ◌↔◌, true, List, [], take, Ok}
 use Rattle.record.specs.Record.{word_length}
-use Rattle.plan.specs.declared.Checked.{Checked}
 use Rattle.plan.specs.Check.{checked, rules_of}
 use Rattle.forest.specs.Forest.{Forest, forest}
 use Rattle.forest.specs.Walk.{cursor_words, rule_word, walked_rule}
@@ -19,7 +18,7 @@ unfoldable pub OnePlace : Walk → Type 0
 unfolding walked_rule turned_down finger_path lefts cursor_after_calls forest some_accepted
 OnePlace w =
     (plan : List ℕ) (n start : ℕ) (first second : List ℕ) (cs ds : List Call)
-    → checked plan ≡ Checked.Accepted n start
+    → checked plan ≡ Ok (record { n = n; start = start })
     → Above (rules_of plan) start first
     → Above (rules_of plan) start second
     → rule_word first ≡ rule_word second

@@ -3,7 +3,7 @@
 use Prim.Native.Nat.{ℕ}
 use mathlib.Core.Path.{◌≡◌, refl}
 use mathlib.Core.Bool.{false}
-use mathlib.Core.Option.{Option, none}
+use Rattle.std.specs.Prelude.{Option, None}
 use Rattle.rule.specs.declared.Rule.{Rule}
 use Rattle.forest.specs.Place.{Cells, Side}
 use Rattle.model.specs.Facts.{Facts}
@@ -30,7 +30,7 @@ other_outer (Rule.Fill b c) a hf = absurd (hf b c refl)
 other_outer (Rule.Part x b c) a hf = refl
 other_outer (Rule.Join b c) a hf = refl
 
-pub other-inner : (x : Rule) → NoFill x → inner_of x ≡ none
+pub other-inner : (x : Rule) → NoFill x → inner_of x ≡ None
 unfolding inner_of
 other-inner Rule.Empty hf = refl
 other-inner (Rule.Pair b c) hf = refl
@@ -48,7 +48,7 @@ other-part (Rule.Fill b c) hp = refl
 other-part (Rule.Part x b c) hp = absurd (hp x b c refl)
 other-part (Rule.Join b c) hp = refl
 
-pub other-hole : (F : Facts) (s : Side) (x : Rule) (cs : Cells) → NoPart x → beside_hole F s x cs ≡ none
+pub other-hole : (F : Facts) (s : Side) (x : Rule) (cs : Cells) → NoPart x → beside_hole F s x cs ≡ None
 unfolding beside_hole
 other-hole F s Rule.Empty cs hp = refl
 other-hole F s (Rule.Pair b c) cs hp = refl
@@ -57,7 +57,7 @@ other-hole F s (Rule.Fill b c) cs hp = refl
 other-hole F s (Rule.Part x b c) cs hp = absurd (hp x b c refl)
 other-hole F s (Rule.Join b c) cs hp = refl
 
-pub other-child : (F : Facts) (s : Side) (x : Rule) (cs : Cells) → NoNode x → NoPart x → child_of F s x cs ≡ none
+pub other-child : (F : Facts) (s : Side) (x : Rule) (cs : Cells) → NoNode x → NoPart x → child_of F s x cs ≡ None
 unfolding child_of
 other-child F s Rule.Empty cs hn hp = refl
 other-child F s (Rule.Pair b c) cs hn hp = refl
@@ -75,7 +75,7 @@ other-label (Rule.Fill b c) hn hp = refl
 other-label (Rule.Part x b c) hn hp = absurd (hp x b c refl)
 other-label (Rule.Join b c) hn hp = refl
 
-pub other_row : (x : Rule) (k d : ℕ) → NoNode x → NoPart x → row_under x k d ≡ none
+pub other_row : (x : Rule) (k d : ℕ) → NoNode x → NoPart x → row_under x k d ≡ None
 unfolding row_under
 other_row Rule.Empty k d hn hp = refl
 other_row (Rule.Pair b c) k d hn hp = refl

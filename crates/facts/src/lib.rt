@@ -58,6 +58,7 @@ pub fn is_empty_at(work: &[u8], r: u16) -> bool
 }
 
 // Where a row keeps the link of a side.
+#[tactic(auto, unfolding(side::specs::Side::side_of))]
 fn link_offset(side: Side) -> usize
     ensures { LinkAt (side_of side) result }
 {
@@ -100,6 +101,7 @@ pub fn depth_at(work: &[u8], side: Side, r: u16) -> u16
 }
 
 // A rule further on the way from rule r.
+#[tactic(auto, unfolding(crate::specs::Facts::link_in))]
 fn jump_at(work: &[u8], side: Side, r: u16) -> u16
     requires { In work.now r }
     ensures { result ≡ (link_in work.now (side_of side) r).jump }
@@ -152,6 +154,7 @@ impl Link {
     }
 
     // The link of a rule that has no step.
+    #[tactic(auto, unfolding(crate::specs::Build::link_own))]
     pub fn own(r: u16) -> Link
         ensures { result ≡ link_own r }
     {

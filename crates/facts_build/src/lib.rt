@@ -5,7 +5,7 @@ ghost use Rattle.std.specs.Prelude.{◌≡◌};
 ghost use Rattle.work_rows.specs.Rows.{first_rules};
 ghost use Rattle.facts.specs.Facts.{Built, In};
 ghost use Rattle.rule.specs.declared.Rule.{Rule};
-ghost use Rattle.facts_build.specs.RuleFacts.{flag, put_rule_facts, own_facts, known_facts, stepping_facts, BothSteps, rule_facts_of};
+ghost use Rattle.facts_build.specs.RuleFacts.{put_rule_facts, own_facts, known_facts, stepping_facts, BothSteps, rule_facts_of};
 ghost use Rattle.facts_build.specs.Buildable.{Buildable};
 ghost use Rattle.facts.specs.Build.{Ready};
 
@@ -20,13 +20,6 @@ struct RuleFacts {
     empty: bool,
     left: Link,
     right: Link,
-}
-
-// A test as a word.
-fn flag(test: bool) -> u16
-    ensures { result ≡ flag test }
-{
-    if test { 1 } else { 0 }
 }
 
 impl RuleFacts {
@@ -93,9 +86,7 @@ impl RuleFacts {
             Rule::Pair { first, second } => RuleFacts::of_pair(work, r, first, second),
             Rule::Join { outer, inner } => RuleFacts::stepping(work, r, outer, inner),
             Rule::Empty => RuleFacts::own(r, true),
-            Rule::Node { .. } => RuleFacts::own(r, false),
-            Rule::Fill { .. } => RuleFacts::own(r, false),
-            Rule::Part { .. } => RuleFacts::own(r, false),
+            Rule::Node { .. } | Rule::Fill { .. } | Rule::Part { .. } => RuleFacts::own(r, false),
         }
     }
 
@@ -105,7 +96,7 @@ impl RuleFacts {
         ensures { work.new ≡ put_rule_facts work.old r self }
     {
         work_rows::put16(work, r, Link::REPRESENTATIVE, self.representative);
-        work_rows::put16(work, r, Link::EMPTINESS, flag(self.empty));
+        work_rows::put16(work, r, Link::EMPTINESS, u16::from(self.empty));
         self.left.write(work, Side::Left, r);
         self.right.write(work, Side::Right, r);
     }
@@ -116,12 +107,10 @@ pub fn build(work: &mut [u8], n: u16)
     requires { Buildable n work.old }
     ensures { Built (first_rules work.old n) n work.old work.new }
 {
-    let mut i: u16 = 0;
-    while i < n {
+    for i in 0..n {
         let r = work_rows::order_at(work, n, i);
         let rule = work_rows::rule_at(work, r);
         let facts = RuleFacts::of(work, r, rule);
         facts.write(work, r);
-        i += 1;
     }
 }

@@ -7,7 +7,7 @@ use native.Mathlib.Omega.{arith}
 use mathlib.Core.Path.{◌≡◌, refl}
 use mathlib.Core.Bool.{Bool, true, false, cond}
 use mathlib.Core.List.{List, [], ◌∷◌}
-use mathlib.Core.Option.{some}
+use Rattle.std.specs.Prelude.{Some}
 use lib.ListN.{length}
 use lib.Dec.{eqb}
 use borrow.Author.Tests.{eq-eqb}
@@ -159,5 +159,5 @@ module _ {R : List Rule} {rank : ℕ → ℕ} (S : Sound R rank) {r : ℕ} (c : 
   pub cells-bound : Each (Short (3 * length R)) (placed_forest R r)
   cells-bound = each_weaken (Short (2 * length R - 2)) (Short (3 * length R)) (λ p h. omega arith) (placed_forest R r) cells-sharp
 
-  pub place-bound : (p : Path) (a : ℕ) (cs : Cells) → label_at (placed_forest R r) p ≡ some (a, cs) → length cs ≤ 3 * length R
+  pub place-bound : (p : Path) (a : ℕ) (cs : Cells) → label_at (placed_forest R r) p ≡ Some (a, cs) → length cs ≤ 3 * length R
   place-bound p a cs q = each-label_at (Short (3 * length R)) (placed_forest R r) p (a, cs) cells-bound q

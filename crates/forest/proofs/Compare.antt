@@ -6,7 +6,7 @@ use mathlib.Core.Logic.{◌↔◌, ◌⊎◌, inl, inr}
 use mathlib.Core.Path.{◌≡◌, refl, sym, ◌∙◌, ap}
 use mathlib.Core.Bool.{Bool, true, false, cond, false≢true}
 use mathlib.Core.List.{List, [], ◌∷◌, ◌++◌}
-use mathlib.Core.Option.{Option, none, some, map}
+use Rattle.std.specs.Prelude.{Option, None, Some, option_map, Result, Ok, Err}
 use lib.ListN.{length, length-append}
 use lib.Dec.{leb}
 use borrow.Author.Tests.{leb-true, leb-false, le-leb, lt-leb, eq-eqb}
@@ -27,11 +27,23 @@ use Rattle.forest.proofs.Search.{path-cells}
 use Rattle.forest.proofs.WalkedRule.{judged-holds}
 
 -- a same or a differ
-unfoldable pub settled : Compared → Bool
-settled (Compared.Same k) = true
-settled (Compared.Differ k) = true
-settled (Compared.Spent k) = false
-settled (Compared.Refused x) = false
+unfoldable pub settled : Result Compared Refusal → Bool
+settled (Ok (Compared.Same k)) = true
+settled (Ok (Compared.Differ k)) = true
+settled (Ok (Compared.Spent k)) = false
+settled (Err x) = false
+
+-- an answer that isn't turned down is what was found
+abbrev given : Compared → Result Compared Refusal
+given x = Ok x
+
+kept : Compared → Result Compared Refusal → Compared
+kept x (Ok y) = y
+kept x (Err e) = x
+
+pub answer-exactly : {x y : Compared} {P : Type 0} → (x ≡ y) ↔ P → (◌≡◌ {A = Result Compared Refusal} (Ok x) (Ok y)) ↔ P
+unfolding kept
+answer-exactly {x} h = (λ e. h.0 (ap (kept x) e), λ p. ap Ok (h.1 p))
 
 -- the count against the budget
 pub within-enough : (b : ℕ) (x : Found) → x.1 ≤ b → within b x ≡ cond x.0 (Compared.Same x.1) (Compared.Differ x.1)
@@ -45,18 +57,18 @@ within-spent b x h = rw (lt-leb x.1 b h)
 by-budget : {P : Type 0} (b : ℕ) (x : Found) → (x.1 ≤ b → P) → (b < x.1 → P) → P
 by-budget b x f g = by_bool (leb x.1 b) (λ u. f (leb-true x.1 b u)) (λ u. g (leb-false x.1 b u))
 
-verdict-settled : (t : Bool) (k : ℕ) → settled (cond t (Compared.Same k) (Compared.Differ k)) ≡ true
+verdict-settled : (t : Bool) (k : ℕ) → settled (Ok (cond t (Compared.Same k) (Compared.Differ k))) ≡ true
 unfolding settled
 verdict-settled true k = refl
 verdict-settled false k = refl
 
-settled-enough : (b : ℕ) (x : Found) → settled (within b x) ≡ true → x.1 ≤ b
+settled-enough : (b : ℕ) (x : Found) → settled (Ok (within b x)) ≡ true → x.1 ≤ b
 unfolding settled
 settled-enough b x h =
-    by-budget b x (λ l. l) (λ l. let q : false ≡ true = sym (ap settled (within-spent b x l)) ∙ h in absurd (false≢true q))
+    by-budget b x (λ l. l) (λ l. let q : false ≡ true = sym (ap settled (ap given (within-spent b x l))) ∙ h in absurd (false≢true q))
 
 -- "A larger budget must never change a same or a differ."
-pub within-larger : (b c : ℕ) (x : Found) → b ≤ c → settled (within b x) ≡ true → within c x ≡ within b x
+pub within-larger : (b c : ℕ) (x : Found) → b ≤ c → settled (Ok (within b x)) ≡ true → within c x ≡ within b x
 within-larger b c x l h =
     let k : x.1 ≤ b = settled-enough b x h in
     within-enough c x (omega arith) ∙ sym (within-enough b x k)
@@ -64,7 +76,7 @@ within-larger b c x l h =
 -- "Spent comes only if that number is above the budget, and then always; its count is the budget."
 verdict-unspent : {A : Type 0} (t : Bool) (k b : ℕ) → cond t (Compared.Same k) (Compared.Differ k) ≡ Compared.Spent b → A
 unfolding settled
-verdict-unspent t k b e = absurd (false≢true (sym (ap settled e) ∙ verdict-settled t k))
+verdict-unspent t k b e = absurd (false≢true (sym (ap settled (ap given e)) ∙ verdict-settled t k))
 
 pub within-spent-exactly : (b : ℕ) (x : Found) → (within b x ≡ Compared.Spent b) ↔ (b < x.1)
 within-spent-exactly b x =
@@ -100,22 +112,22 @@ module _ (s work first second : List ℕ) (b c : ℕ) (l : b ≤ c) where
   unfolding compared_at
   larger-at R (refused x) y h = refl
   larger-at R (at n r p) (refused y) h = refl
-  larger-at R (at n r p) (at m t q) h = within-larger b c (pairs_found (subtree_at (forest R r) p) (subtree_at (forest R t) q)) l h
+  larger-at R (at n r p) (at m t q) h = ap Ok (within-larger b c (pairs_found (subtree_at (forest R r) p) (subtree_at (forest R t) q)) l h)
 
-  larger-from : (k : Checked) → settled (compared_from s work first second b k) ≡ true
+  larger-from : (k : Result Checked Refusal) → settled (compared_from s work first second b k) ≡ true
       → compared_from s work first second c k ≡ compared_from s work first second b k
   unfolding compared_from
-  larger-from (Checked.Refused x) h = refl
-  larger-from (Checked.Accepted n r) h = go (enough_compared work first second n) h
+  larger-from (Err x) h = refl
+  larger-from (Ok z) h = go (enough_compared work first second z.n) h
     where
       x : Begun
-      x = node_judged (place_judged (rules_of s) n r first)
+      x = node_judged (place_judged (rules_of s) z.n z.start first)
 
       y : Begun
-      y = node_judged (place_judged (rules_of s) n r second)
+      y = node_judged (place_judged (rules_of s) z.n z.start second)
 
-      answer : ℕ → Bool → Compared
-      answer k t = cond t (compared_at (rules_of s) k x y) (Compared.Refused Refusal.Lent)
+      answer : ℕ → Bool → Result Compared Refusal
+      answer k t = cond t (compared_at (rules_of s) k x y) (Err Refusal.Lent)
 
       go : (t : Bool) → settled (answer b t) ≡ true → answer c t ≡ answer b t
       go true g = larger-at (rules_of s) x y g
@@ -127,19 +139,19 @@ module _ (s work first second : List ℕ) (b c : ℕ) (l : b ≤ c) where
 
 -- a plan that is accepted, with enough lent, and two cursors that stand at the nodes at p of rule r's forest and at q of rule t's
 pub record Comparable (s work first second : List ℕ) (n start r t : ℕ) (p q : Path) : Type 0 where
-  pub accepted : checked s ≡ Checked.Accepted n start
+  pub accepted : checked s ≡ Ok (record { n = n; start = start })
   pub lent : enough_compared work first second n ≡ true
   pub one : node_judged (place_judged (rules_of s) n start first) ≡ at n r p
   pub two : node_judged (place_judged (rules_of s) n start second) ≡ at n t q
 
 module _ {s work first second : List ℕ} {n start r t : ℕ} {p q : Path} (h : Comparable s work first second n start r t p q) (b : ℕ) where
   -- then the answer is the budget's
-  pub compares : compare s work first second b ≡ within b (pairs_found (subtree_at (forest (rules_of s) r) p) (subtree_at (forest (rules_of s) t) q))
+  pub compares : compare s work first second b ≡ Ok (within b (pairs_found (subtree_at (forest (rules_of s) r) p) (subtree_at (forest (rules_of s) t) q)))
   unfolding compare compared_from compared_at
   compares = rw (h.accepted, h.lent, h.one, h.two)
 
-  pub spent-exactly : (compare s work first second b ≡ Compared.Spent b) ↔ (b < (pairs_found (subtree_at (forest (rules_of s) r) p) (subtree_at (forest (rules_of s) t) q)).1)
-  spent-exactly = rw compares (within-spent-exactly b (pairs_found (subtree_at (forest (rules_of s) r) p) (subtree_at (forest (rules_of s) t) q)))
+  pub spent-exactly : (compare s work first second b ≡ Ok (Compared.Spent b)) ↔ (b < (pairs_found (subtree_at (forest (rules_of s) r) p) (subtree_at (forest (rules_of s) t) q)).1)
+  spent-exactly = rw compares (answer-exactly (within-spent-exactly b (pairs_found (subtree_at (forest (rules_of s) r) p) (subtree_at (forest (rules_of s) t) q))))
 
 -- a path that is judged is that of a node of the forest
 judged-at : (x : Begun) (n r : ℕ) (p : Path) → node_judged x ≡ at n r p → (x ≡ at n r p) × (p ≡ [] → ⊥)
@@ -148,28 +160,28 @@ judged-at (refused x) n r p e = (cc, λ q. let z : ◌≡◌ {A = ℕ} 0 1 = cc 
 judged-at (at m t []) n r p e = (cc, λ q. let z : ◌≡◌ {A = ℕ} 0 1 = cc in omega arith)
 judged-at (at m t (i ∷ o)) n r p e = (e, λ q. let z : ◌≡◌ {A = ℕ} 0 1 = cc in omega arith)
 
-path-node : (G : Forest Placed) (cs : Cells) (p : Path) → path_of G cs ≡ some p → (p ≡ [] → ⊥) → (a : Placed) × (label_at G p ≡ some a)
+path-node : (G : Forest Placed) (cs : Cells) (p : Path) → path_of G cs ≡ Some p → (p ≡ [] → ⊥) → (a : Placed) × (label_at G p ≡ Some a)
 unfolding path_of place_at cells_of
 path-node G [] p e f = absurd (f (cc))
 path-node G (c ∷ cs) p e f = go (label_at G p) refl (path-cells G (c ∷ cs) p e)
   where
-    go : (x : Option Placed) → label_at G p ≡ x → cells_of (label_at G p) ≡ c ∷ cs → (a : Placed) × (label_at G p ≡ some a)
-    go none u g = absurd (let h : [] ≡ c ∷ cs = sym (ap cells_of u) ∙ g in let z : ◌≡◌ {A = ℕ} 0 1 = cc in omega arith)
-    go (some a) u g = (a, u)
+    go : (x : Option Placed) → label_at G p ≡ x → cells_of (label_at G p) ≡ c ∷ cs → (a : Placed) × (label_at G p ≡ Some a)
+    go None u g = absurd (let h : [] ≡ c ∷ cs = sym (ap cells_of u) ∙ g in let z : ◌≡◌ {A = ℕ} 0 1 = cc in omega arith)
+    go (Some a) u g = (a, u)
 
 pub judged-node : (R : List Rule) (n start r : ℕ) (cursor : List ℕ) (p : Path) → node_judged (place_judged R n start cursor) ≡ at n r p
-    → (a : ℕ) × (label_at (forest R r) p ≡ some a)
+    → (a : ℕ) × (label_at (forest R r) p ≡ Some a)
 judged-node R n start r cursor p e =
     let j = judged-at (place_judged R n start cursor) n r p e in
     let x = path-node (placed_forest R r) (cells_in cursor (used_cells cursor)) p (judged-holds R n start n r cursor p j.0).leads j.1 in (
       x.0.0,
       ap (λ (g : Forest ℕ). label_at g p) (sym (placed_forest-forgets R r))
           ∙ label_at-relabel label (placed_forest R r) p
-          ∙ ap (map label) x.1,
+          ∙ ap (option_map label) x.1,
     )
 
 -- the subtree at a node has the node, so a comparison counts at least one
-pub node-listed : (d : ℕ) (g : Forest ℕ) (a : ℕ) → top g ≡ some a → (xs : List (ℕ × ℕ)) × (listed d (first_tree g) ≡ (a, d) ∷ xs)
+pub node-listed : (d : ℕ) (g : Forest ℕ) (a : ℕ) → top g ≡ Some a → (xs : List (ℕ × ℕ)) × (listed d (first_tree g) ≡ (a, d) ∷ xs)
 unfolding top first_tree listed
 node-listed d Forest.none a e = absurd (let z : ◌≡◌ {A = ℕ} 0 1 = cc in omega arith)
 node-listed d (Forest.tree b c f) a e = (_, begins _ (cc))
@@ -182,7 +194,7 @@ unfolding found
 found-least x xs [] = omega arith
 found-least x xs (y ∷ ys) = by_bool (same_node x y) (λ u. rw u (omega arith)) (λ u. rw u (omega arith))
 
-pub pairs-least : (g f : Forest ℕ) (p : Path) (a : ℕ) → label_at g p ≡ some a → 1 ≤ (pairs_found (subtree_at g p) f).1
+pub pairs-least : (g f : Forest ℕ) (p : Path) (a : ℕ) → label_at g p ≡ Some a → 1 ≤ (pairs_found (subtree_at g p) f).1
 unfolding pairs_found label_at subtree_at
 pairs-least g f p a e =
     let h = node-listed 0 (node_at g p) a e in
@@ -190,7 +202,7 @@ pairs-least g f p a e =
 
 -- a budget of 0 is always spent
 pub spent-zero : {s work first second : List ℕ} {n start r t : ℕ} {p q : Path} → Comparable s work first second n start r t p q
-    → compare s work first second 0 ≡ Compared.Spent 0
+    → compare s work first second 0 ≡ Ok (Compared.Spent 0)
 spent-zero {s} {first = first} {n = n} {start = start} {r = r} {t = t} {p = p} {q = q} h =
     let a = judged-node (rules_of s) n start r first p h.one in
     (spent-exactly h 0).1 (pairs-least (forest (rules_of s) r) (subtree_at (forest (rules_of s) t) q) p a.0 a.1)
@@ -207,13 +219,13 @@ found-same (x ∷ xs) = rw (node-same x, found-same xs)
 
 -- the same place twice is the same, or spent
 pub compares-same : {s work cursor : List ℕ} {n start r : ℕ} {p : Path} → Comparable s work cursor cursor n start r r p p → (b : ℕ)
-    → (compare s work cursor cursor b ≡ Compared.Same (length (listed 0 (subtree_at (forest (rules_of s) r) p)))) ⊎ (compare s work cursor cursor b ≡ Compared.Spent b)
+    → (compare s work cursor cursor b ≡ Ok (Compared.Same (length (listed 0 (subtree_at (forest (rules_of s) r) p))))) ⊎ (compare s work cursor cursor b ≡ Ok (Compared.Spent b))
 unfolding pairs_found
 compares-same {s} {r = r} {p = p} h b =
     let xs : List (ℕ × ℕ) = listed 0 (subtree_at (forest (rules_of s) r) p) in
     let x : Found = (true, length xs) in
-    let e = compares h b ∙ ap (within b) (found-same xs) in
-    by-budget b x (λ l. inl (e ∙ within-enough b x l)) (λ l. inr (e ∙ within-spent b x l))
+    let e = compares h b ∙ ap (λ (y : Found). given (within b y)) (found-same xs) in
+    by-budget b x (λ l. inl (e ∙ ap Ok (within-enough b x l))) (λ l. inr (e ∙ ap Ok (within-spent b x l)))
 
 -- a list has a pair for each node
 pub listed-length : (d : ℕ) (g : Forest ℕ) → length (listed d g) ≡ weigh one g

@@ -1,6 +1,7 @@
 -- Document 02, Note 4, on document 01's sample plan, whose text is (c(a)(b)(c(a)(b)(a)(b))(b))(a)(b), and on two small ones: rows of one
 -- theorem on the definition of compare, from the plan's bytes on. All hold by computation. So what the theorems on compare ask is met.
 -- Assumes nothing.
+use Rattle.std.specs.Prelude.{Ok, Err}
 use Prim.Native.Nat.{ℕ}
 use mathlib.Core.Path.{◌≡◌, refl}
 use mathlib.Core.List.{List, [], ◌∷◌, map}
@@ -79,28 +80,28 @@ flat = cursor levelled 7 (2 ∷ [])
 
 pub record ComparedSample : Type 0 where
   -- a place and itself: nine entries, within a budget of nine
-  pub same : compare sample work root root 9 ≡ Compared.Same 9
-  pub same_spent : compare sample work root root 8 ≡ Compared.Spent 8
+  pub same : compare sample work root root 9 ≡ Ok (Compared.Same 9)
+  pub same_spent : compare sample work root root 8 ≡ Ok (Compared.Spent 8)
   -- two places that carry the same
-  pub same_elsewhere : compare sample work last-below last-root 1 ≡ Compared.Same 1
+  pub same_elsewhere : compare sample work last-below last-root 1 ≡ Ok (Compared.Same 1)
   -- document 02, Note 10: each cursor has its own word 1, here b and a of rule 3 with b of the start rule
-  pub same_by_number : compare sample work (by_number (2 ∷ [])) last-root 1 ≡ Compared.Same 1
-  pub differ_by_number : compare sample work (by_number (1 ∷ [])) last-root 1 ≡ Compared.Differ 1
-  pub second_by_number : compare sample work last-root (by_number (1 ∷ [])) 1 ≡ Compared.Differ 1
+  pub same_by_number : compare sample work (by_number (2 ∷ [])) last-root 1 ≡ Ok (Compared.Same 1)
+  pub differ_by_number : compare sample work (by_number (1 ∷ [])) last-root 1 ≡ Ok (Compared.Differ 1)
+  pub second_by_number : compare sample work last-root (by_number (1 ∷ [])) 1 ≡ Ok (Compared.Differ 1)
   -- c a b c .. against c a b a ..: the fourth pair differs
-  pub differ : compare sample work root inner 4 ≡ Compared.Differ 4
-  pub differ_spent : compare sample work root inner 3 ≡ Compared.Spent 3
+  pub differ : compare sample work root inner 4 ≡ Ok (Compared.Differ 4)
+  pub differ_spent : compare sample work root inner 3 ≡ Ok (Compared.Spent 3)
   -- equal labels, and b once a level lower
-  pub level_differs : compare levelled work deep flat 3 ≡ Compared.Differ 3
+  pub level_differs : compare levelled work deep flat 3 ≡ Ok (Compared.Differ 3)
   -- "a node against an ended list included"
-  pub second_ended : compare nested work outside inside 2 ≡ Compared.Differ 2
-  pub first_ended : compare nested work inside outside 2 ≡ Compared.Differ 2
+  pub second_ended : compare nested work outside inside 2 ≡ Ok (Compared.Differ 2)
+  pub first_ended : compare nested work inside outside 2 ≡ Ok (Compared.Differ 2)
   -- "A place above the forest is refused with 10"
-  pub above_first : compare sample work above root 9 ≡ Compared.Refused Refusal.Place
-  pub above_second : compare sample work root above 9 ≡ Compared.Refused Refusal.Place
+  pub above_first : compare sample work above root 9 ≡ Err Refusal.Place
+  pub above_second : compare sample work root above 9 ≡ Err Refusal.Place
   -- 8, before 10
-  pub short_second : compare sample work root (take 287 root) 9 ≡ Compared.Refused Refusal.Lent
-  pub short_before_above : compare sample work above (take 287 root) 9 ≡ Compared.Refused Refusal.Lent
+  pub short_second : compare sample work root (take 287 root) 9 ≡ Err Refusal.Lent
+  pub short_before_above : compare sample work above (take 287 root) 9 ≡ Err Refusal.Lent
   -- what the theorems on compare ask
   pub comparable : Comparable sample work root inner 8 7 7 7 (1 ∷ []) (3 ∷ 1 ∷ [])
   pub comparable_rules : Comparable sample work (by_number (2 ∷ [])) last-root 8 7 3 7 (2 ∷ []) (3 ∷ [])

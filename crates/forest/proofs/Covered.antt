@@ -3,7 +3,8 @@
 use Prim.Native.Nat.{ℕ}
 use mathlib.Core.Path.{◌≡◌, refl, ap}
 use mathlib.Core.Bool.{true, false}
-use mathlib.Core.Option.{some, none-ne-some, some-injective}
+use Rattle.std.specs.Prelude.{Some}
+use Rattle.std.proofs.lemmas.Option.{none-some, same_Some}
 use Rattle.forest.specs.Expression.{Expression}
 use Rattle.forest.specs.Forest.{Forest, append}
 use Rattle.forest.specs.Place.{Side, is_empty}
@@ -53,7 +54,7 @@ record Threaded (w e : Expression) (z : Position) : Type 0 where
   good : Good Sort.spine e
   hole : Position → Forest Located
   inside : Inside Located (located e z hole) (located_of w)
-  filled : (c : Expression) → continues z ≡ some c → Good Sort.tree c × ((rest : Position → Forest Located) × ((y : Position) → hole y ≡ located c y rest))
+  filled : (c : Expression) → continues z ≡ Some c → Good Sort.tree c × ((rest : Position → Forest Located) × ((y : Position) → hole y ≡ located c y rest))
 
 -- so is a node
 record Standing (w : Expression) (r a : ℕ) (c : Expression) (z : Position) : Type 0 where
@@ -129,7 +130,7 @@ module _ {w : Expression} where
         good = (good-fill k.good).0;
         hole = λ last. located c last k.hole;
         inside = k.inside;
-        filled = λ d e. let q : c ≡ d = some-injective c d e in (rw q at (good-fill k.good).1, (k.hole, λ y. ap (λ x. located x y k.hole) q));
+        filled = λ d e. let q : c ≡ d = same_Some c d e in (rw q at (good-fill k.good).1, (k.hole, λ y. ap (λ x. located x y k.hole) q));
       }
 
   found-join : {r : ℕ} {b c : Expression} {z : Position} (s : Side) → Threaded w (Expression.join r b c) z → Threaded w (pick s b c) (Position.join_side s r b c z)
@@ -139,7 +140,7 @@ module _ {w : Expression} where
         good = (good-join k.good).0;
         hole = λ around. located c (Position.join_side Side.right r b c z) k.hole;
         inside = k.inside;
-        filled = λ d e. absurd (none-ne-some d e);
+        filled = λ d e. absurd (none-some d e);
       }
   found-join {r} {b} {c} {z} Side.right k =
       record {
@@ -158,7 +159,7 @@ module _ {w : Expression} where
         inside = rw (pick-located s b c (λ t. Position.part_row t r a b c z) k.hole) at (inside-arm s (located b (Position.part_row Side.left r a b c z) k.hole) (k.hole z) (located c (Position.part_row Side.right r a b c z) k.hole) k.inside);
       }
 
-  found-hole : {r a : ℕ} {b c e : Expression} {z : Position} → Threaded w (Expression.part r a b c) z → continues z ≡ some e → Found w Sort.tree e z
+  found-hole : {r a : ℕ} {b c e : Expression} {z : Position} → Threaded w (Expression.part r a b c) z → continues z ≡ Some e → Found w Sort.tree e z
   unfolding last_part
   found-hole {e = e} {z = z} k n =
       record { good = (k.filled e n).0; hole = (k.filled e n).1.0; inside = rw ((k.filled e n).1.1 z) at (inside-hole k.good z k.hole k.inside) }
@@ -180,7 +181,7 @@ module _ {w : Expression} where
   reaches g (At.hole k n) = found-hole (reaches g k) n
 
 -- every position of a node is that of a node in the forest
-pub at_node : {w e : Expression} {z : Position} → Good Sort.row w → At w Where.here e z → (p : Path) × (label_at (located_of w) p ≡ some (e, z))
+pub at_node : {w e : Expression} {z : Position} → Good Sort.row w → At w Where.here e z → (p : Path) × (label_at (located_of w) p ≡ Some (e, z))
 unfolding Reaches located
 at_node g (At.node k) = inside-node (found-node (reaches g k)).inside
 at_node g (At.part k) = inside-node (reaches g k).inside

@@ -3,7 +3,7 @@
 use Prim.Native.Nat.{ℕ, zero, suc}
 use mathlib.Core.Path.{◌≡◌, subst}
 use mathlib.Core.List.{[], ◌∷◌}
-use mathlib.Core.Option.{Option, none, some}
+use Rattle.std.specs.Prelude.{Option, None, Some}
 use Rattle.forest.specs.Forest.{Forest, append}
 use Rattle.forest.specs.Relabel.{relabel}
 use Rattle.forest.specs.Reference.{Path, later, from, below, top, children_at, node_at, label_at}
@@ -77,15 +77,15 @@ module _ {A : Type 0} (P : A → Type 0) where
 
   -- P of what is there, if anything is
   Here : Option A → Type 0
-  Here none = Unit {0}
-  Here (some a) = P a
+  Here None = Unit {0}
+  Here (Some a) = P a
 
   each-top : (g : Forest A) → Each P g → Here (top g)
   unfolding top Here
   each-top Forest.none h = tt
   each-top (Forest.tree a c f) h = h.0
 
-  pub each-label_at : (g : Forest A) (p : Path) (a : A) → Each P g → label_at g p ≡ some a → P a
+  pub each-label_at : (g : Forest A) (p : Path) (a : A) → Each P g → label_at g p ≡ Some a → P a
   unfolding label_at Here
   each-label_at g p a h q = subst Here q (each-top (node_at g p) (each-node_at g p h))
 

@@ -2,7 +2,7 @@
 -- neighbours. On the placed forest, which is the located one relabelled, it takes the same paths. Assumes nothing.
 use mathlib.Core.Path.{◌≡◌, sym, ◌∙◌, ap}
 use mathlib.Core.List.{List}
-use mathlib.Core.Option.{some, map}
+use Rattle.std.specs.Prelude.{Some, option_map}
 use Rattle.forest.specs.Expression.{Expression}
 use Rattle.forest.specs.Place.{Side, placed_of}
 use Rattle.forest.specs.Letter.{Letter}
@@ -19,7 +19,7 @@ pub answer-root : {w : Expression} → Good Sort.row w → (s : Side) (p : Path)
 answer-root {w} g s p = answer-edge (located_of w) s p ∙ located-root g s
 
 -- at the node e at z
-module _ {w : Expression} (g : Good Sort.row w) (p : Path) {e : Expression} {z : Position} (here : label_at (located_of w) p ≡ some (e, z)) where
+module _ {w : Expression} (g : Good Sort.row w) (p : Path) {e : Expression} {z : Position} (here : label_at (located_of w) p ≡ Some (e, z)) where
   pub answer-child : (s : Side) → answer (located_of w) (Letter.child s) p ≡ child s e z
   unfolding neighbour
   answer-child s = answer-neighbour (located-knows g) (Letter.child s) p here
@@ -32,16 +32,16 @@ module _ {w : Expression} (g : Good Sort.row w) (p : Path) {e : Expression} {z :
   unfolding neighbour
   answer-parent = answer-neighbour (located-knows g) Letter.parent p here
 
-  pub answer-stay : answer (located_of w) Letter.stay p ≡ some (e, z)
+  pub answer-stay : answer (located_of w) Letter.stay p ≡ Some (e, z)
   unfolding neighbour
   answer-stay = answer-neighbour (located-knows g) Letter.stay p here
 
 -- the walker on the placed forest
 module _ (w : Expression) where
-  pub placed-label_at : (p : Path) → label_at (placed_of w) p ≡ map placed_as (label_at (located_of w) p)
+  pub placed-label_at : (p : Path) → label_at (placed_of w) p ≡ option_map placed_as (label_at (located_of w) p)
   placed-label_at p = ap (λ g. label_at g p) (sym (placed-of w)) ∙ label_at-relabel placed_as (located_of w) p
 
-  pub placed-answer : (c : Letter) (p : Path) → answer (placed_of w) c p ≡ map placed_as (answer (located_of w) c p)
+  pub placed-answer : (c : Letter) (p : Path) → answer (placed_of w) c p ≡ option_map placed_as (answer (located_of w) c p)
   placed-answer c p = ap (λ g. answer g c p) (sym (placed-of w)) ∙ answer-relabel placed_as (located_of w) c p
 
   pub placed-moved : (c : Letter) (p : Path) → moved (placed_of w) c p ≡ moved (located_of w) c p

@@ -7,8 +7,8 @@ use mathlib.Core.Logic.{◌↔◌, ◌≢◌}
 use mathlib.Core.Path.{◌≡◌, refl, sym, ◌∙◌, ap}
 use mathlib.Core.Bool.{true, false, false≢true, and-eq-true_iff}
 use mathlib.Core.List.{List, [], ◌∷◌}
-use mathlib.Core.Option.{some}
-use lib.ListN.{length, take, get_elem?}
+use Rattle.std.specs.Prelude.{Some, Ok, slice_get}
+use lib.ListN.{length, take}
 use lib.Dec.{eqb}
 use borrow.Author.Tests.{eqb-true, eq-eqb}
 use Rattle.plan.specs.Check.{rules_of}
@@ -18,7 +18,7 @@ use Rattle.forest.specs.Reference.{Path}
 use Rattle.forest.specs.Compare.{listed, same_node, Found, further, found, subtree_at, pairs_found, compare}
 use Rattle.forest.proofs.Cases.{by_bool}
 use Rattle.forest.proofs.Listed.{listed-injective}
-use Rattle.forest.proofs.Compare.{within-exactly, Comparable, compares, found-least, found-same, listed-length}
+use Rattle.forest.proofs.Compare.{answer-exactly, within-exactly, Comparable, compares, found-least, found-same, listed-length}
 
 -- a pair agrees exactly if label and level do
 node-exactly : (x y : ℕ × ℕ) → (same_node x y ≡ true) ↔ (x ≡ y)
@@ -33,7 +33,7 @@ node-exactly x y = (
 
 -- the first difference of two lists, at place j counted from 0: the first j pairs agree, and the next doesn't
 abbrev FirstDiffer : List (ℕ × ℕ) → List (ℕ × ℕ) → ℕ → Type 0
-FirstDiffer xs ys j = (take j xs ≡ take j ys) × (get_elem? xs j ≢ get_elem? ys j)
+FirstDiffer xs ys j = (take j xs ≡ take j ys) × (slice_get xs j ≢ slice_get ys j)
 
 -- a difference is told from 1
 differ-least : (xs ys : List (ℕ × ℕ)) → (found xs ys).0 ≡ false → 1 ≤ (found xs ys).1
@@ -67,7 +67,7 @@ differ-found [] (y ∷ ys) zero h = refl
 differ-found [] (y ∷ ys) (suc j) h = absurd (let e = h.0 in let z : ◌≡◌ {A = ℕ} 0 1 = cc in omega arith)
 differ-found (x ∷ xs) [] zero h = refl
 differ-found (x ∷ xs) [] (suc j) h = absurd (let e = h.0 in let z : ◌≡◌ {A = ℕ} 0 1 = cc in omega arith)
-differ-found (x ∷ xs) (y ∷ ys) zero h = by_bool (same_node x y) (λ u. absurd (h.1 (ap some ((node-exactly x y).0 u)))) (λ u. rw u)
+differ-found (x ∷ xs) (y ∷ ys) zero h = by_bool (same_node x y) (λ u. absurd (h.1 (ap Some ((node-exactly x y).0 u)))) (λ u. rw u)
 differ-found (x ∷ xs) (y ∷ ys) (suc j) h =
     let e = h.0 in
     let p : x ≡ y = cc in
@@ -76,7 +76,7 @@ differ-found (x ∷ xs) (y ∷ ys) (suc j) h =
 
 -- "The count is the place, from 1, of the first pair that differs, a node against an ended list included"
 pub found-differ-exactly : (xs ys : List (ℕ × ℕ)) (k : ℕ)
-    → (found xs ys ≡ (false, k)) ↔ ((1 ≤ k) × (take (k - 1) xs ≡ take (k - 1) ys) × (get_elem? xs (k - 1) ≢ get_elem? ys (k - 1)))
+    → (found xs ys ≡ (false, k)) ↔ ((1 ≤ k) × (take (k - 1) xs ≡ take (k - 1) ys) × (slice_get xs (k - 1) ≢ slice_get ys (k - 1)))
 found-differ-exactly xs ys zero = (
   λ e. absurd (omega (arith, differ-least xs ys (ap (λ (x : Found). x.0) e), ap (λ (x : Found). x.1) e)),
   λ h. absurd (omega (arith, h.0)),
@@ -124,20 +124,20 @@ module _ {s work first second : List ℕ} {n start r t : ℕ} {p q : Path} (h : 
   abbrev two-tree : Forest ℕ
   two-tree = subtree_at (forest (rules_of s) t) q
 
-  pub compares-same-exactly : (compare s work first second b ≡ Compared.Same k) ↔ ((single_tree ≡ two-tree) × (k ≡ weigh one single_tree) × (k ≤ b))
+  pub compares-same-exactly : (compare s work first second b ≡ Ok (Compared.Same k)) ↔ ((single_tree ≡ two-tree) × (k ≡ weigh one single_tree) × (k ≤ b))
   compares-same-exactly =
       let x = within-exactly b (pairs_found single_tree two-tree) true k in
       let y = forests-same-exactly single_tree two-tree k in
-      rw (compares h b) (λ e. let v = x.0 e in let w = y.0 v.0 in (w.0, w.1, v.1), λ e. x.1 (y.1 (e.0, e.1), e.2))
+      rw (compares h b) (answer-exactly (λ e. let v = x.0 e in let w = y.0 v.0 in (w.0, w.1, v.1), λ e. x.1 (y.1 (e.0, e.1), e.2)))
 
-  pub compares-differ-exactly : (compare s work first second b ≡ Compared.Differ k)
+  pub compares-differ-exactly : (compare s work first second b ≡ Ok (Compared.Differ k))
       ↔ ((1 ≤ k)
       × (take (k - 1) (listed 0 single_tree) ≡ take (k - 1) (listed 0 two-tree))
-      × (get_elem? (listed 0 single_tree) (k - 1) ≢ get_elem? (listed 0 two-tree) (k - 1))
+      × (slice_get (listed 0 single_tree) (k - 1) ≢ slice_get (listed 0 two-tree) (k - 1))
       × (k ≤ b))
   unfolding pairs_found
   compares-differ-exactly =
       let x = within-exactly b (pairs_found single_tree two-tree) false k in
       let y = found-differ-exactly (listed 0 single_tree) (listed 0 two-tree) k in
       rw (compares h b)
-      (λ e. let v = x.0 e in let w = y.0 v.0 in (w.0, w.1, w.2, v.1), λ e. x.1 (y.1 (e.0, e.1, e.2), e.3))
+      (answer-exactly (λ e. let v = x.0 e in let w = y.0 v.0 in (w.0, w.1, w.2, v.1), λ e. x.1 (y.1 (e.0, e.1, e.2), e.3)))

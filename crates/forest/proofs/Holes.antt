@@ -2,7 +2,7 @@
 -- there, and the last part of a spine is where its hole is; both are found by following the spine, which changes neither what lies
 -- outside of it nor what continues it. Assumes nothing.
 use mathlib.Core.Path.{◌≡◌, refl}
-use mathlib.Core.Option.{Option, some}
+use Rattle.std.specs.Prelude.{Option, Some, None}
 use Rattle.forest.specs.Expression.{Expression}
 use Rattle.forest.specs.Forest.{Forest}
 use Rattle.forest.specs.Place.{Side}
@@ -48,44 +48,44 @@ unfolding continues last_part
 last-continues (Good.part b c) z = refl
 last-continues (Good.join {r} {b = b} {c = c} g h) z = last-continues h (Position.join_side Side.right r b c z)
 
-pub last-part : {e : Expression} → Good Sort.spine e → (z : Position) → part_at z ≡ some (e, z) → part_at (last_part e z).1 ≡ some (last_part e z)
+pub last-part : {e : Expression} → Good Sort.spine e → (z : Position) → part_at z ≡ Some (e, z) → part_at (last_part e z).1 ≡ Some (last_part e z)
 unfolding part_at last_part pick
 last-part (Good.part b c) z p = p
 last-part (Good.join {r} {b = b} {c = c} g h) z p = last-part h (Position.join_side Side.right r b c z) refl
 
 -- the parent and the siblings of a node in a hole, and of one in a row
-pub parent-hole : (z : Position) {q : Located} → outward z ≡ some q → parent z ≡ some q
+pub parent-hole : (z : Position) {q : Located} → outward z ≡ Some q → parent z ≡ Some q
 unfolding parent or_else
 parent-hole z e = rw e
 
-pub parent_row : (z : Position) → outward z ≡ Option.none → parent z ≡ row_parent (row_of z)
+pub parent_row : (z : Position) → outward z ≡ None → parent z ≡ row_parent (row_of z)
 unfolding parent or_else
 parent_row z e = rw e
 
-pub sibling-hole : (s : Side) (z : Position) {q : Located} → outward z ≡ some q → sibling s z ≡ beside_hole s q.0 q.1
+pub sibling-hole : (s : Side) (z : Position) {q : Located} → outward z ≡ Some q → sibling s z ≡ beside_hole s q.0 q.1
 unfolding sibling
 sibling-hole s z e = rw e
 
-pub sibling-row : (s : Side) (z : Position) → outward z ≡ Option.none → sibling s z ≡ leave s (row_of z)
+pub sibling-row : (s : Side) (z : Position) → outward z ≡ None → sibling s z ≡ leave s (row_of z)
 unfolding sibling
 sibling-row s z e = rw e
 
 -- g is one tree, with root x, that knows its neighbours
 pub record One (x : Located) (g : Forest Located) : Type 0 where
   pub knows : Knows Located positions (parent x.1) (sibling Side.left x.1) (sibling Side.right x.1) g
-  pub root : (s : Side) → edge s g ≡ some x
+  pub root : (s : Side) → edge s g ≡ Some x
 
-pub one : {x : Located} {c : Forest Located} → ((s : Side) → child s x.0 x.1 ≡ edge s c) → Knows Located positions (some x) Option.none Option.none c → One x (Forest.tree x c Forest.none)
+pub one : {x : Located} {c : Forest Located} → ((s : Side) → child s x.0 x.1 ≡ edge s c) → Knows Located positions (Some x) None None c → One x (Forest.tree x c Forest.none)
 unfolding edge or_else
 one {x} {c} d k =
     record {
       knows = Knows.tree refl refl refl d k Knows.none;
-      root = λ s. elim s as (λ k. edge k (Forest.tree x c Forest.none) ≡ some x) [ Side.left ↦ refl | Side.right ↦ refl ];
+      root = λ s. elim s as (λ k. edge k (Forest.tree x c Forest.none) ≡ Some x) [ Side.left ↦ refl | Side.right ↦ refl ];
     }
 
 -- the hole of the part q holds one tree, which stands in q's hole and is reached inward from q
 pub record Fills (hole : Position → Forest Located) (q : Located) : Type 0 where
   pub root : Located
   pub tree : One root (hole q.1)
-  pub inside : inward q.1 q.1 ≡ some root
-  pub outside : outward root.1 ≡ some q
+  pub inside : inward q.1 q.1 ≡ Some root
+  pub outside : outward root.1 ≡ Some q

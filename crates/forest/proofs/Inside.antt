@@ -3,7 +3,7 @@
 use Prim.Native.Nat.{ℕ, suc}
 use mathlib.Core.Path.{◌≡◌, sym, ◌∙◌, ap}
 use mathlib.Core.List.{[], ◌∷◌}
-use mathlib.Core.Option.{some}
+use Rattle.std.specs.Prelude.{Some}
 use Rattle.forest.specs.Forest.{Forest, append}
 use Rattle.forest.specs.Place.{Side}
 use Rattle.forest.specs.Sides.{pick}
@@ -49,6 +49,6 @@ module _ {A : Type 0} where
   unfolding append children_at later from below
   inside-below {c = c} k = record { path = suc k.number ∷ k.path; number = 0; rest = Forest.none; stretch = ap below k.stretch ∙ sym (append-none c) }
 
-  pub inside-node : {a : A} {c f g : Forest A} → Inside A (Forest.tree a c f) g → (p : Path) × (label_at g p ≡ some a)
+  pub inside-node : {a : A} {c f g : Forest A} → Inside A (Forest.tree a c f) g → (p : Path) × (label_at g p ≡ Some a)
   unfolding append label_at
   inside-node k = (suc k.number ∷ k.path, ap top k.stretch)

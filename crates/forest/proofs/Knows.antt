@@ -3,7 +3,7 @@
 -- the spine's last part. Assumes nothing.
 use Prim.Native.Nat.{ℕ}
 use mathlib.Core.Path.{◌≡◌, refl, sym, ◌∙◌, ap₂}
-use mathlib.Core.Option.{Option}
+use Rattle.std.specs.Prelude.{Option, None}
 use Rattle.forest.specs.Expression.{Expression}
 use Rattle.forest.specs.Forest.{Forest, append}
 use Rattle.forest.specs.Place.{Side, is_empty}
@@ -17,7 +17,7 @@ use Rattle.forest.proofs.Rows.{Row, row-empty, row-tree, row-beside, row-right-o
 
 -- what is shown of an expression, by its sort
 Holds : Sort → Expression → Type 0
-Holds Sort.row e = (z : Position) (hole : Position → Forest Located) → part_at z ≡ Option.none → Row e z (located e z hole)
+Holds Sort.row e = (z : Position) (hole : Position → Forest Located) → part_at z ≡ None → Row e z (located e z hole)
 Holds Sort.tree e = (z : Position) (hole : Position → Forest Located) → One (opened e z) (located e z hole)
 Holds Sort.spine e = (z : Position) (hole : Position → Forest Located) → Fills hole (last_part e z) → One (opened e z) (located e z hole)
 
@@ -86,7 +86,7 @@ holds (Good.part {r} {a} {b} {c} g h) = holds-part r a b c (holds g) (holds h)
 holds (Good.join {r} {b = b} {c = c} g h) = holds-join r b c g h (holds g) (holds h)
 
 -- every node of the located forest knows its neighbours
-pub located-knows : {w : Expression} → Good Sort.row w → Knows Located positions Option.none Option.none Option.none (located_of w)
+pub located-knows : {w : Expression} → Good Sort.row w → Knows Located positions None None None (located_of w)
 unfolding Holds located_of part_at row_parent leave
 located-knows {w} g = (holds g (Position.start w) (λ around. Forest.none) refl).knows
 

@@ -1,6 +1,7 @@
 -- "Plans with the old mark keep their forest, their texts and their places" (document 02, Note 2). What their records mean is document 01's
 -- table (rule/proofs/Narrow), and forests and places are the same definitions of rules; their labels have one byte, so their texts are those
 -- of document 01. Assumes nothing.
+use Rattle.std.specs.Prelude.{Ok}
 use Prim.Native.Nat.{ℕ, ◌≤◌, ◌<◌}
 use native.Mathlib.Omega.{arith}
 use mathlib.Core.List.{List, [], ◌∷◌, ◌++◌}
@@ -15,7 +16,6 @@ use Rattle.rule.specs.Sound.{rule}
 use Rattle.rule.proofs.Decode.{decode-labelled_to}
 use Rattle.rule.proofs.Rules.{rule-decoded}
 use Rattle.judge.proofs.Fit.{fine-fit}
-use Rattle.plan.specs.declared.Checked.{Checked}
 use Rattle.plan.specs.Check.{checked, format_of, most_rules, records_of, rules_of}
 use Rattle.plan.proofs.Sound.{Plan, checked-plan}
 use Rattle.forest.specs.Forest.{Forest, forest, text}
@@ -36,7 +36,7 @@ text-before (Forest.tree a c g) h =
     text-narrow a c g (omega (arith, h.0))
     ∙ ap₂ (λ (u v : List ℕ). 40 ∷ a ∷ (u ++ (41 ∷ v))) (text-before c h.1) (text-before g h.2)
 
-module _ (s : List ℕ) (n start : ℕ) (accepted : checked s ≡ Checked.Accepted n start) where
+module _ (s : List ℕ) (n start : ℕ) (accepted : checked s ≡ Ok (record { n = n; start = start })) where
   plan : Plan most_rules s n start
   plan = checked-plan s n start accepted
 

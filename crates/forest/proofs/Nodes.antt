@@ -2,7 +2,7 @@
 -- being located at a position that the family At has. Assumes nothing.
 use Prim.Native.Nat.{ℕ}
 use mathlib.Core.Path.{◌≡◌, refl}
-use mathlib.Core.Option.{some}
+use Rattle.std.specs.Prelude.{Some}
 use Rattle.forest.specs.Expression.{Expression}
 use Rattle.forest.specs.Forest.{Forest, append}
 use Rattle.forest.specs.Place.{Side, is_empty}
@@ -33,7 +33,7 @@ module _ (w : Expression) where
   at-tree (Good.fill g k) h = At.tree_fill h
 
   -- the tree in a spine's hole is opened at the spine's last part
-  pub at_last_lem : {e c : Expression} {z : Position} → Good Sort.spine e → At w Where.spine e z → continues z ≡ some c → At w Where.tree c (last_part e z).1
+  pub at_last_lem : {e c : Expression} {z : Position} → Good Sort.spine e → At w Where.spine e z → continues z ≡ Some c → At w Where.tree c (last_part e z).1
   unfolding last_part continues pick
   at_last_lem (Good.part g h) k n = At.hole (At.part k) n
   at_last_lem (Good.join g h) k n = at_last_lem h (At.join Side.right k) n
@@ -65,6 +65,6 @@ module _ (w : Expression) where
       λ z hole k x. everywhere g (Position.join_side Side.left r b c z) (λ around. located c (Position.join_side Side.right r b c z) hole) (At.join Side.left k) (everywhere h (Position.join_side Side.right r b c z) hole (At.join Side.right k) x)
 
 -- every node of the located forest stands at its position
-pub node_at_lem : {w : Expression} → Good Sort.row w → {e : Expression} {z : Position} (p : Path) → label_at (located_of w) p ≡ some (e, z) → At w Where.here e z
+pub node_at_lem : {w : Expression} → Good Sort.row w → {e : Expression} {z : Position} (p : Path) → label_at (located_of w) p ≡ Some (e, z) → At w Where.here e z
 unfolding located_of
 node_at_lem {w} g {e} {z} p d = each-label_at (Here w) (located_of w) p (e, z) (everywhere w g (Position.start w) (λ around. Forest.none) At.start) d

@@ -1,16 +1,16 @@
 -- Bytes before an accepted plan (document 01's cover) change nothing that measure, spread, walk and compare answer and leave: they look
 -- at the plan through check and its rules alone. Assumes nothing.
+use Rattle.std.specs.Prelude.{Ok}
 use Prim.Native.Nat.{ℕ}
 use mathlib.Core.Path.{◌≡◌, sym, ◌∙◌}
 use mathlib.Core.List.{List, ◌++◌}
-use Rattle.plan.specs.declared.Checked.{Checked}
 use Rattle.plan.specs.Check.{checked, most_rules, rules_of, format_of}
 use Rattle.plan.proofs.Prefix.{prefix-accepted, prefix-accepted-rules, prefix-accepted-format}
 use Rattle.forest.specs.Outcome.{measured, measured_work, spread, text_of, spread_output}
 use Rattle.forest.specs.Walk.{begun_from, begun, walked_work}
 use Rattle.forest.specs.Compare.{compared_from, compare, compared_work}
 
-module _ (p s : List ℕ) (n start : ℕ) (h : checked s ≡ Checked.Accepted n start) where
+module _ (p s : List ℕ) (n start : ℕ) (h : checked s ≡ Ok (record { n = n; start = start })) where
   pub prefix-check : checked (p ++ s) ≡ checked s
   unfolding checked
   prefix-check = prefix-accepted p s most_rules n start h ∙ sym h

@@ -4,8 +4,7 @@ use Prim.Native.Nat.{ℕ, zero, suc}
 use mathlib.Core.Path.{◌≡◌, refl, sym, ◌∙◌, ap, ap₂}
 use mathlib.Core.Bool.{Bool, true, false, cond, not, ◌&&◌}
 use mathlib.Core.List.{List, [], ◌∷◌, map}
-use mathlib.Core.Option
-use mathlib.Core.Option.{Option}
+use Rattle.std.specs.Prelude.{Option, None, option_map}
 use Rattle.forest.specs.Forest.{Forest, count}
 use Rattle.forest.specs.Relabel.{relabel}
 use Rattle.forest.specs.Place.{Side}
@@ -36,7 +35,7 @@ module _ {A B : Type 0} (h : A → B) where
   below-relabel Forest.none = refl
   below-relabel (Forest.tree a c f) = refl
 
-  top-relabel : (g : Forest A) → top (relabel h g) ≡ Option.map h (top g)
+  top-relabel : (g : Forest A) → top (relabel h g) ≡ option_map h (top g)
   unfolding relabel top
   top-relabel Forest.none = refl
   top-relabel (Forest.tree a c f) = refl
@@ -51,7 +50,7 @@ module _ {A B : Type 0} (h : A → B) where
   node_at-relabel g [] = refl
   node_at-relabel g (i ∷ p) = ap (from i) (children_at-relabel g p) ∙ from-relabel i (children_at g p)
 
-  pub label_at-relabel : (g : Forest A) (p : Path) → label_at (relabel h g) p ≡ Option.map h (label_at g p)
+  pub label_at-relabel : (g : Forest A) (p : Path) → label_at (relabel h g) p ≡ option_map h (label_at g p)
   unfolding label_at
   label_at-relabel g p = ap top (node_at-relabel g p) ∙ top-relabel (node_at g p)
 
@@ -70,22 +69,22 @@ module _ {A B : Type 0} (h : A → B) where
   tried-relabel g Letter.parent (i ∷ p) = refl
   tried-relabel g Letter.stay p = refl
 
-  map-cond : (b : Bool) (x : Option A) → cond b Option.none (Option.map h x) ≡ Option.map h (cond b Option.none x)
+  map-cond : (b : Bool) (x : Option A) → cond b None (option_map h x) ≡ option_map h (cond b None x)
   map-cond true x = refl
   map-cond false x = refl
 
-  pub answer-relabel : (g : Forest A) (c : Letter) (p : Path) → answer (relabel h g) c p ≡ Option.map h (answer g c p)
+  pub answer-relabel : (g : Forest A) (c : Letter) (p : Path) → answer (relabel h g) c p ≡ option_map h (answer g c p)
   unfolding answer
   answer-relabel g c p =
-      ap (cond (is_above p && not (is_root c)) Option.none) (ap (label_at (relabel h g)) (tried-relabel g c p) ∙ label_at-relabel g (tried g c p))
+      ap (cond (is_above p && not (is_root c)) None) (ap (label_at (relabel h g)) (tried-relabel g c p) ∙ label_at-relabel g (tried g c p))
       ∙ map-cond (is_above p && not (is_root c)) (label_at g (tried g c p))
 
   pub moved-relabel : (g : Forest A) (c : Letter) (p : Path) → moved (relabel h g) c p ≡ moved g c p
   moved-relabel g c p =
-      by-option (answer g c p) (λ e. moved_nowhere (relabel h g) c p (answer-relabel g c p ∙ ap (Option.map h) e) ∙ sym (moved_nowhere g c p e))
-      (λ a e. moved-node (relabel h g) c p (answer-relabel g c p ∙ ap (Option.map h) e) ∙ tried-relabel g c p ∙ sym (moved-node g c p e))
+      by-option (answer g c p) (λ e. moved_nowhere (relabel h g) c p (answer-relabel g c p ∙ ap (option_map h) e) ∙ sym (moved_nowhere g c p e))
+      (λ a e. moved-node (relabel h g) c p (answer-relabel g c p ∙ ap (option_map h) e) ∙ tried-relabel g c p ∙ sym (moved-node g c p e))
 
-  pub answers-relabel : (g : Forest A) (cs : List Letter) (p : Path) → answers (relabel h g) cs p ≡ map (Option.map h) (answers g cs p)
+  pub answers-relabel : (g : Forest A) (cs : List Letter) (p : Path) → answers (relabel h g) cs p ≡ map (option_map h) (answers g cs p)
   unfolding answers
   answers-relabel g [] p = refl
   answers-relabel g (c ∷ cs) p = ap₂ ◌∷◌ (answer-relabel g c p) (ap (answers (relabel h g) cs) (moved-relabel g c p) ∙ answers-relabel g cs (moved g c p))

@@ -3,7 +3,7 @@
 use Prim.Native.Nat.{ℕ}
 use mathlib.Core.Path.{◌≡◌, refl, sym, ◌∙◌, ap₂}
 use mathlib.Core.Bool.{true, false, true≢false}
-use mathlib.Core.Option.{Option, some}
+use Rattle.std.specs.Prelude.{Option, Some, None}
 use Rattle.forest.specs.Expression.{Expression}
 use Rattle.forest.specs.Forest.{Forest, append}
 use Rattle.forest.specs.Place.{Side, is_empty}
@@ -42,17 +42,17 @@ module _ (r : ℕ) (b c : Expression) (z : Position) where
     located-pair u v = rw (u, v)
 
 -- a row that isn't empty has a first and a last tree
-pub enter-tree : {e : Expression} → Good Sort.tree e → (s : Side) (z : Position) → enter s e z ≡ some (opened e z)
+pub enter-tree : {e : Expression} → Good Sort.tree e → (s : Side) (z : Position) → enter s e z ≡ Some (opened e z)
 unfolding enter
 enter-tree (Good.node g) s z = refl
 enter-tree (Good.fill g h) s z = refl
 
-some-pick : {x y : Option Located} (s : Side) → (a : Located) × (x ≡ some a) → (b : Located) × (y ≡ some b) → (c : Located) × (pick s x y ≡ some c)
+some-pick : {x y : Option Located} (s : Side) → (a : Located) × (x ≡ Some a) → (b : Located) × (y ≡ Some b) → (c : Located) × (pick s x y ≡ Some c)
 unfolding pick
 some-pick Side.left p q = p
 some-pick Side.right p q = q
 
-pub enter-some : {e : Expression} → Good Sort.row e → is_empty e ≡ false → (s : Side) (z : Position) → (x : Located) × (enter s e z ≡ some x)
+pub enter-some : {e : Expression} → Good Sort.row e → is_empty e ≡ false → (s : Side) (z : Position) → (x : Located) × (enter s e z ≡ Some x)
 unfolding is_empty
 enter-some Good.empty n s z = absurd (true≢false n)
 enter-some (Good.grown {e} g) n s z = (opened e z, enter-tree g s z)
@@ -61,7 +61,7 @@ enter-some (Good.pair {r} {b = b} {c = c} g h) n s z =
     (λ u. by_bool (is_empty c) (λ v. rw (enter-left-only r b c z s u v) (enter-some g u s z))
     (λ v. rw (enter-pair r b c z s u v) (some-pick s (enter-some g u s (Position.pair_side Side.left r b c z)) (enter-some h v s (Position.pair_side Side.right r b c z)))))
 
-pub or_some : {x : Option Located} → (a : Located) × (x ≡ some a) → (y : Option Located) → or_else x y ≡ x
+pub or_some : {x : Option Located} → (a : Located) × (x ≡ Some a) → (y : Option Located) → or_else x y ≡ x
 unfolding or_else
 or_some (a, p) y = rw p
 
@@ -74,9 +74,9 @@ pub row-empty : (r : ℕ) (z : Position) → Row (Expression.empty r) z Forest.n
 unfolding enter edge
 row-empty r z = record { knows = Knows.none; root = λ s. refl }
 
-pub row-tree : {e : Expression} {z : Position} {g : Forest Located} → Good Sort.tree e → part_at z ≡ Option.none → One (opened e z) g → Row e z g
+pub row-tree : {e : Expression} {z : Position} {g : Forest Located} → Good Sort.tree e → part_at z ≡ None → One (opened e z) g → Row e z g
 row-tree {e} {z} t n o =
-    let h : outward (opened e z).1 ≡ Option.none = opened-outward t z ∙ n in
+    let h : outward (opened e z).1 ≡ None = opened-outward t z ∙ n in
     let k : row_of (opened e z).1 ≡ z = opened-row t z in
     record {
       knows = rw (parent_row (opened e z).1 h, sibling-row Side.left (opened e z).1 h, sibling-row Side.right (opened e z).1 h, k) at o.knows;
@@ -89,8 +89,8 @@ pub row-beside : {r : ℕ} {b c : Expression} {z : Position} {f g : Forest Locat
     → Row (Expression.pair r b c) z (append f g)
 unfolding leave row_parent
 row-beside {r} {b} {c} {z} {f} {g} i j u v x y =
-    let p : (s : Side) → (a : Located) × (edge s f ≡ some a) = λ s. rw (x.root s) (enter-some i u s (Position.pair_side Side.left r b c z)) in
-    let q : (s : Side) → (a : Located) × (edge s g ≡ some a) = λ s. rw (y.root s) (enter-some j v s (Position.pair_side Side.right r b c z)) in
+    let p : (s : Side) → (a : Located) × (edge s f ≡ Some a) = λ s. rw (x.root s) (enter-some i u s (Position.pair_side Side.left r b c z)) in
+    let q : (s : Side) → (a : Located) × (edge s g ≡ Some a) = λ s. rw (y.root s) (enter-some j v s (Position.pair_side Side.right r b c z)) in
     record {
       knows = knows-append (rw (or_some (q Side.left) (leave Side.right z), y.root Side.left) x.knows) (rw (or_some (p Side.right) (leave Side.left z), x.root Side.right) y.knows);
       root = λ s. edge-append s f g ∙ or_some (some-pick s (p s) (q s)) (pick s (edge s g) (edge s f)) ∙ ap₂ (pick s) (x.root s) (y.root s) ∙ sym (enter-pair r b c z s u v);

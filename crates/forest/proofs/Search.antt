@@ -5,7 +5,7 @@ use Prim.Native.Nat.{ℕ, zero, suc}
 use mathlib.Core.Path.{◌≡◌, refl, sym, ap, subst, ◌∙◌}
 use mathlib.Core.Bool.{Bool, true, false, cond, true≢false, false≢true, and-eq-true_iff}
 use mathlib.Core.List.{[], ◌∷◌, cons≢nil}
-use mathlib.Core.Option.{Option, none, some}
+use Rattle.std.specs.Prelude.{Option, None, Some}
 use mathlib.Core.Logic.{◌⊎◌, inl, inr, ⊎_elim}
 use lib.Dec.{eqb}
 use borrow.Author.Tests.{eqb-true, eq-eqb}
@@ -60,14 +60,14 @@ from-rest zero g a c f e = cc
 from-rest (suc i) g a c f e = later-rest i g a c f e
 
 -- a choice was made for its test, or one of the two later ones
-chosen : (b : Bool) (r q : Path) (x y : Option Path) → cond b (some r) (first_of x y) ≡ some q → ((b ≡ true) × (r ≡ q)) ⊎ ((x ≡ some q) ⊎ (y ≡ some q))
+chosen : (b : Bool) (r q : Path) (x y : Option Path) → cond b (Some r) (first_of x y) ≡ Some q → ((b ≡ true) × (r ≡ q)) ⊎ ((x ≡ Some q) ⊎ (y ≡ Some q))
 unfolding first_of
 chosen true r q x y e = inl (refl, cc)
-chosen false r q none y e = inr (inr e)
-chosen false r q (some p) y e = inr (inl e)
+chosen false r q None y e = inr (inr e)
+chosen false r q (Some p) y e = inr (inl e)
 
 -- what is found among the trees numbered from i on under the node at p has these cells
-found_in : (cs : Cells) (G g : Forest Placed) (i : ℕ) (p q : Path) → from i (children_at G p) ≡ g → node_with cs g i p ≡ some q → place_at G q ≡ cs
+found_in : (cs : Cells) (G g : Forest Placed) (i : ℕ) (p q : Path) → from i (children_at G p) ≡ g → node_with cs g i p ≡ Some q → place_at G q ≡ cs
 unfolding node_with place_at label_at node_at top cells_of from later children_at below
 found_in cs G Forest.none i p q e n = cc
 found_in cs G (Forest.tree a c f) i p q e n =
@@ -83,13 +83,13 @@ found_in cs G (Forest.tree a c f) i p q e n =
     under = rw e
 
 -- where nothing is found, no node has these cells
-neither : (b : Bool) (r : Path) (x y : Option Path) → cond b (some r) (first_of x y) ≡ none → (b ≡ false) × (x ≡ none) × (y ≡ none)
+neither : (b : Bool) (r : Path) (x y : Option Path) → cond b (Some r) (first_of x y) ≡ None → (b ≡ false) × (x ≡ None) × (y ≡ None)
 unfolding first_of
 neither true r x y e = (cc, cc, cc)
-neither false r none y e = (refl, refl, e)
-neither false r (some p) y e = (refl, cc, cc)
+neither false r None y e = (refl, refl, e)
+neither false r (Some p) y e = (refl, cc, cc)
 
-pub not_found : (cs : Cells) (g : Forest Placed) (i : ℕ) (p : Path) → node_with cs g i p ≡ none → Each (λ (a : Placed). same_cells cs a.1 ≡ false) g
+pub not_found : (cs : Cells) (g : Forest Placed) (i : ℕ) (p : Path) → node_with cs g i p ≡ None → Each (λ (a : Placed). same_cells cs a.1 ≡ false) g
 unfolding node_with
 not_found cs Forest.none i p e = tt
 not_found cs (Forest.tree a c f) i p e =
@@ -99,45 +99,45 @@ not_found cs (Forest.tree a c f) i p e =
 -- ---- the path of some cells
 
 -- what path_of gives has these cells
-pub path-cells : (G : Forest Placed) (cs : Cells) (p : Path) → path_of G cs ≡ some p → place_at G p ≡ cs
+pub path-cells : (G : Forest Placed) (cs : Cells) (p : Path) → path_of G cs ≡ Some p → place_at G p ≡ cs
 unfolding path_of place_at label_at node_at top cells_of from later children_at
 path-cells G [] p e = let h : [] ≡ p = cc in rw (← h)
 path-cells G (c ∷ cs) p e = found_in (c ∷ cs) G G 1 [] p refl e
 
 -- what is found is above the forest or a node
-pub path-named : (G : Forest Placed) (cs : Cells) (p : Path) → path_of G cs ≡ some p → Named G p
+pub path-named : (G : Forest Placed) (cs : Cells) (p : Path) → path_of G cs ≡ Some p → Named G p
 unfolding path_of place_at cells_of
 path-named G [] p e = let h : [] ≡ p = cc in subst (Named G) h Named.above
 path-named G (c ∷ cs) p e = by-option (label_at G p) (λ x. absurd (cons≢nil (sym (path-cells G (c ∷ cs) p e) ∙ ap cells_of x))) (λ a x. Named.node x)
 
 -- every node has cells, and no two nodes share theirs
 pub record Distinct (G : Forest Placed) : Type 0 where
-  pub some_cells : (p : Path) (a : Placed) → label_at G p ≡ some a → a.1 ≡ [] → ⊥
-  pub one_node : (p q : Path) (a b : Placed) → label_at G p ≡ some a → label_at G q ≡ some b → a.1 ≡ b.1 → p ≡ q
+  pub some_cells : (p : Path) (a : Placed) → label_at G p ≡ Some a → a.1 ≡ [] → ⊥
+  pub one_node : (p q : Path) (a b : Placed) → label_at G p ≡ Some a → label_at G q ≡ Some b → a.1 ≡ b.1 → p ≡ q
 
 module _ (G : Forest Placed) (D : Distinct G) where
   -- the node with the cells of the node at p is the node at p
-  same-node : (p q : Path) (a : Placed) → label_at G p ≡ some a → place_at G q ≡ a.1 → q ≡ p
+  same-node : (p q : Path) (a : Placed) → label_at G p ≡ Some a → place_at G q ≡ a.1 → q ≡ p
   unfolding place_at cells_of
   same-node p q a e h = go (label_at G q) refl
     where
       go : (x : Option Placed) → label_at G q ≡ x → q ≡ p
-      go none k = absurd (D.some_cells p a e (sym h ∙ ap cells_of k))
-      go (some b) k = D.one_node q p b a k e (sym (ap cells_of k) ∙ h)
+      go None k = absurd (D.some_cells p a e (sym h ∙ ap cells_of k))
+      go (Some b) k = D.one_node q p b a k e (sym (ap cells_of k) ∙ h)
 
-  found-node : (p : Path) (a : Placed) (cs : Cells) → a.1 ≡ cs → label_at G p ≡ some a → node_with cs G 1 [] ≡ some p
+  found-node : (p : Path) (a : Placed) (cs : Cells) → a.1 ≡ cs → label_at G p ≡ Some a → node_with cs G 1 [] ≡ Some p
   unfolding from children_at
   found-node p a cs u e = go (node_with cs G 1 []) refl
     where
-      go : (x : Option Path) → node_with cs G 1 [] ≡ x → node_with cs G 1 [] ≡ some p
-      go none k = absurd (true≢false (sym (rw u (cells_same cs)) ∙ each-label_at (λ (b : Placed). same_cells cs b.1 ≡ false) G p a (not_found cs G 1 [] k) e))
-      go (some q) k = k ∙ ap some (same-node p q a e (found_in cs G G 1 [] q refl k ∙ sym u))
+      go : (x : Option Path) → node_with cs G 1 [] ≡ x → node_with cs G 1 [] ≡ Some p
+      go None k = absurd (true≢false (sym (rw u (cells_same cs)) ∙ each-label_at (λ (b : Placed). same_cells cs b.1 ≡ false) G p a (not_found cs G 1 [] k) e))
+      go (Some q) k = k ∙ ap Some (same-node p q a e (found_in cs G G 1 [] q refl k ∙ sym u))
 
-  pub path-of-place : (p : Path) → Named G p → path_of G (place_at G p) ≡ some p
+  pub path-of-place : (p : Path) → Named G p → path_of G (place_at G p) ≡ Some p
   unfolding path_of place_at cells_of label_at
   path-of-place p Named.above = refl
   path-of-place p (Named.node {a = a} e) = go a.1 refl
     where
-      go : (cs : Cells) → a.1 ≡ cs → path_of G (cells_of (label_at G p)) ≡ some p
+      go : (cs : Cells) → a.1 ≡ cs → path_of G (cells_of (label_at G p)) ≡ Some p
       go [] u = absurd (D.some_cells p a e u)
       go (c ∷ cs) u = rw (e, u) (found-node p a (c ∷ cs) u e)

@@ -2,6 +2,7 @@
 -- those of document 02, Note 10, on the same plan. Further rows tell a merged run from two runs and a one-sided pair from a step; each is worked out by hand from "The stored
 -- place". All hold by computation.
 -- Assumes nothing.
+use Rattle.std.specs.Prelude.{Ok, Err}
 use Prim.Native.Nat.{ℕ, ◌*◌}
 use mathlib.Core.Path.{◌≡◌, refl}
 use mathlib.Core.List.{List, [], ◌∷◌, ◌++◌, map, reverse}
@@ -11,8 +12,6 @@ use Rattle.record.specs.declared.Format.{Format}
 use Rattle.record.specs.Format.{high_length, most_label}
 use Rattle.rule.specs.declared.Rule.{Rule}
 use Rattle.refusal.specs.declared.Refusal.{Refusal}
-use Rattle.plan.specs.declared.Checked.{Checked}
-use Rattle.plan.specs.declared.Written.{Written}
 use Rattle.rule.specs.Rule.{encode, closed}
 use Rattle.rule.specs.Sound.{kind_in}
 use Rattle.refusal.specs.Refusal.{number_of, position_of}
@@ -20,8 +19,6 @@ use Rattle.reach.specs.Reaches.{lowest_cycle, cycle_from, reaches, within, any_n
 use Rattle.judge.specs.Judge.{cycle_judged}
 use Rattle.plan.specs.Check.{checked, rules_of, plan_bytes}
 use Rattle.words.specs.Front.{in_front}
-use Rattle.forest.specs.declared.Measured.{Measured}
-use Rattle.forest.specs.declared.Walked.{Walked}
 use Rattle.forest.specs.Place.{Cells, placed_forest}
 use Rattle.forest.specs.Forest.{forest}
 use Rattle.forest.specs.Sample.{sample}
@@ -117,13 +114,13 @@ pub record Starred : Type 0 where
   pub answers : answered sample (first ∷ child ∷ next ∷ next ∷ child ∷ next ∷ next ∷ next ∷ next ∷ up ∷ next ∷ up ∷ next ∷ next ∷ next ∷ []) ≡ answers_bytes (99 ∷ 97 ∷ 98 ∷ 99 ∷ 97 ∷ 98 ∷ 97 ∷ 98 ∷ nowhere ∷ 99 ∷ 98 ∷ 99 ∷ 97 ∷ 98 ∷ nowhere ∷ [])
   -- ★ spread text (c(a)(b)(c(a)(b)(a)(b))(b))(a)(b), 33 bytes
   pub text : spread_output sample work (replicate 33 0) ≡ 40 ∷ 99 ∷ 40 ∷ 97 ∷ 41 ∷ 40 ∷ 98 ∷ 41 ∷ 40 ∷ 99 ∷ 40 ∷ 97 ∷ 41 ∷ 40 ∷ 98 ∷ 41 ∷ 40 ∷ 97 ∷ 41 ∷ 40 ∷ 98 ∷ 41 ∷ 41 ∷ 40 ∷ 98 ∷ 41 ∷ 41 ∷ 40 ∷ 97 ∷ 41 ∷ 40 ∷ 98 ∷ 41 ∷ []
-  pub text_length : spread sample work (replicate 33 0) ≡ Written.Length 33
-  pub text_short : spread sample work (replicate 32 0) ≡ Written.Refused Refusal.Room
+  pub text_length : spread sample work (replicate 33 0) ≡ Ok 33
+  pub text_short : spread sample work (replicate 32 0) ≡ Err Refusal.Room
   -- ★ measure 3, 11, 3
-  pub counts : measured sample work ≡ Measured.Counts 3 11 3
+  pub counts : measured sample work ≡ Ok (record { trees = 3; entries = 11; levels = 3 })
   -- document 02, Note 9: "The sample plan gives 11 as before; the same plan with label 0 in place of 98 gives 6"; the whole label is looked at
-  pub dividers : measured divided work ≡ Measured.Counts 3 6 3
-  pub wide_dividers : measured wide work ≡ Measured.Counts 2 1 1
+  pub dividers : measured divided work ≡ Ok (record { trees = 3; entries = 6; levels = 3 })
+  pub wide_dividers : measured wide work ≡ Ok (record { trees = 2; entries = 1; levels = 1 })
   -- ★ after a, after afnnfnn, one more n
   pub cells_1 : cells_after sample (first ∷ []) ≡ (1, 0, 7, 0) ∷ (3, 7, 6, 0) ∷ (2, 6, 0, 0) ∷ (3, 5, 4, 0) ∷ []
   pub cells_7 : cells_after sample seven ≡ (1, 0, 7, 0) ∷ (3, 7, 6, 0) ∷ (2, 6, 0, 0) ∷ (4, 5, 4, 0) ∷ (2, 1, 0, 0) ∷ []
@@ -131,14 +128,14 @@ pub record Starred : Type 0 where
   -- ★ one empty rule: a and z nowhere
   pub empty : answered (plan (Rule.Empty ∷ []) 0) (first ∷ last ∷ []) ≡ answers_bytes (nowhere ∷ nowhere ∷ [])
   -- ★ 10 bytes, right mark, n = 0: 2
-  pub no_rules : checked (0 ∷ 0 ∷ 0 ∷ 0 ∷ 0 ∷ 0 ∷ 0 ∷ 0 ∷ 109 ∷ 112 ∷ []) ≡ Checked.Refused Refusal.Count
+  pub no_rules : checked (0 ∷ 0 ∷ 0 ∷ 0 ∷ 0 ∷ 0 ∷ 0 ∷ 0 ∷ 109 ∷ 112 ∷ []) ≡ Err Refusal.Count
   -- ★ rule 0 = pair 0 0: 12 at 0 since Note 1
-  pub own_name : checked (plan (Rule.Pair 0 0 ∷ []) 0) ≡ Checked.Refused (Refusal.Cycle 0)
+  pub own_name : checked (plan (Rule.Pair 0 0 ∷ []) 0) ≡ Err (Refusal.Cycle 0)
   -- the numbers and positions of these
   pub numbers : map number_of (Refusal.Count ∷ Refusal.Cycle 0 ∷ Refusal.Room ∷ []) ≡ 2 ∷ 12 ∷ 11 ∷ []
   pub positions : map position_of (Refusal.Count ∷ Refusal.Cycle 0 ∷ Refusal.Room ∷ []) ≡ 0 ∷ 0 ∷ 0 ∷ []
   -- check accepts the sample with n = 8, start 7
-  pub accepted : checked sample ≡ Checked.Accepted 8 7
+  pub accepted : checked sample ≡ Ok (record { n = 8; start = 7 })
   -- a run of three left steps is one cell; a run that turns is two
   pub three_left : cells_after comb (first ∷ []) ≡ (1, 0, 4, 0) ∷ (3, 4, 1, 0) ∷ (2, 1, 0, 0) ∷ []
   pub one_turn : cells_after comb (first ∷ next ∷ []) ≡ (1, 0, 4, 0) ∷ (3, 4, 2, 0) ∷ (4, 2, 1, 0) ∷ (2, 1, 0, 0) ∷ []
@@ -158,11 +155,11 @@ pub record Starred : Type 0 where
   pub start_answers : answered_from (above_of 8) sample seven ≡ answered sample seven
   pub start_cursor : cursor_from (above_of 8) sample seven ≡ take 2 (cursor_of sample seven) ++ (8 ∷ drop 3 (cursor_of sample seven))
   -- "A number beyond the rules or of a holed rule is refused with 10": beyond, a part, a join
-  pub rule_beyond : walked (begun sample work (above_of 9) [] given) ≡ Walked.Refused Refusal.Place
-  pub rule_part : walked (begun sample work (above_of 5) [] given) ≡ Walked.Refused Refusal.Place
-  pub rule_join : walked (begun sample work (above_of 6) [] given) ≡ Walked.Refused Refusal.Place
+  pub rule_beyond : walked (begun sample work (above_of 9) [] given) ≡ Err Refusal.Place
+  pub rule_part : walked (begun sample work (above_of 5) [] given) ≡ Err Refusal.Place
+  pub rule_join : walked (begun sample work (above_of 6) [] given) ≡ Err Refusal.Place
   -- "words 2 and 3 must still be 0"
-  pub no_later_word : walked (begun sample work (0 ∷ 0 ∷ 4 ∷ 0 ∷ 1 ∷ 0 ∷ replicate 282 0) [] given) ≡ Walked.Refused Refusal.Place
+  pub no_later_word : walked (begun sample work (0 ∷ 0 ∷ 4 ∷ 0 ∷ 1 ∷ 0 ∷ replicate 282 0) [] given) ≡ Err Refusal.Place
   -- an empty rule's forest
   pub rule_empty : answered_from (above_of 1) sample (first ∷ last ∷ []) ≡ answers_bytes (nowhere ∷ nowhere ∷ [])
   pub place_number : number_of Refusal.Place ≡ 10

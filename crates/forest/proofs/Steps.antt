@@ -3,7 +3,8 @@
 use mathlib.Core.Path.{◌≡◌, refl, ◌∙◌, ap}
 use mathlib.Core.Bool.{Bool, true, false, cond, not, ◌&&◌}
 use mathlib.Core.List.{List, [], ◌∷◌, ◌++◌}
-use mathlib.Core.Option.{Option, some, none-ne-some}
+use Rattle.std.specs.Prelude.{Option, Some, None}
+use Rattle.std.proofs.lemmas.Option.{none-some}
 use Rattle.forest.specs.Forest.{Forest}
 use Rattle.forest.specs.Letter.{Letter, is_root}
 use Rattle.forest.specs.Position.{Named, node}
@@ -12,20 +13,20 @@ use Rattle.forest.proofs.Cases.{by-option}
 
 module _ {A : Type 0} (g : Forest A) where
   -- the path is kept where the answer is nowhere, and else is the path tried
-  pub moved_nowhere : (c : Letter) (p : Path) → answer g c p ≡ Option.none → moved g c p ≡ p
+  pub moved_nowhere : (c : Letter) (p : Path) → answer g c p ≡ None → moved g c p ≡ p
   unfolding moved
   moved_nowhere c p e = rw e
 
-  pub moved-node : (c : Letter) (p : Path) {a : A} → answer g c p ≡ some a → moved g c p ≡ tried g c p
+  pub moved-node : (c : Letter) (p : Path) {a : A} → answer g c p ≡ Some a → moved g c p ≡ tried g c p
   unfolding moved
   moved-node c p e = rw e
 
-  some-cond : (b : Bool) {x : Option A} {a : A} → cond b Option.none x ≡ some a → x ≡ some a
-  some-cond true e = absurd (none-ne-some _ e)
+  some-cond : (b : Bool) {x : Option A} {a : A} → cond b None x ≡ Some a → x ≡ Some a
+  some-cond true e = absurd (none-some _ e)
   some-cond false e = e
 
   -- an answer is the label of the node arrived at
-  pub answer-label : (c : Letter) (p : Path) {a : A} → answer g c p ≡ some a → label_at g (moved g c p) ≡ some a
+  pub answer-label : (c : Letter) (p : Path) {a : A} → answer g c p ≡ Some a → label_at g (moved g c p) ≡ Some a
   unfolding answer
   answer-label c p e = ap (label_at g) (moved-node c p e) ∙ some-cond (is_above p && not (is_root c)) e
 

@@ -4,7 +4,7 @@
 use Prim.Native.Nat.{ℕ}
 use native.Mathlib.Omega.{arith}
 use mathlib.Core.Path.{◌≡◌, refl, sym, ◌∙◌, ap, ap₂, subst}
-use mathlib.Core.Option.{some}
+use Rattle.std.specs.Prelude.{Some}
 use Rattle.forest.specs.Expression.{Expression}
 use Rattle.forest.specs.Algebra.{Hedge, ◌·◌, ◌⟨◌⟩, value}
 use Rattle.forest.specs.Forest.{Forest, append, trees}
@@ -159,7 +159,7 @@ first-relabel Forest.none = refl
 first-relabel (Forest.tree a c f) = refl
 
 -- the first tree of a forest
-first-subtree : (g : Forest Located) (x : Located) → EachTree Over g → top g ≡ some x → Subtree x (relabel label (first_tree g))
+first-subtree : (g : Forest Located) (x : Located) → EachTree Over g → top g ≡ Some x → Subtree x (relabel label (first_tree g))
 unfolding top first_tree
 first-subtree Forest.none x h e = absurd (let z : ◌≡◌ {A = ℕ} 0 1 = cc in omega arith)
 first-subtree (Forest.tree y c f) x h e =
@@ -167,7 +167,7 @@ first-subtree (Forest.tree y c f) x h e =
     subst (λ (v : Located). Subtree v (relabel label (Forest.tree y c Forest.none))) q h.0
 
 -- the subtree at a path
-pub node-subtree : {w : Expression} → Good Sort.row w → {e : Expression} {z : Position} (p : Path) → label_at (located_of w) p ≡ some (e, z)
+pub node-subtree : {w : Expression} → Good Sort.row w → {e : Expression} {z : Position} (p : Path) → label_at (located_of w) p ≡ Some (e, z)
     → Subtree (e, z) (subtree_at (trees (value w)) p)
 unfolding label_at subtree_at located_of
 node-subtree {w} g {e} {z} p q =

@@ -6,7 +6,7 @@ use native.Mathlib.Omega.{arith}
 use mathlib.Core.Path.{◌≡◌, refl, ◌∙◌}
 use mathlib.Core.Bool.{Bool, true, false, cond, ◌&&◌, and-eq-true_iff}
 use mathlib.Core.List.{List}
-use mathlib.Core.Option.{Option, none, some}
+use Rattle.std.specs.Prelude.{Option, None, Some}
 use lib.ListN.{length}
 use lib.Dec.{ltb}
 use borrow.Author.Tests.{ltb-true, lt-ltb}
@@ -51,7 +51,7 @@ pub record Holds (R : List Rule) (n start m r : ℕ) (cursor : List ℕ) (p : Pa
   pub walks : walked_rule start cursor ≡ r
   pub can_walk : is_closed R r ≡ true
   pub in_order : headed n cursor ≡ true
-  pub leads : path_of (placed_forest R r) (cells_in cursor (used_cells cursor)) ≡ some p
+  pub leads : path_of (placed_forest R r) (cells_in cursor (used_cells cursor)) ≡ Some p
 
 pub judged-holds : (R : List Rule) (n start m r : ℕ) (cursor : List ℕ) (p : Path) → place_judged R n start cursor ≡ at m r p → Holds R n start m r cursor p
 unfolding place_judged place_in stored
@@ -62,9 +62,9 @@ judged-holds R n start m r cursor p e = go (is_closed R w) (headed n cursor) (pa
 
     go : (c h : Bool) (x : Option Path) → is_closed R w ≡ c → headed n cursor ≡ h → path_of (placed_forest R w) (cells_in cursor (used_cells cursor)) ≡ x
         → cond (c && h) (stored n w x) (refused Refusal.Place) ≡ at m r p → Holds R n start m r cursor p
-    go true true (some q) c h x g =
+    go true true (Some q) c h x g =
         let same : w ≡ r = cc in
         record { count = cc; walks = same; can_walk = rw same at c; in_order = h; leads = (rw same at x) ∙ cc }
-    go true true none c h x g = absurd (let z : ◌≡◌ {A = ℕ} 0 1 = cc in omega arith)
+    go true true None c h x g = absurd (let z : ◌≡◌ {A = ℕ} 0 1 = cc in omega arith)
     go true false x c h y g = absurd (let z : ◌≡◌ {A = ℕ} 0 1 = cc in omega arith)
     go false h x c i y g = absurd (let z : ◌≡◌ {A = ℕ} 0 1 = cc in omega arith)

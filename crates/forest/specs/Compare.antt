@@ -1,5 +1,5 @@
 -- What compare answers and leaves, from what is lent (document 02, Note 4: "Is it the same day?").
-use Rattle.std.specs.Prelude.{ℕ, suc, Bool, true, false, cond, ◌&&◌, List, [], ◌∷◌, ◌++◌, leb, eqb}
+use Rattle.std.specs.Prelude.{ℕ, suc, Bool, true, false, cond, ◌&&◌, List, [], ◌∷◌, ◌++◌, leb, eqb, Result, Ok, Err}
 use Rattle.rule.specs.declared.Rule.{Rule}
 use Rattle.refusal.specs.declared.Refusal.{Refusal}
 use Rattle.plan.specs.declared.Checked.{Checked}
@@ -58,24 +58,24 @@ node_judged (at n r []) = refused Refusal.Place
 node_judged (at n r (i ∷ p)) = at n r (i ∷ p)
 
 -- ".. the first cursor before the second"
-unfoldable pub compared_at : List Rule → ℕ → Begun → Begun → Compared
-compared_at R budget (refused x) y = Compared.Refused x
-compared_at R budget (at n r p) (refused y) = Compared.Refused y
-compared_at R budget (at n r p) (at m s q) = within budget (pairs_found (subtree_at (forest R r) p) (subtree_at (forest R s) q))
+unfoldable pub compared_at : List Rule → ℕ → Begun → Begun → Result Compared Refusal
+compared_at R budget (refused x) y = Err x
+compared_at R budget (at n r p) (refused y) = Err y
+compared_at R budget (at n r p) (at m s q) = Ok (within budget (pairs_found (subtree_at (forest R r) p) (subtree_at (forest R s) q)))
 
 -- "Plan, work and both cursors are refused as in walk": as check; 8: work or a cursor is too short; 10
 unfoldable pub enough_compared : List ℕ → List ℕ → List ℕ → ℕ → Bool
 enough_compared work first second n = enough_work n work && (enough_cursor n first && enough_cursor n second)
 
-unfoldable pub compared_from : List ℕ → List ℕ → List ℕ → List ℕ → ℕ → Checked → Compared
-compared_from s work first second budget (Checked.Accepted n start) =
-    cond (enough_compared work first second n)
-    (compared_at (rules_of s) budget (node_judged (place_judged (rules_of s) n start first)) (node_judged (place_judged (rules_of s) n start second)))
-    (Compared.Refused Refusal.Lent)
-compared_from s work first second budget (Checked.Refused x) = Compared.Refused x
+unfoldable pub compared_from : List ℕ → List ℕ → List ℕ → List ℕ → ℕ → Result Checked Refusal → Result Compared Refusal
+compared_from s work first second budget (Ok x) =
+    cond (enough_compared work first second x.n)
+    (compared_at (rules_of s) budget (node_judged (place_judged (rules_of s) x.n x.start first)) (node_judged (place_judged (rules_of s) x.n x.start second)))
+    (Err Refusal.Lent)
+compared_from s work first second budget (Err x) = Err x
 
 -- "Two cursors of one plan and a budget (32 bits) give same, differ or spent, and a count."
-unfoldable pub compare : List ℕ → List ℕ → List ℕ → List ℕ → ℕ → Compared
+unfoldable pub compare : List ℕ → List ℕ → List ℕ → List ℕ → ℕ → Result Compared Refusal
 compare s work first second budget = compared_from s work first second budget (checked s)
 
 -- "Past 8 .. the first 32 × n words of work end as zeros" (document 01); "Both cursors are unchanged."

@@ -1,12 +1,11 @@
 -- What measure and spread answer and leave, from what is lent (document 01, "Operations and what they turn down").
-use Rattle.std.specs.Prelude.{ℕ, ◌+◌, ◌*◌, ◌^◌, Bool, cond, length, eqb, leb, ltb}
+use Rattle.std.specs.Prelude.{ℕ, ◌+◌, ◌*◌, ◌^◌, Bool, cond, length, eqb, leb, ltb, Result, Ok, Err}
 use mathlib.Core.List.{List}
 use Rattle.words.specs.Number.{word_count}
 unfoldable pub use Rattle.words.specs.Front.{cleared}
 use Rattle.rule.specs.declared.Rule.{Rule}
 use Rattle.refusal.specs.declared.Refusal.{Refusal}
 use Rattle.plan.specs.declared.Checked.{Checked}
-use Rattle.plan.specs.declared.Written.{Written}
 use Rattle.record.specs.declared.Format.{Format}
 use Rattle.record.specs.Format.{label_length}
 use Rattle.record.specs.Record.{word_length}
@@ -35,10 +34,10 @@ enough_work n work = leb (work_words n) (word_count work)
 
 -- "Past 8, with or without a later refusal, the first 32 × n words of work end as zeros; earlier they are untouched."
 -- enough says for each n whether 8 is passed
-unfoldable pub work_after : (ℕ → Bool) → Checked → List ℕ → List ℕ
+unfoldable pub work_after : (ℕ → Bool) → Result Checked Refusal → List ℕ → List ℕ
 unfolding work_words cleared
-work_after enough (Checked.Accepted n start) work = cond (enough n) (cleared (word_length * work_words n) work) work
-work_after enough (Checked.Refused r) work = work
+work_after enough (Ok x) work = cond (enough x.n) (cleared (word_length * work_words x.n) work) work
+work_after enough (Err r) work = work
 
 -- document 02, Note 9: "label 0 for printed dividers", the whole label
 abbrev pub divider : ℕ
@@ -54,23 +53,23 @@ count_limit = 2 ^ 64
 
 -- "11: over 2^64 − 1 nodes. It gives trees, entries (all nodes) and levels"; Note 9: "Measure's second number leaves label 0 out; trees and
 -- levels still include it. .. refusal 11 of measure still looks at all nodes."
-unfoldable pub counted : Forest ℕ → Measured
+unfoldable pub counted : Forest ℕ → Result Measured Refusal
 unfolding count weigh levels entry
-counted g = cond (ltb (weigh one g) count_limit) (Measured.Counts (count g) (weigh entry g) (levels g)) (Measured.Refused Refusal.Room)
+counted g = cond (ltb (weigh one g) count_limit) (Ok (record { trees = (count g); entries = (weigh entry g); levels = (levels g) })) (Err Refusal.Room)
 
 -- "As check; 8: work has fewer than 32 × n words": n and start, or the refusal
-unfoldable pub work_judged : List ℕ → Checked → Checked
+unfoldable pub work_judged : List ℕ → Result Checked Refusal → Result Checked Refusal
 unfolding enough_work
-work_judged work (Checked.Accepted n start) = cond (enough_work n work) (Checked.Accepted n start) (Checked.Refused Refusal.Lent)
-work_judged work (Checked.Refused r) = Checked.Refused r
+work_judged work (Ok x) = cond (enough_work x.n work) (Ok x) (Err Refusal.Lent)
+work_judged work (Err r) = Err r
 
 -- ".. 11", of the start rule's forest
-unfoldable pub measured_from : List Rule → Checked → Measured
+unfoldable pub measured_from : List Rule → Result Checked Refusal → Result Measured Refusal
 unfolding counted forest
-measured_from R (Checked.Accepted n start) = counted (forest R start)
-measured_from R (Checked.Refused r) = Measured.Refused r
+measured_from R (Ok x) = counted (forest R x.start)
+measured_from R (Err r) = Err r
 
-unfoldable pub measured : List ℕ → List ℕ → Measured
+unfoldable pub measured : List ℕ → List ℕ → Result Measured Refusal
 unfolding measured_from work_judged checked rules_of
 measured s work = measured_from (rules_of s) (work_judged work (checked s))
 
@@ -83,25 +82,25 @@ abbrev pub node_length : Format → ℕ
 node_length f = label_length f + 2
 
 -- "11: output shorter than 3 bytes per node. It .. gives the length."
-unfoldable pub text_roomed : Format → Forest ℕ → List ℕ → Written
+unfoldable pub text_roomed : Format → Forest ℕ → List ℕ → Result ℕ Refusal
 unfolding weigh text
-text_roomed f g out = cond (leb (node_length f * weigh one g) (length out)) (Written.Length (length (text f g))) (Written.Refused Refusal.Room)
+text_roomed f g out = cond (leb (node_length f * weigh one g) (length out)) (Ok (length (text f g))) (Err Refusal.Room)
 
 -- "As check; 8 as in measure; 11"
-unfoldable pub spread_from : Format → List Rule → List ℕ → Checked → Written
+unfoldable pub spread_from : Format → List Rule → List ℕ → Result Checked Refusal → Result ℕ Refusal
 unfolding text_roomed forest
-spread_from f R out (Checked.Accepted n start) = text_roomed f (forest R start) out
-spread_from f R out (Checked.Refused r) = Written.Refused r
+spread_from f R out (Ok x) = text_roomed f (forest R x.start) out
+spread_from f R out (Err r) = Err r
 
-unfoldable pub spread : List ℕ → List ℕ → List ℕ → Written
+unfoldable pub spread : List ℕ → List ℕ → List ℕ → Result ℕ Refusal
 unfolding spread_from work_judged checked rules_of
 spread s work out = spread_from (format_of s) (rules_of s) out (work_judged work (checked s))
 
 -- the text of the plan's start rule
-unfoldable pub text_of : List ℕ → Checked → List ℕ
+unfoldable pub text_of : List ℕ → Result Checked Refusal → List ℕ
 unfolding text forest rules_of
-text_of s (Checked.Accepted n start) = text (format_of s) (forest (rules_of s) start)
-text_of s (Checked.Refused r) = mathlib.Core.List.[]
+text_of s (Ok x) = text (format_of s) (forest (rules_of s) x.start)
+text_of s (Err r) = mathlib.Core.List.[]
 
 -- "It writes .. Later bytes stay. Refused, output is untouched." The work is left as measure leaves it.
 unfoldable pub spread_output : List ℕ → List ℕ → List ℕ → List ℕ

@@ -1,7 +1,7 @@
 -- Positions: zippers into an expression, one for each node of its forest (document 003's node representations), their
 -- neighbours over a side, and their cells. A row's and a spine's crumbs lie over the position that they were opened at.
 use Rattle.std.specs.Prelude.{ℕ, ◌≡◌, true, false, cond, [], ◌∷◌}
-use Rattle.std.proofs.Math.Option.{Option, none, some}
+use Rattle.std.specs.Prelude.{Option, None, Some}
 use Rattle.forest.specs.Expression.{Expression, rule_number}
 use Rattle.forest.specs.Forest.{Forest, append}
 use Rattle.forest.specs.Reference.{Path, label_at}
@@ -10,8 +10,8 @@ use Rattle.forest.specs.Sides.{other, pick}
 
 -- the first of two nodes that there is
 unfoldable pub or_else : {A : Type 0} → Option A → Option A → Option A
-or_else none y = y
-or_else (some x) y = some x
+or_else None y = y
+or_else (Some x) y = Some x
 
 pub data Position : Type 0 where
   start : Expression → Position
@@ -89,50 +89,50 @@ last_part (Expression.join r b c) z = last_part c (join_side Side.right r b c z)
 -- the root of the first (left) or last (right) tree of the row e at z
 unfoldable pub enter : Side → Expression → Position → Option Located
 unfolding is_empty pick opened
-enter s (Expression.empty r) z = none
+enter s (Expression.empty r) z = None
 enter s (Expression.pair r b c) z =
     cond (is_empty b) (enter s c z)
     (cond (is_empty c) (enter s b z)
     (pick s (enter s b (pair_side Side.left r b c z)) (enter s c (pair_side Side.right r b c z))))
-enter s (Expression.node r a c) z = some (opened (Expression.node r a c) z)
-enter s (Expression.fill r b c) z = some (opened (Expression.fill r b c) z)
-enter s (Expression.part r a b c) z = some (opened (Expression.part r a b c) z)
-enter s (Expression.join r b c) z = some (opened (Expression.join r b c) z)
+enter s (Expression.node r a c) z = Some (opened (Expression.node r a c) z)
+enter s (Expression.fill r b c) z = Some (opened (Expression.fill r b c) z)
+enter s (Expression.part r a b c) z = Some (opened (Expression.part r a b c) z)
+enter s (Expression.join r b c) z = Some (opened (Expression.join r b c) z)
 
 -- the root of the tree in the hole of the part at p, whose spine's crumbs are z's
 unfoldable pub inward : Position → Position → Option Located
 unfolding opened
-inward p (start e) = none
-inward p (node_row r a c z) = none
-inward p (part_row s r a b c z) = none
-inward p (pair_side s r b c z) = none
-inward p (node_spine r a c z) = none
-inward p (fill_spine r b c z) = some (opened c p)
-inward p (join_side Side.left r b c z) = some (opened c (join_side Side.right r b c z))
+inward p (start e) = None
+inward p (node_row r a c z) = None
+inward p (part_row s r a b c z) = None
+inward p (pair_side s r b c z) = None
+inward p (node_spine r a c z) = None
+inward p (fill_spine r b c z) = Some (opened c p)
+inward p (join_side Side.left r b c z) = Some (opened c (join_side Side.right r b c z))
 inward p (join_side Side.right r b c z) = inward p z
 
 -- the part at z, if z is a part's position and no row's
 unfoldable pub part_at : Position → Option Located
 unfolding pick
-part_at (start e) = none
-part_at (node_row r a c z) = none
-part_at (part_row s r a b c z) = none
-part_at (pair_side s r b c z) = none
-part_at (node_spine r a c z) = none
-part_at (fill_spine r b c z) = some (b, fill_spine r b c z)
-part_at (join_side s r b c z) = some (pick s b c, join_side s r b c z)
+part_at (start e) = None
+part_at (node_row r a c z) = None
+part_at (part_row s r a b c z) = None
+part_at (pair_side s r b c z) = None
+part_at (node_spine r a c z) = None
+part_at (fill_spine r b c z) = Some (b, fill_spine r b c z)
+part_at (join_side s r b c z) = Some (pick s b c, join_side s r b c z)
 
 -- the part in whose hole the tree, or the part, at z stands
 unfoldable pub outward : Position → Option Located
 unfolding last_part part_at
-outward (start e) = none
-outward (node_row r a c z) = none
-outward (part_row s r a b c z) = none
-outward (pair_side s r b c z) = none
+outward (start e) = None
+outward (node_row r a c z) = None
+outward (part_row s r a b c z) = None
+outward (pair_side s r b c z) = None
 outward (node_spine r a c z) = part_at z
 outward (fill_spine r b c z) = part_at z
 outward (join_side Side.left r b c z) = outward z
-outward (join_side Side.right r b c z) = some (last_part b (join_side Side.left r b c z))
+outward (join_side Side.right r b c z) = Some (last_part b (join_side Side.left r b c z))
 
 -- the row position at which the tree with a node at z was opened
 unfoldable pub row_of : Position → Position
@@ -147,55 +147,55 @@ row_of (join_side s r b c z) = row_of z
 -- the root of the tree beside the one at row position z, on side s: in the row, or in the hole that the row ends at
 unfoldable pub leave : Side → Position → Option Located
 unfolding enter inward
-leave s (start e) = none
-leave s (node_row r a c z) = none
-leave Side.left (part_row Side.left r a b c z) = none
+leave s (start e) = None
+leave s (node_row r a c z) = None
+leave Side.left (part_row Side.left r a b c z) = None
 leave Side.left (part_row Side.right r a b c z) = inward z z
 leave Side.right (part_row Side.left r a b c z) = inward z z
-leave Side.right (part_row Side.right r a b c z) = none
+leave Side.right (part_row Side.right r a b c z) = None
 leave Side.left (pair_side Side.left r b c z) = leave Side.left z
 leave Side.left (pair_side Side.right r b c z) = enter Side.right b (pair_side Side.left r b c z)
 leave Side.right (pair_side Side.left r b c z) = enter Side.left c (pair_side Side.right r b c z)
 leave Side.right (pair_side Side.right r b c z) = leave Side.right z
-leave s (node_spine r a c z) = none
-leave s (fill_spine r b c z) = none
-leave s (join_side t r b c z) = none
+leave s (node_spine r a c z) = None
+leave s (fill_spine r b c z) = None
+leave s (join_side t r b c z) = None
 
 -- the node over whose row position z lies
 unfoldable pub row_parent : Position → Option Located
-row_parent (start e) = none
-row_parent (node_row r a c z) = some (Expression.node r a c, z)
-row_parent (part_row s r a b c z) = some (Expression.part r a b c, z)
+row_parent (start e) = None
+row_parent (node_row r a c z) = Some (Expression.node r a c, z)
+row_parent (part_row s r a b c z) = Some (Expression.part r a b c, z)
 row_parent (pair_side s r b c z) = row_parent z
-row_parent (node_spine r a c z) = none
-row_parent (fill_spine r b c z) = none
-row_parent (join_side s r b c z) = none
+row_parent (node_spine r a c z) = None
+row_parent (fill_spine r b c z) = None
+row_parent (join_side s r b c z) = None
 
 -- the first (left) or last (right) child of the node e at z
 unfoldable pub child : Side → Expression → Position → Option Located
 unfolding enter inward pick or_else
-child s (Expression.empty r) z = none
-child s (Expression.pair r b c) z = none
+child s (Expression.empty r) z = None
+child s (Expression.pair r b c) z = None
 child s (Expression.node r a c) z = enter s c (node_row r a c z)
-child s (Expression.fill r b c) z = none
+child s (Expression.fill r b c) z = None
 child s (Expression.part r a b c) z = or_else (enter s (pick s b c) (part_row s r a b c z)) (inward z z)
-child s (Expression.join r b c) z = none
+child s (Expression.join r b c) z = None
 
 -- the root on side s of the hole of a part e at z: the end of its L or R that is next to the hole
 unfoldable pub beside_hole : Side → Expression → Position → Option Located
 unfolding enter pick other
-beside_hole s (Expression.empty r) z = none
-beside_hole s (Expression.pair r b c) z = none
-beside_hole s (Expression.node r a c) z = none
-beside_hole s (Expression.fill r b c) z = none
+beside_hole s (Expression.empty r) z = None
+beside_hole s (Expression.pair r b c) z = None
+beside_hole s (Expression.node r a c) z = None
+beside_hole s (Expression.fill r b c) z = None
 beside_hole s (Expression.part r a b c) z = enter (other s) (pick s b c) (part_row s r a b c z)
-beside_hole s (Expression.join r b c) z = none
+beside_hole s (Expression.join r b c) z = None
 
 -- the sibling on side s of the node at z: beside the hole that it stands in, else beside it in its row
 sibling_from : Side → Option Located → Position → Option Located
 unfolding beside_hole leave
-sibling_from s none z = leave s z
-sibling_from s (some (e, y)) z = beside_hole s e y
+sibling_from s None z = leave s z
+sibling_from s (Some (e, y)) z = beside_hole s e y
 
 unfoldable pub sibling : Side → Position → Option Located
 unfolding sibling_from outward row_of
@@ -208,13 +208,13 @@ parent z = or_else (outward z) (row_parent (row_of z))
 
 -- the C that still has to be opened when the part at z is its spine's last
 unfoldable pub continues : Position → Option Expression
-continues (start e) = none
-continues (node_row r a c z) = none
-continues (part_row s r a b c z) = none
-continues (pair_side s r b c z) = none
-continues (node_spine r a c z) = none
-continues (fill_spine r b c z) = some c
-continues (join_side Side.left r b c z) = none
+continues (start e) = None
+continues (node_row r a c z) = None
+continues (part_row s r a b c z) = None
+continues (pair_side s r b c z) = None
+continues (node_spine r a c z) = None
+continues (fill_spine r b c z) = Some c
+continues (join_side Side.left r b c z) = None
 continues (join_side Side.right r b c z) = continues z
 
 -- what may stand at a position: an expression in a row; a tree to be opened there; an expression in a spine; a node
@@ -238,9 +238,9 @@ pub data At (w : Expression) : Where → Expression → Position → Type 0 wher
   join : {r : ℕ} {b c : Expression} {z : Position} (s : Side) → At w Where.spine (Expression.join r b c) z → At w Where.spine (pick s b c) (Position.join_side s r b c z)
   part : {r a : ℕ} {b c : Expression} {z : Position} → At w Where.spine (Expression.part r a b c) z → At w Where.here (Expression.part r a b c) z
   arm : {r a : ℕ} {b c : Expression} {z : Position} (s : Side) → At w Where.here (Expression.part r a b c) z → At w Where.row (pick s b c) (Position.part_row s r a b c z)
-  hole : {r a : ℕ} {b c e : Expression} {z : Position} → At w Where.here (Expression.part r a b c) z → continues z ≡ some e → At w Where.tree e z
+  hole : {r a : ℕ} {b c e : Expression} {z : Position} → At w Where.here (Expression.part r a b c) z → continues z ≡ Some e → At w Where.tree e z
 
 -- a path above the forest, or of a node
 pub data Named {A : Type 0} (g : Forest A) : Path → Type 0 where
   above : Named g []
-  node : {p : Path} {a : A} → label_at g p ≡ some a → Named g p
+  node : {p : Path} {a : A} → label_at g p ≡ Some a → Named g p

@@ -1,7 +1,7 @@
 -- The reference walker (document 01, "The finger of demand 3"): a path on the unfolded forest. A path holds "the sibling
 -- numbers from 1 at each level", the deepest first; above the forest it is empty.
 use Rattle.std.specs.Prelude.{ℕ, zero, suc, pred, Bool, true, false, cond, not, ◌&&◌, List, [], ◌∷◌}
-use Rattle.std.proofs.Math.Option.{Option, none, some}
+use Rattle.std.specs.Prelude.{Option, None, Some}
 use Rattle.forest.specs.Forest.{Forest, count}
 use Rattle.forest.specs.Place.{Side}
 use Rattle.forest.specs.Letter.{Letter, is_root}
@@ -27,8 +27,8 @@ below Forest.none = Forest.none
 below (Forest.tree a c f) = c
 
 unfoldable pub top : {A : Type 0} → Forest A → Option A
-top Forest.none = none
-top (Forest.tree a c f) = some a
+top Forest.none = None
+top (Forest.tree a c f) = Some a
 
 -- the children of the node at a path, and the trees for the empty path
 unfoldable pub children_at : {A : Type 0} → Forest A → Path → Forest A
@@ -77,12 +77,12 @@ is_above (i ∷ p) = false
 -- "If the path was empty and the letter isn't a or z, or if the path tried is empty or names no node, the answer is nowhere"
 unfoldable pub answer : {A : Type 0} → Forest A → Letter → Path → Option A
 unfolding label_at tried is_above is_root
-answer g c p = cond (is_above p && not (is_root c)) none (label_at g (tried g c p))
+answer g c p = cond (is_above p && not (is_root c)) None (label_at g (tried g c p))
 
 -- ".. and the path stays. Else the path tried is kept"
 unfoldable pub kept : {A : Type 0} → Option A → Path → Path → Path
-kept none old new = old
-kept (some a) old new = new
+kept None old new = old
+kept (Some a) old new = new
 
 unfoldable pub moved : {A : Type 0} → Forest A → Letter → Path → Path
 unfolding kept answer tried

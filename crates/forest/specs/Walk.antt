@@ -1,6 +1,6 @@
 -- What walk answers and leaves, from what is lent (document 01, "Walk" and "Letters").
-use Rattle.std.specs.Prelude.{ℕ, zero, suc, ◌+◌, ◌-◌, ◌*◌, ◌/◌, Bool, true, false, cond, ◌&&◌, List, [], ◌∷◌, ◌++◌, map, length, replicate, ltb, leb, eqb}
-use Rattle.std.proofs.Math.Option.{Option, none, some}
+use Rattle.std.specs.Prelude.{ℕ, zero, suc, ◌+◌, ◌-◌, ◌*◌, ◌/◌, Bool, true, false, cond, ◌&&◌, List, [], ◌∷◌, ◌++◌, map, length, replicate, ltb, leb, eqb, Result, Ok, Err}
+use Rattle.std.specs.Prelude.{Option, None, Some}
 use Rattle.words.specs.Number.{number, bytes, word_count}
 use Rattle.rule.specs.declared.Rule.{Rule}
 use Rattle.rule.specs.Rule.{closed}
@@ -10,7 +10,6 @@ use Rattle.plan.specs.declared.Checked.{Checked}
 use Rattle.record.specs.Record.{word_length}
 use Rattle.plan.specs.Check.{checked, rules_of}
 use Rattle.words.specs.Front.{in_front}
-use Rattle.forest.specs.declared.Walked.{Walked}
 use Rattle.forest.specs.Forest.{Forest, forest}
 use Rattle.forest.specs.Place.{Cell, Cells, Placed, placed_forest}
 use Rattle.forest.specs.Letter.{Letter, letter_of}
@@ -51,14 +50,14 @@ unfoldable pub enough_place : List ℕ → List ℕ → ℕ → Bool
 enough_place work cursor n = enough_work n work && enough_cursor n cursor
 
 -- a plan, and then what is lent with it: n and start, or the refusal
-unfoldable pub lent_judged : List ℕ → List ℕ → Checked → Checked
-lent_judged work cursor (Checked.Accepted n start) = cond (enough_place work cursor n) (Checked.Accepted n start) (Checked.Refused Refusal.Lent)
-lent_judged work cursor (Checked.Refused x) = Checked.Refused x
+unfoldable pub lent_judged : List ℕ → List ℕ → Result Checked Refusal → Result Checked Refusal
+lent_judged work cursor (Ok x) = cond (enough_place work cursor x.n) (Ok x) (Err Refusal.Lent)
+lent_judged work cursor (Err x) = Err x
 
 -- the letters of a string of bytes, up to the first that is none
 unfoldable pub and_letters : Option Letter → List Letter → List Letter
-and_letters none later = []
-and_letters (some c) later = c ∷ later
+and_letters None later = []
+and_letters (Some c) later = c ∷ later
 
 unfoldable pub letters_of : List ℕ → List Letter
 letters_of [] = []
@@ -66,11 +65,11 @@ letters_of (b ∷ bs) = and_letters (letter_of b) (letters_of bs)
 
 -- "9: the first byte outside a z f l n p u s": its place, counted from i
 unfoldable pub other_at : Option Letter → ℕ → Option ℕ → Option ℕ
-other_at none i later = some i
-other_at (some c) i later = later
+other_at None i later = Some i
+other_at (Some c) i later = later
 
 unfoldable pub first_other : List ℕ → ℕ → Option ℕ
-first_other [] i = none
+first_other [] i = None
 first_other (b ∷ bs) i = other_at (letter_of b) i (first_other bs (suc i))
 
 -- the cell with a number, and cells 1 to k, the last first
@@ -121,18 +120,18 @@ same_cells (c ∷ cs) (d ∷ ds) = same_cell c d && same_cells cs ds
 
 -- the first path found
 unfoldable pub first_of : Option Path → Option Path → Option Path
-first_of none q = q
-first_of (some p) q = some p
+first_of None q = q
+first_of (Some p) q = Some p
 
 -- the path of the node with these cells among the trees numbered from i on, under the node at path p
 unfoldable pub node_with : Cells → Forest Placed → ℕ → Path → Option Path
-node_with cs Forest.none i p = none
+node_with cs Forest.none i p = None
 node_with cs (Forest.tree a c f) i p =
-    cond (same_cells cs a.1) (some (i ∷ p)) (first_of (node_with cs c 1 (i ∷ p)) (node_with cs f (suc i) p))
+    cond (same_cells cs a.1) (Some (i ∷ p)) (first_of (node_with cs c 1 (i ∷ p)) (node_with cs f (suc i) p))
 
 -- "k = 0 is a place above the forest. Cells 1 to k are fixed by the node."
 unfoldable pub path_of : Forest Placed → Cells → Option Path
-path_of g [] = some []
+path_of g [] = Some []
 path_of g (c ∷ cs) = node_with (c ∷ cs) g 1 []
 
 -- what a walk begins with: a refusal, or n, the walked rule and the path of the node whose cells are stored
@@ -142,8 +141,8 @@ pub data Begun : Type 0 where
 
 -- "10: no letters lead from a place above this forest to these used cells", or cell 0 isn't in order
 unfoldable pub stored : ℕ → ℕ → Option Path → Begun
-stored n r none = refused Refusal.Place
-stored n r (some p) = at n r p
+stored n r None = refused Refusal.Place
+stored n r (Some p) = at n r p
 
 -- the place that a cursor holds in rule r's forest
 unfoldable pub place_in : List Rule → ℕ → ℕ → List ℕ → Begun
@@ -156,28 +155,28 @@ place_judged R n start cursor = place_in R n (walked_rule start cursor) cursor
 
 -- "9: the first byte outside a z f l n p u s"
 unfoldable pub letters_judged : Option ℕ → Begun → Begun
-letters_judged none later = later
-letters_judged (some i) later = refused (Refusal.Letter i)
+letters_judged None later = later
+letters_judged (Some i) later = refused (Refusal.Letter i)
 
-unfoldable pub begun_from : List ℕ → List ℕ → List ℕ → List ℕ → List ℕ → Checked → Begun
-begun_from s work cursor letters given (Checked.Accepted n start) =
-    cond (enough_lent work cursor letters given n)
-    (letters_judged (first_other letters 0) (place_judged (rules_of s) n start cursor))
+unfoldable pub begun_from : List ℕ → List ℕ → List ℕ → List ℕ → List ℕ → Result Checked Refusal → Begun
+begun_from s work cursor letters given (Ok x) =
+    cond (enough_lent work cursor letters given x.n)
+    (letters_judged (first_other letters 0) (place_judged (rules_of s) x.n x.start cursor))
     (refused Refusal.Lent)
-begun_from s work cursor letters given (Checked.Refused r) = refused r
+begun_from s work cursor letters given (Err r) = refused r
 
 -- "As check; 8: .. 9: .. 10: .."
 unfoldable pub begun : List ℕ → List ℕ → List ℕ → List ℕ → List ℕ → Begun
 begun s work cursor letters given = begun_from s work cursor letters given (checked s)
 
-unfoldable pub walked : Begun → Walked
-walked (refused r) = Walked.Refused r
-walked (at n r p) = Walked.Accepted
+unfoldable pub walked : Begun → Result Unit Refusal
+walked (refused r) = Err r
+walked (at n r p) = Ok tt
 
 -- the cells of the node at a path, none above the forest
 unfoldable pub cells_of : Option Placed → Cells
-cells_of none = []
-cells_of (some a) = a.1
+cells_of None = []
+cells_of (Some a) = a.1
 
 unfoldable pub place_at : Forest Placed → Path → Cells
 place_at g p = cells_of (label_at g p)
@@ -209,8 +208,8 @@ abbrev pub nowhere : ℕ
 nowhere = 4294967295
 
 unfoldable pub answer_word : Option ℕ → ℕ
-answer_word none = nowhere
-answer_word (some a) = a
+answer_word None = nowhere
+answer_word (Some a) = a
 
 unfoldable pub answers_bytes : List ℕ → List ℕ
 answers_bytes [] = []

@@ -1,31 +1,18 @@
 // What a plan means (specs/), and the answers of the operations on its forest.
 #![tactic(auto)]
 
-use refusal::Refusal;
-
-// What measure answers: trees, entries (all nodes) and levels, or the refusal.
+// What measure answers: trees, entries (all nodes) and levels.
 #[derive(Clone, Copy)]
-pub enum Measured {
-    Counts {
-        trees: u64,
-        entries: u64,
-        levels: u64,
-    },
-    Refused(Refusal),
-}
-
-// What walk answers; the answers to the letters are written out.
-#[derive(Clone, Copy)]
-pub enum Walked {
-    Accepted,
-    Refused(Refusal),
+pub struct Measured {
+    pub trees: u64,
+    pub entries: u64,
+    pub levels: u64,
 }
 
 // What compare answers: the count of pairs of nodes that agree, the place of the first pair that differs, or the budget.
-#[derive(Clone, Copy)]
+#[derive(Clone, Copy, Debug, PartialEq, Eq)]
 pub enum Compared {
     Same(u32),
     Differ(u32),
     Spent(u32),
-    Refused(Refusal),
 }

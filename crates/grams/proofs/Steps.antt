@@ -1,6 +1,7 @@
 -- Each step of grams leaves what the next one asks, whatever was judged: where something is turned down no rules are loaded, nothing is
 -- annotated, and the answer is that refusal; else the rows hold the plan's rules and the grams of their own labels, and the start rule's sum is
 -- that over its forest's nodes. Assumes nothing.
+use Rattle.std.specs.Prelude.{Result, Ok, Err}
 use Prim.Native.Nat.{ℕ, ◌*◌, ◌≤◌}
 use native.Mathlib.Omega.{arith}
 use mathlib.Core.List.{List}
@@ -14,8 +15,6 @@ use Rattle.forest.specs.Expression.{expression}
 use Rattle.forest.specs.Forest.{forest}
 use Rattle.forest.specs.Outcome.{enough_work, work_judged, work_after}
 use Rattle.label_rows.specs.declared.LabelRow.{LabelRow}
-use Rattle.label_rows.specs.declared.Coverage.{Coverage}
-use Rattle.label_rows.specs.declared.Weighed.{Weighed}
 use Rattle.label_rows.specs.Coverage.{coverage}
 use Rattle.label_rows.specs.Class.{grams_of}
 use Rattle.list_judge.specs.Listed.{list_judged}
@@ -36,27 +35,27 @@ use Rattle.grams.specs.Grams.{sum_judged, weighed_from, weighed, weighed_work}
 use Rattle.grams.specs.Steps.{loaded_rules, Answerable, SumGiven, Answered}
 
 -- the answer and the work that grams gives
-abbrev pub Outcome : List ℕ → List LabelRow → List ℕ → Weighed → List ℕ → Type 0
+abbrev pub Outcome : List ℕ → List LabelRow → List ℕ → Result ℕ Refusal → List ℕ → Type 0
 Outcome s rows work y v = (y ≡ weighed s rows work) × (v ≡ weighed_work s rows work)
 
-module _ (s : List ℕ) (rows : List LabelRow) {j l : Checked} (e : j ≡ checked s) (f : l ≡ list_judged (coverage rows) j) where
+module _ (s : List ℕ) (rows : List LabelRow) {j l : Result Checked Refusal} (e : j ≡ checked s) (f : l ≡ list_judged (coverage rows) j) where
   pub judged : Judged s l
   judged = record { accepts = λ n start q. sym e ∙ (list-passed (coverage rows) j (sym f ∙ q)).1 }
 
-  sound-list : {n start : ℕ} → l ≡ Checked.Accepted n start → coverage rows ≡ Coverage.Whole
+  sound-list : {n start : ℕ} → l ≡ Ok (record { n = n; start = start }) → coverage rows ≡ Ok tt
   sound-list q = (list-passed (coverage rows) j (sym f ∙ q)).0
 
 -- behind a list that is sound or turned down, rules loaded
-module _ (s : List ℕ) (rows : List LabelRow) (work : List ℕ) {j l x : Checked} {t : List ℕ}
+module _ (s : List ℕ) (rows : List LabelRow) (work : List ℕ) {j l x : Result Checked Refusal} {t : List ℕ}
     (e : j ≡ checked s) (f : l ≡ list_judged (coverage rows) j) (p : Prepared s work t l x) where
-  annotatable-by : (y : Checked) → x ≡ y → Annotatable rows (loaded_rules y) t
+  annotatable-by : (y : Result Checked Refusal) → x ≡ y → Annotatable rows (loaded_rules y) t
   unfolding loaded_rules
-  annotatable-by (Checked.Accepted n start) q =
-      let h : Held s n start t = held p q in
-      let room : work_length * n ≤ length t = h.room in
-      sound-annotatable (rules_of s) rows n t (p.loaded n start q).arranged.rows (rank (rules_of s)) h.accepted.sound h.accepted.rules
-      (sound-list s rows e f (p.judged n start q)) (omega arith)
-  annotatable-by (Checked.Refused why) q =
+  annotatable-by (Ok x) q =
+      let h : Held s x.n x.start t = held p q in
+      let room : work_length * x.n ≤ length t = h.room in
+      sound-annotatable (rules_of s) rows x.n t (p.loaded x.n x.start q).arranged.rows (rank (rules_of s)) h.accepted.sound h.accepted.rules
+      (sound-list s rows e f (p.judged x.n x.start q)) (omega arith)
+  annotatable-by (Err why) q =
       record {
         sound = λ some. absurd (omega arith);
         room = omega arith;
@@ -68,11 +67,11 @@ module _ (s : List ℕ) (rows : List LabelRow) (work : List ℕ) {j l x : Checke
 
   -- the rows annotated
   module _ {n : ℕ} (q : n ≡ loaded_rules x) {u : List ℕ} (a : Annotated rows 0 n t u) where
-    annotated : {m start : ℕ} → x ≡ Checked.Accepted m start → Annotated rows 0 m t u
+    annotated : {m start : ℕ} → x ≡ Ok (record { n = m; start = start }) → Annotated rows 0 m t u
     unfolding loaded_rules
     annotated r = rw (q, r) at a
 
-    unannotated : {why : Refusal} → x ≡ Checked.Refused why → u ≡ t
+    unannotated : {why : Refusal} → x ≡ Err why → u ≡ t
     unfolding loaded_rules
     unannotated r = let z : Annotated rows 0 0 t u = rw (q, r) at a in z.besides.beyond.same_after
 
@@ -91,8 +90,8 @@ module _ (s : List ℕ) (rows : List LabelRow) (work : List ℕ) {j l x : Checke
         }
 
     -- the answer
-    module _ {y : Weighed} {v : List ℕ} (g : Answered u v x y) where
-      summed : {m start : ℕ} → x ≡ Checked.Accepted m start → Outcome s rows work y v
+    module _ {y : Result ℕ Refusal} {v : List ℕ} (g : Answered u v x y) where
+      summed : {m start : ℕ} → x ≡ Ok (record { n = m; start = start }) → Outcome s rows work y v
       unfolding forest weighed weighed_from weighed_work
       summed {m} {start} r =
           let h : Held s m start t = held p r in
@@ -107,20 +106,20 @@ module _ (s : List ℕ) (rows : List LabelRow) (work : List ℕ) {j l x : Checke
                 ∙ ap (weighed_from rows (rules_of s)) (sym r ∙ p.answer ∙ ap (work_judged work) (f ∙ ap (list_judged (coverage rows)) e)),
             z.clears
                 ∙ work-cleared (λ k. enough_work k work) l work m start (p.judged m start r) d.enough u (within_both d.arranged.within (beyond-work m b.besides.beyond))
-                ∙ ap (λ (c : Checked). work_after (λ k. enough_work k work) c work) (f ∙ ap (list_judged (coverage rows)) e),
+                ∙ ap (λ (c : Result Checked Refusal). work_after (λ k. enough_work k work) c work) (f ∙ ap (list_judged (coverage rows)) e),
           )
 
-      turned_down_lem : {why : Refusal} → x ≡ Checked.Refused why → Outcome s rows work y v
+      turned_down_lem : {why : Refusal} → x ≡ Err why → Outcome s rows work y v
       unfolding weighed weighed_from weighed_work
       turned_down_lem {why} r =
           let z = g.refused why r in (
             z.0 ∙ ap (weighed_from rows (rules_of s)) (sym r ∙ p.answer ∙ ap (work_judged work) (f ∙ ap (list_judged (coverage rows)) e)),
-            z.1 ∙ unannotated r ∙ p.refused why r ∙ ap (λ (c : Checked). work_after (λ k. enough_work k work) c work) (f ∙ ap (list_judged (coverage rows)) e),
+            z.1 ∙ unannotated r ∙ p.refused why r ∙ ap (λ (c : Result Checked Refusal). work_after (λ k. enough_work k work) c work) (f ∙ ap (list_judged (coverage rows)) e),
           )
 
-      outcome-by : (c : Checked) → x ≡ c → Outcome s rows work y v
-      outcome-by (Checked.Accepted m start) r = summed r
-      outcome-by (Checked.Refused why) r = turned_down_lem r
+      outcome-by : (c : Result Checked Refusal) → x ≡ c → Outcome s rows work y v
+      outcome-by (Ok x) r = summed r
+      outcome-by (Err why) r = turned_down_lem r
 
       pub outcome : Outcome s rows work y v
       outcome = outcome-by x refl

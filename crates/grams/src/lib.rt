@@ -2,53 +2,46 @@
 #![tactic(auto)]
 
 ghost use Rattle.std.specs.Prelude.{ℕ, ◌≡◌};
-ghost use Rattle.count_capped.specs.Count.{capped, number_of};
+ghost use Rattle.count_capped.specs.Count.{capped};
 ghost use Rattle.grams.specs.Grams.{sum_judged, weighed, weighed_work};
 ghost use Rattle.grams.specs.Steps.{loaded_rules, Answerable, Answered};
 
 use count_capped::Count;
-use label_rows::{LabelRow, Weighed};
+use label_rows::LabelRow;
 use plan::Checked;
 use refusal::Refusal;
 
 // The number of rules in the rows: none where the plan or what it comes with is turned down.
-fn loaded(ready: Checked) -> u16
+fn loaded(ready: Result<Checked, Refusal>) -> u16
     ensures { result ≡ loaded_rules ready }
 {
     match ready {
-        Checked::Accepted { n, .. } => n,
-        Checked::Refused(_) => 0,
+        Ok(Checked { n, .. }) => n,
+        Err(_) => 0,
     }
 }
 
 // The answer for a sum.
-fn given(sum: Count) -> Weighed
-    ensures { (g : ℕ) → number_of sum ≡ capped g → result ≡ sum_judged g }
+fn given(sum: Count) -> Result<u64, Refusal>
+    ensures { (g : ℕ) → sum ≡ capped g → result ≡ sum_judged g }
 {
-    if sum.over == 0 {
-        return Weighed::Grams(sum.low);
-    }
-    Weighed::Refused(Refusal::Room)
+    sum.number().ok_or(Refusal::Room)
 }
 
 // The answer for the rules in the rows, whose words say what their own labels weigh, and the work cleared; or why there is none.
-fn answer(work: &mut [u8], ready: Checked) -> Weighed
+fn answer(work: &mut [u8], ready: Result<Checked, Refusal>) -> Result<u64, Refusal>
     requires { Answerable work.old ready }
     ensures { Answered work.old work.new ready result }
 {
-    match ready {
-        Checked::Accepted { n, start } => {
-            let sum = count_weights::total(work, n, start);
-            work_rows::clear_work(work, n);
-            given(sum)
-        }
-        Checked::Refused(why) => Weighed::Refused(why),
-    }
+    let Checked { n, start } = ready?;
+    let sum = count_weights::total(work, n, start);
+    work_rows::clear_work(work, n);
+    given(sum)
 }
 
 // The grams of a plan by a list of label rows: the plan and the list are judged, the rules go to the rows of work, each row is told what its
 // rule's own label weighs, and the start rule's sum is made.
-pub fn grams(plan: &[u8], rows: &[LabelRow], work: &mut [u8]) -> Weighed
+pub fn grams(plan: &[u8], rows: &[LabelRow], work: &mut [u8]) -> Result<u64, Refusal>
     ensures { let work' = work.new in
         let plan = plan.now in
         let rows = rows.now in

@@ -4,7 +4,8 @@
 use Prim.Native.Nat.{ℕ, zero, suc, ◌+◌, ◌≤◌, ◌<◌}
 use mathlib.Core.Bool.{Bool, true, false, cond, ◌&&◌, and-eq-true_iff}
 use mathlib.Core.List.{List}
-use mathlib.Core.Option.{Option, none, some}
+use Rattle.std.specs.Prelude.{Option, None, Some, Result, Ok, Err}
+use Rattle.rule.specs.declared.Rule.{Rule}
 use mathlib.Core.Path.{◌≡◌, refl, sym, subst}
 use mathlib.Core.Logic.{⊎_elim}
 use native.Mathlib.Nat.{eq-or-lt_of_le}
@@ -15,7 +16,6 @@ use borrow.Author.Tests.{ltb-true}
 use Rattle.record.specs.declared.Format.{Format}
 use Rattle.refusal.specs.declared.Refusal.{Refusal}
 use Rattle.record.specs.declared.Record.{Record}
-use Rattle.rule.specs.declared.Decoded.{Decoded}
 use Rattle.rule.specs.Rule.{decode, every, sorts, closed, rules_in}
 use Rattle.record.specs.Records.{record_in, kind_at}
 use Rattle.rule.specs.Sound.{Sound, Closed}
@@ -24,37 +24,36 @@ use Rattle.reach.specs.Reaches.{lowest_cycle}
 use Rattle.reach.specs.Order.{Ranged, Acyclic, rank}
 use Rattle.reach.proofs.Acyclic.{rank_falls, rank_below}
 use Rattle.reach.proofs.Lowest.{lowest-none}
-use Rattle.judge.specs.declared.Judged.{Judged}
 use Rattle.judge.specs.Judge.{names_judged, rule_judged, and_then, rules_judged, cycle_judged, start_judged, judged}
 use Rattle.judge.specs.Tested.{Passed}
 
 -- ---- tests that passed
-pub fine-passed : (b : Bool) (x : Judged) (e : Refusal) → cond b x (Judged.Refused e) ≡ Judged.Fine → (b ≡ true) × (x ≡ Judged.Fine)
+pub fine-passed : (b : Bool) (x : Result Unit Refusal) (e : Refusal) → cond b x (Err e) ≡ Ok tt → (b ≡ true) × (x ≡ Ok tt)
 fine-passed true x e h = (refl, h)
 fine-passed false x e h = let z : ◌≡◌ {A = ℕ} 0 1 = cc in absurd (omega arith)
 
-pub and_then-fine : (a b : Judged) → and_then a b ≡ Judged.Fine → (a ≡ Judged.Fine) × (b ≡ Judged.Fine)
+pub and_then-fine : (a b : Result Unit Refusal) → and_then a b ≡ Ok tt → (a ≡ Ok tt) × (b ≡ Ok tt)
 unfolding and_then
-and_then-fine Judged.Fine b h = (refl, h)
-and_then-fine (Judged.Refused e) b h = let z : ◌≡◌ {A = ℕ} 0 1 = cc in absurd (omega arith)
+and_then-fine (Ok _) b h = (refl, h)
+and_then-fine (Err e) b h = let z : ◌≡◌ {A = ℕ} 0 1 = cc in absurd (omega arith)
 
 pub is-test : {b : Bool} → b ≡ true → T b
 is-test e = subst T (sym e) tt
 
 -- the judgement of each rule
-named : (ws : List Record) (i : ℕ) (d : Decoded) → names_judged ws i d ≡ Judged.Fine → Named ws i d
+named : (ws : List Record) (i : ℕ) (d : Option Rule) → names_judged ws i d ≡ Ok tt → Named ws i d
 unfolding names_judged
-named ws i Decoded.Malformed h = let z : ◌≡◌ {A = ℕ} 0 1 = cc in absurd (omega arith)
-named ws i (Decoded.Whole r) h =
-    let p = fine-passed (every (λ x. ltb x (length ws)) r) (cond (sorts (kind_at ws) r) Judged.Fine (Judged.Refused (Refusal.WrongSort i))) (Refusal.NoRule i) h in
-    let q = fine-passed (sorts (kind_at ws) r) Judged.Fine (Refusal.WrongSort i) p.1 in
+named ws i None h = let z : ◌≡◌ {A = ℕ} 0 1 = cc in absurd (omega arith)
+named ws i (Some r) h =
+    let p = fine-passed (every (λ x. ltb x (length ws)) r) (cond (sorts (kind_at ws) r) (Ok tt) (Err (Refusal.WrongSort i))) (Refusal.NoRule i) h in
+    let q = fine-passed (sorts (kind_at ws) r) (Ok tt) (Refusal.WrongSort i) p.1 in
     record { means = r; decodes = refl; ranged = is-test p.0; sorted = is-test q.0 }
 
 module _ (f : Format) where
   -- m rules from i on, and what follows them
-  rules-fine : (ws : List Record) (last : Judged) (m i : ℕ)
-      → rules_judged f ws last i m ≡ Judged.Fine
-      → ((k : ℕ) → i ≤ k → k < i + m → rule_judged f ws k ≡ Judged.Fine) × (last ≡ Judged.Fine)
+  rules-fine : (ws : List Record) (last : Result Unit Refusal) (m i : ℕ)
+      → rules_judged f ws last i m ≡ Ok tt
+      → ((k : ℕ) → i ≤ k → k < i + m → rule_judged f ws k ≡ Ok tt) × (last ≡ Ok tt)
   unfolding rules_judged
   rules-fine ws last zero i h = (λ k l u. absurd (omega arith), h)
   rules-fine ws last (suc m) i h =
@@ -70,10 +69,10 @@ module _ (f : Format) where
     pub sound : Sound (rules_in f ws) (rank (rules_in f ws))
     pub ends : Closed (rules_in f ws) start
 
-  fit-start : (ws : List Record) (start : ℕ) → ((i : ℕ) → i < length ws → Named ws i (decode f (record_in ws i))) → start_judged ws start ≡ Judged.Fine → Closed (rules_in f ws) start
+  fit-start : (ws : List Record) (start : ℕ) → ((i : ℕ) → i < length ws → Named ws i (decode f (record_in ws i))) → start_judged ws start ≡ Ok tt → Closed (rules_in f ws) start
   unfolding start_judged
   fit-start ws start each h =
-      let p = fine-passed (ltb start (length ws) && closed (kind_at ws start)) Judged.Fine Refusal.Start h in
+      let p = fine-passed (ltb start (length ws) && closed (kind_at ws start)) (Ok tt) Refusal.Start h in
       let q = (and-eq-true_iff (ltb start (length ws)) (closed (kind_at ws start))).0 p.0 in
       record {
         below = omega (arith, length-rules_in f ws, ltb-true start (length ws) q.0);
@@ -83,17 +82,17 @@ module _ (f : Format) where
   -- rules that pass 4 to 6
   pub passed-each : (ws : List Record) → Passed f ws → (i : ℕ) → i < length ws → Named ws i (decode f (record_in ws i))
   unfolding rule_judged
-  passed-each ws h i l = named ws i (decode f (record_in ws i)) ((rules-fine ws Judged.Fine (length ws) 0 (h Judged.Fine)).0 i (omega arith) (omega arith))
+  passed-each ws h i l = named ws i (decode f (record_in ws i)) ((rules-fine ws (Ok tt) (length ws) 0 (h (Ok tt))).0 i (omega arith) (omega arith))
 
   pub passed-ranged : (ws : List Record) → Passed f ws → Ranged (rules_in f ws)
   passed-ranged ws h = named-ranged f ws (passed-each ws h)
 
-  cycle-fine : (x : Option ℕ) (later : Judged) → cycle_judged x later ≡ Judged.Fine → (x ≡ none) × (later ≡ Judged.Fine)
+  cycle-fine : (x : Option ℕ) (later : Result Unit Refusal) → cycle_judged x later ≡ Ok tt → (x ≡ None) × (later ≡ Ok tt)
   unfolding cycle_judged
-  cycle-fine none later h = (refl, h)
-  cycle-fine (some r) later h = let z : ◌≡◌ {A = ℕ} 0 1 = cc in absurd (omega arith)
+  cycle-fine None later h = (refl, h)
+  cycle-fine (Some r) later h = let z : ◌≡◌ {A = ℕ} 0 1 = cc in absurd (omega arith)
 
-  pub fine-fit : (ws : List Record) (start : ℕ) → judged f ws start ≡ Judged.Fine → Fit ws start
+  pub fine-fit : (ws : List Record) (start : ℕ) → judged f ws start ≡ Ok tt → Fit ws start
   unfolding judged rule_judged
   fine-fit ws start h =
       let p = rules-fine ws (cycle_judged (lowest_cycle (rules_in f ws)) (start_judged ws start)) (length ws) 0 h in

@@ -1,6 +1,8 @@
 -- The rules of a narrow plan are judged by their four words, as document 01 has it: their records have no fifth word, so each means what
 -- document 01's table of kinds says (rule/proofs/Narrow), and rules and judgement go by what records mean. What Note 1 changed, that a
 -- rule may name a higher one and none reach itself, is as it is for all plans. Assumes nothing.
+use Rattle.std.specs.Prelude.{Result}
+use Rattle.refusal.specs.declared.Refusal.{Refusal}
 use Prim.Native.Nat.{ℕ, zero, suc, ◌+◌}
 use mathlib.Core.Path.{◌≡◌, refl, ap, ap₂}
 use mathlib.Core.List.{List, [], ◌∷◌, map}
@@ -15,7 +17,6 @@ use Rattle.rule.specs.declared.Rule.{Rule}
 use Rattle.rule.specs.Rule.{decode, rule_of, rules_in}
 use Rattle.rule.proofs.Narrow.{decode_before, narrow-as-before}
 use Rattle.reach.specs.Reaches.{lowest_cycle}
-use Rattle.judge.specs.declared.Judged.{Judged}
 use Rattle.judge.specs.Judge.{names_judged, and_then, rules_judged, cycle_judged, start_judged, judged}
 
 -- the rules of records by document 01's table
@@ -23,11 +24,11 @@ pub rules_narrow : List Record → List Rule
 rules_narrow ws = map (λ (w : Record). rule_of (decode_before w)) ws
 
 -- refusals 4 to 7 and 12 by it
-each_narrow : List Record → Judged → ℕ → ℕ → Judged
+each_narrow : List Record → Result Unit Refusal → ℕ → ℕ → Result Unit Refusal
 each_narrow ws last i zero = last
 each_narrow ws last i (suc m) = and_then (names_judged ws i (decode_before (record_in ws i))) (each_narrow ws last (suc i) m)
 
-pub judged_narrow : List Record → ℕ → Judged
+pub judged_narrow : List Record → ℕ → Result Unit Refusal
 judged_narrow ws start = each_narrow ws (cycle_judged (lowest_cycle (rules_narrow ws)) (start_judged ws start)) 0 (length ws)
 
 -- n narrow rules that stand in bytes from an offset on
@@ -52,6 +53,6 @@ module _ (s : List ℕ) where
       ws : List Record
       ws = records_from Format.Narrow s at n
 
-      each : (last : Judged) (i m : ℕ) → rules_judged Format.Narrow ws last i m ≡ each_narrow ws last i m
+      each : (last : Result Unit Refusal) (i m : ℕ) → rules_judged Format.Narrow ws last i m ≡ each_narrow ws last i m
       each last i zero = refl
       each last i (suc m) = ap₂ and_then (ap (names_judged ws i) (narrow-record at n i)) (each last (suc i) m)

@@ -1,99 +1,80 @@
 // The test of a plan's rules (document 01, "Check", refusals 4 to 7, and document 02, Note 1, refusal 12), which check and seal share.
 #![tactic(auto)]
 
-ghost use Rattle.std.specs.Prelude.{◌≡◌, ◌+◌, ◌*◌, ◌≤◌, ◌<◌, ◌&&◌, length, ltb};
-ghost use Rattle.record.specs.Record.{length_of_record};
+ghost use Rattle.std.specs.Prelude.{◌≡◌, ◌*◌, ◌≤◌, ◌<◌, ◌&&◌, ltb};
 ghost use Rattle.rule.specs.Rule.{kind_empty, kind_pair, kind_node, closed, holed, tree, rules_in};
-ghost use Rattle.record.specs.Records.{records_from, record_in, kind_at};
+ghost use Rattle.record.specs.Records.{record_in, kind_at};
+ghost use Rattle.record.specs.RuleRecords.{records_lent};
 ghost use Rattle.reach.specs.Reaches.{lowest_cycle};
 ghost use Rattle.refusal.specs.declared.Refusal.{Refusal};
-ghost use Rattle.judge.specs.declared.Judged.{Judged};
 ghost use Rattle.judge.specs.Judge.{cycle_judged, start_judged, judged};
-ghost use Rattle.judge.specs.Tested.{few_searched, most_searched, verdict, tested, Tells, Searchable};
+ghost use Rattle.judge.specs.Tested.{most_searched, verdict, tested, Tells, Searchable};
 
-use record::{Format, Record};
+use record::{Record, RuleRecords};
 use refusal::Refusal;
 use rule::Rule;
 
-// What a test of rules comes to.
-#[derive(Clone, Copy)]
-pub enum Judged {
-    Fine,
-    Refused(Refusal),
-}
-
-// What the test of one rule comes to: it names only lower rules, or others too, or it is turned down.
-#[derive(Clone, Copy)]
-enum Tested {
-    Lower,
-    Mixed,
-    Refused(Refusal),
-}
-
-// What the test of all rules comes to: each names only lower ones, or some name others too, or one is turned down.
-#[derive(Clone, Copy)]
-enum Rules {
-    Lower,
-    Mixed,
-    Refused(Refusal),
-}
-
-// The kind of rule x, of n rules whose records begin at first; empty where there is no such rule.
-fn kind_at(s: &[u8], format: Format, first: usize, n: u16, x: u16) -> u16
-    requires { first + length_of_record format * n ≤ length s.now }
-    ensures { result ≡ kind_at (records_from format s.now first n) x }
+// The kind of rule x; empty where there is no such rule.
+fn kind_at(rules: &RuleRecords, x: u16) -> u16
+    ensures { result ≡ kind_at (records_lent rules.now) x }
 {
-    if x < n {
-        words::read16(s, first + format.length() * (x as usize))
+    if x < rules.n {
+        rules.kind(x)
     } else {
         Rule::EMPTY
     }
 }
 
 // The sorts of rule x, by its kind: closed, holed, and a tree.
-fn closed_at(s: &[u8], format: Format, first: usize, n: u16, x: u16) -> bool
-    requires { first + length_of_record format * n ≤ length s.now }
-    ensures { result ≡ closed (kind_at (records_from format s.now first n) x) }
+#[tactic(auto, unfolding(rule::specs::Rule::closed))]
+fn closed_at(rules: &RuleRecords, x: u16) -> bool
+    ensures { result ≡ closed (kind_at (records_lent rules.now) x) }
 {
-    let kind = kind_at(s, format, first, n, x);
+    let kind = kind_at(rules, x);
     (kind == Rule::EMPTY) | (kind == Rule::PAIR) | (kind == Rule::NODE) | (kind == Rule::FILL)
 }
 
-fn holed_at(s: &[u8], format: Format, first: usize, n: u16, x: u16) -> bool
-    requires { first + length_of_record format * n ≤ length s.now }
-    ensures { result ≡ holed (kind_at (records_from format s.now first n) x) }
+#[tactic(auto, unfolding(rule::specs::Rule::holed))]
+fn holed_at(rules: &RuleRecords, x: u16) -> bool
+    ensures { result ≡ holed (kind_at (records_lent rules.now) x) }
 {
-    let kind = kind_at(s, format, first, n, x);
+    let kind = kind_at(rules, x);
     (kind == Rule::PART) | (kind == Rule::JOIN)
 }
 
-fn tree_at(s: &[u8], format: Format, first: usize, n: u16, x: u16) -> bool
-    requires { first + length_of_record format * n ≤ length s.now }
-    ensures { result ≡ tree (kind_at (records_from format s.now first n) x) }
+fn tree_at(rules: &RuleRecords, x: u16) -> bool
+    ensures { result ≡ tree (kind_at (records_lent rules.now) x) }
 {
-    let kind = kind_at(s, format, first, n, x);
+    let kind = kind_at(rules, x);
     (kind == Rule::NODE) | (kind == Rule::FILL)
 }
 
 // The first of 4, 5 and 6 whose test failed for rule i; else whether the rule names only lower ones.
-fn verdict(i: u16, formed: bool, ranged: bool, sorted: bool, lower: bool) -> Tested
+fn verdict(i: u16, formed: bool, ranged: bool, sorted: bool, lower: bool) -> Result<bool, Refusal>
     ensures { result ≡ verdict i formed ranged sorted lower }
 {
     let number = i as usize;
     if !formed {
-        return Tested::Refused(Refusal::Malformed(number));
+        return Err(Refusal::Malformed(number));
     }
     if !ranged {
-        return Tested::Refused(Refusal::NoRule(number));
+        return Err(Refusal::NoRule(number));
     }
     if !sorted {
-        return Tested::Refused(Refusal::WrongSort(number));
+        return Err(Refusal::WrongSort(number));
     }
-    if lower { Tested::Lower } else { Tested::Mixed }
+    Ok(lower)
 }
 
 // The same of a rule that names two.
-fn verdict_of_two(i: u16, n: u16, formed: bool, one: u16, two: u16, sorted: bool) -> Tested
+fn verdict_of_two(
+    i: u16,
+    n: u16,
+    formed: bool,
+    one: u16,
+    two: u16,
+    sorted: bool,
+) -> Result<bool, Refusal>
     ensures { result ≡ verdict i formed (ltb one n && ltb two n) sorted (ltb one i && ltb two i) }
 {
     verdict(
@@ -105,12 +86,13 @@ fn verdict_of_two(i: u16, n: u16, formed: bool, one: u16, two: u16, sorted: bool
     )
 }
 
-// The test of rule i by its record's words: kinds 0 to 2 here, all others in test_filled.
-fn test_rule(s: &[u8], format: Format, first: usize, n: u16, i: u16) -> Tested
-    requires { (first + length_of_record format * n ≤ length s.now) × (i < n) }
-    ensures { result ≡ tested format (records_from format s.now first n) i }
+// The test of rule i by its record's words, which tells whether it names only lower rules: kinds 0 to 2 here, all others in test_filled.
+fn test_rule(rules: &RuleRecords, i: u16) -> Result<bool, Refusal>
+    requires { i < rules.now.n }
+    ensures { result ≡ tested rules.now.format (records_lent rules.now) i }
 {
-    let w = Record::read(s, format, first + format.length() * (i as usize));
+    let n = rules.n;
+    let w = rules.record(i);
     let kind = w.kind;
     let one = w.one;
     let two = w.two;
@@ -125,15 +107,15 @@ fn test_rule(s: &[u8], format: Format, first: usize, n: u16, i: u16) -> Tested
             unused & low,
             one,
             two,
-            closed_at(s, format, first, n, one) & closed_at(s, format, first, n, two),
+            closed_at(rules, one) & closed_at(rules, two),
         );
     }
     if kind == Rule::NODE {
         return verdict(
             i,
-            Rule::label_fits(w, format) & unused,
+            Rule::label_fits(w, rules.format) & unused,
             two < n,
-            closed_at(s, format, first, n, two),
+            closed_at(rules, two),
             two < i,
         );
     }
@@ -146,19 +128,18 @@ fn test_rule(s: &[u8], format: Format, first: usize, n: u16, i: u16) -> Tested
             true,
         );
     }
-    test_filled(s, format, first, n, i, w)
+    test_filled(rules, i, w)
 }
 
 // The same from the rule's record, of every kind but 0 to 2: those that have to do with a hole, and kinds above 5.
-fn test_filled(s: &[u8], format: Format, first: usize, n: u16, i: u16, w: Record) -> Tested
-    requires { (first + length_of_record format * n ≤ length s.now)
-        × (i < n)
-        × (w ≡ record_in (records_from format s.now first n) i)
+fn test_filled(rules: &RuleRecords, i: u16, w: Record) -> Result<bool, Refusal>
+    requires { (w ≡ record_in (records_lent rules.now) i)
         × (w.kind ≡ kind_empty → ⊥)
         × (w.kind ≡ kind_pair → ⊥)
         × (w.kind ≡ kind_node → ⊥) }
-    ensures { result ≡ tested format (records_from format s.now first n) i }
+    ensures { result ≡ tested rules.now.format (records_lent rules.now) i }
 {
+    let n = rules.n;
     let kind = w.kind;
     let one = w.one;
     let two = w.two;
@@ -172,17 +153,17 @@ fn test_filled(s: &[u8], format: Format, first: usize, n: u16, i: u16, w: Record
             unused,
             one,
             two,
-            holed_at(s, format, first, n, one) & tree_at(s, format, first, n, two),
+            holed_at(rules, one) & tree_at(rules, two),
         );
     }
     if kind == Rule::PART {
         return verdict_of_two(
             i,
             n,
-            Rule::label_fits(w, format),
+            Rule::label_fits(w, rules.format),
             two,
             three,
-            closed_at(s, format, first, n, two) & closed_at(s, format, first, n, three),
+            closed_at(rules, two) & closed_at(rules, three),
         );
     }
     if kind == Rule::JOIN {
@@ -192,106 +173,82 @@ fn test_filled(s: &[u8], format: Format, first: usize, n: u16, i: u16, w: Record
             unused,
             one,
             two,
-            holed_at(s, format, first, n, one) & holed_at(s, format, first, n, two),
+            holed_at(rules, one) & holed_at(rules, two),
         );
     }
-    Tested::Refused(Refusal::Malformed(i as usize))
+    Err(Refusal::Malformed(i as usize))
 }
 
-// Refusals 4 to 6 of n rules whose records begin at first, from rule 0 up.
-fn test_rules(s: &[u8], format: Format, first: usize, n: u16) -> Rules
-    requires { first + length_of_record format * n ≤ length s.now }
-    ensures { Tells format (records_from format s.now first n) result }
+// Refusals 4 to 6 of the rules, from rule 0 up; else whether each names only lower ones.
+fn test_rules(rules: &RuleRecords) -> Result<bool, Refusal>
+    ensures { Tells rules.now.format (records_lent rules.now) result }
 {
     let mut lower = true;
-    let mut i: u16 = 0;
-    while i < n {
-        match test_rule(s, format, first, n, i) {
-            Tested::Lower => i += 1,
-            Tested::Mixed => {
-                lower = false;
-                i += 1
-            }
-            Tested::Refused(refusal) => return Rules::Refused(refusal),
-        }
+    for i in 0..rules.n {
+        lower &= test_rule(rules, i)?;
     }
-    if lower { Rules::Lower } else { Rules::Mixed }
+    Ok(lower)
 }
 
 // Refusal 7: the start rule isn't below n or isn't closed.
-fn judge_start(s: &[u8], format: Format, first: usize, n: u16, start: u16) -> Judged
-    requires { first + length_of_record format * n ≤ length s.now }
-    ensures { result ≡ start_judged (records_from format s.now first n) start }
+fn judge_start(rules: &RuleRecords, start: u16) -> Result<(), Refusal>
+    ensures { result ≡ start_judged (records_lent rules.now) start }
 {
-    if n <= start {
-        return Judged::Refused(Refusal::Start);
+    if rules.n <= start {
+        return Err(Refusal::Start);
     }
-    if !closed_at(s, format, first, n, start) {
-        return Judged::Refused(Refusal::Start);
+    if !closed_at(rules, start) {
+        return Err(Refusal::Start);
     }
-    Judged::Fine
+    Ok(())
 }
 
 // Refusal 12, at the lowest rule that reaches itself.
-fn cycle_from(lowest: u16) -> Judged
-    ensures { result ≡ Judged.Refused (Refusal.Cycle lowest) }
+fn cycle_from(lowest: u16) -> Result<(), Refusal>
+    ensures { result ≡ Err (Refusal.Cycle lowest) }
 {
-    Judged::Refused(Refusal::Cycle(lowest as usize))
+    Err(Refusal::Cycle(lowest as usize))
 }
 
-// The most rules that each search has room for.
-pub const FEW_SEARCHED: u16 = 1024;
+// The most rules that each search has room for, and the bytes of that room.
+const FEW_SEARCHED: u16 = 1024;
 
 const MOST_SEARCHED: usize = 16384;
 
-// Refusal 12 and then 7, of few rules that pass 4 to 6: they are searched, in a small array, for an order in which each stands after those
-// that it names.
-fn search_few(s: &[u8], format: Format, first: usize, n: u16, start: u16) -> Judged
-    requires { Searchable format s.now first n × (n ≤ few_searched) }
-    ensures { let ws = records_from format s.now first n in
-        result ≡ cycle_judged (lowest_cycle (rules_in format ws)) (start_judged ws start) }
+const SMALL: usize = 4 * (FEW_SEARCHED as usize);
+
+const LARGE: usize = 4 * MOST_SEARCHED;
+
+// Refusal 12 and then 7, of rules that pass 4 to 6: they are searched, in an array, for an order in which each stands after those that it
+// names. It isn't put into its caller, so that the large array stands in no frame that a plan of few rules comes to (tests/stack.sh).
+#[inline(never)]
+fn search<const ROOM: usize>(rules: &RuleRecords, start: u16) -> Result<(), Refusal>
+    requires { Searchable rules.now.format rules.now.bytes.now rules.now.first rules.now.n
+        × (4 * rules.now.n ≤ ROOM)
+        × (ROOM ≤ 4 * most_searched) }
+    ensures { let ws = records_lent rules.now in
+        result ≡ cycle_judged (lowest_cycle (rules_in rules.now.format ws)) (start_judged ws start) }
 {
-    let mut room = [0u8; 4 * (FEW_SEARCHED as usize)];
-    if reach_order::order(s, format, first, n, &mut room) {
-        return judge_start(s, format, first, n, start);
+    let mut room = [0u8; ROOM];
+    if reach_order::order(rules, &mut room) {
+        return judge_start(rules, start);
     }
-    cycle_from(reach_order::lowest(s, format, first, n, &mut room))
+    cycle_from(reach_order::lowest(rules, &mut room))
 }
 
-// The same of as many rules as there may be, in a large array.
-fn search_many(s: &[u8], format: Format, first: usize, n: u16, start: u16) -> Judged
-    requires { Searchable format s.now first n }
-    ensures { let ws = records_from format s.now first n in
-        result ≡ cycle_judged (lowest_cycle (rules_in format ws)) (start_judged ws start) }
+// Refusals 4 to 7 and 12: rules from 0 up, then one that reaches itself, then the start. Rules that name only lower ones aren't searched, few
+// others in the small array. It is put into check and seal, which need no frame for it then.
+#[inline(always)]
+pub fn judge_rules(rules: &RuleRecords, start: u16) -> Result<(), Refusal>
+    requires { rules.now.n ≤ most_searched }
+    ensures { result ≡ judged rules.now.format (records_lent rules.now) start }
 {
-    let mut room = [0u8; 4 * MOST_SEARCHED];
-    if reach_order::order(s, format, first, n, &mut room) {
-        return judge_start(s, format, first, n, start);
+    let lower = test_rules(rules)?;
+    if lower {
+        return judge_start(rules, start);
     }
-    cycle_from(reach_order::lowest(s, format, first, n, &mut room))
-}
-
-// Refusals 4 to 7 and 12 of few rules, whose records begin at first: rules from 0 up, then one that reaches itself, then the start.
-pub fn judge_few(s: &[u8], format: Format, first: usize, n: u16, start: u16) -> Judged
-    requires { (first + length_of_record format * n ≤ length s.now) × (n ≤ few_searched) }
-    ensures { result ≡ judged format (records_from format s.now first n) start }
-{
-    match test_rules(s, format, first, n) {
-        Rules::Lower => judge_start(s, format, first, n, start),
-        Rules::Mixed => search_few(s, format, first, n, start),
-        Rules::Refused(refusal) => Judged::Refused(refusal),
+    if rules.n <= FEW_SEARCHED {
+        return search::<SMALL>(rules, start);
     }
-}
-
-// The same of as many rules as there may be. It is a function beside judge_few, and check and seal each choose between the two, so that its
-// large array stands in no frame that a plan of few rules comes to (tests/stack.sh).
-pub fn judge_many(s: &[u8], format: Format, first: usize, n: u16, start: u16) -> Judged
-    requires { (first + length_of_record format * n ≤ length s.now) × (n ≤ most_searched) }
-    ensures { result ≡ judged format (records_from format s.now first n) start }
-{
-    match test_rules(s, format, first, n) {
-        Rules::Lower => judge_start(s, format, first, n, start),
-        Rules::Mixed => search_many(s, format, first, n, start),
-        Rules::Refused(refusal) => Judged::Refused(refusal),
-    }
+    search::<LARGE>(rules, start)
 }

@@ -19,7 +19,7 @@ use Rattle.label_rows.specs.Class.{row_of, grams_of}
 use Rattle.work_rows.specs.Rows.{row_length, field, put_field, rule_in}
 use Rattle.work_rows.proofs.Rows.{length-put_field, field-same, field-other, within_wider}
 use Rattle.count_passes.specs.Tally.{Besides}
-use Rattle.count_passes.proofs.Column.{besides-none, besides-both, besides-wider, besides-put, besides-rule}
+use Rattle.count_passes.proofs.Column.{besides-both, besides-wider, besides-put, besides-rule}
 use Rattle.count_weights.specs.Weights.{at_weight, weight_at, own_weight}
 use Rattle.copy_variants.specs.Visible.{seen_by}
 use Rattle.copy_variants.specs.Variants.{seen_in}
@@ -118,14 +118,6 @@ module _ (t : List ℕ) (r v w : ℕ) where
     field-other word_length word_length first r at_seen w r at_weight (λ h. omega arith)
         ∙ field-same word_length t r at_weight v (omega arith) v-small,
   )
-
-pub annotated-none : (rows : List LabelRow) (c : ℕ) (s : List ℕ) → Annotated rows c 0 s s
-annotated-none rows c s =
-    record {
-      besides = besides-none at_weight (word_length + word_length) 0 s;
-      seen = λ r below. absurd (omega arith);
-      grams = λ r below. absurd (omega arith);
-    }
 
 module _ (rows : List LabelRow) (c n r : ℕ) (s t : List ℕ) (able : Annotatable rows n s) (below : r < n) (so_far : Annotated rows c r s t) where
   -- the rule of the next row, which the turns before left

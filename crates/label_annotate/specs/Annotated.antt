@@ -1,10 +1,9 @@
 -- Document 02, Note 6: "A client of class c must not see entries of a higher class": a word of each row of work says whether its rule's
 -- label may be seen. Note 8: "grams per entry": another has the label's grams.
-use Rattle.std.specs.Prelude.{ℕ, ◌+◌, ◌*◌, ◌≤◌, ◌<◌, ◌≡◌, cond, List, length, T, leb}
+use Rattle.std.specs.Prelude.{ℕ, ◌+◌, ◌*◌, ◌≤◌, ◌<◌, ◌≡◌, cond, List, length, T, leb, Ok}
 use Rattle.record.specs.Format.{word_length}
 use Rattle.rule.specs.Rule.{labelled}
 use Rattle.label_rows.specs.declared.LabelRow.{LabelRow}
-use Rattle.label_rows.specs.declared.Coverage.{Coverage}
 use Rattle.label_rows.specs.Coverage.{coverage}
 use Rattle.label_rows.specs.Class.{grams_of}
 use Rattle.work_rows.specs.Rows.{row_length, field, put_field, rule_in}
@@ -16,7 +15,7 @@ pub use Rattle.copy_rows.specs.Table.{at_seen}
 
 -- "a sound list", where there is a row to look up for, and n rows whose rules have labels that it knows
 pub record Annotatable (rows : List LabelRow) (n : ℕ) (s : List ℕ) : Type 0 where
-  pub sound : 0 < n → coverage rows ≡ Coverage.Whole
+  pub sound : 0 < n → coverage rows ≡ Ok tt
   pub room : row_length * n ≤ length s
   pub labels : (r : ℕ) → r < n → T (labelled (rule_in s r))
 

@@ -13,35 +13,35 @@ use label_rows::LabelRow;
 use rule::Rule;
 
 // The label of the rule in row r, and 0 where it has none.
+#[tactic(auto, unfolding(model::specs::Walk::label))]
 fn label_at(work: &[u8], r: u16) -> u32
     requires { row_length * (r + 1) ≤ length work.now }
     ensures { result ≡ label (rule_in work.now r) }
 {
     match work_rows::rule_at(work, r) {
-        Rule::Node { label, .. } => label,
-        Rule::Part { label, .. } => label,
+        Rule::Node { label, .. } | Rule::Part { label, .. } => label,
         _ => 0,
     }
 }
 
 // Whether a rule's label may be seen, where that is known of the label; a rule that has none may.
+#[tactic(auto, unfolding(copy_variants::specs::Variants::seen_in))]
 fn seen(rule: Rule, visible: bool) -> bool
     ensures { result ≡ seen_in (λ a. visible) rule }
 {
     match rule {
-        Rule::Node { .. } => visible,
-        Rule::Part { .. } => visible,
+        Rule::Node { .. } | Rule::Part { .. } => visible,
         _ => true,
     }
 }
 
 // The grams of a rule's own label, where those of the label are known; 0 of a rule that has none.
+#[tactic(auto, unfolding(count_weights::specs::Weights::own_weight))]
 fn own(rule: Rule, grams: u16) -> u16
     ensures { result ≡ own_weight (λ a. grams) rule }
 {
     match rule {
-        Rule::Node { .. } => grams,
-        Rule::Part { .. } => grams,
+        Rule::Node { .. } | Rule::Part { .. } => grams,
         _ => 0,
     }
 }
@@ -74,11 +74,9 @@ pub fn annotate(rows: &[LabelRow], class: u16, work: &mut [u8], n: u16)
     requires { Annotatable rows.now n work.old }
     ensures { Annotated rows.now class n work.old work.new }
 {
-    let mut r: u16 = 0;
-    while r < n {
+    for r in 0..n {
         let label = label_at(work, r);
         let row = label_rows::find(rows, label);
         mark_row(work, r, row.class, row.grams, class);
-        r += 1;
     }
 }

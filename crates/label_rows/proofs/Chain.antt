@@ -1,10 +1,10 @@
 -- Rows one behind another: each is valid and begins where the one before it ended. Such rows cover the labels from the first's lowest to
 -- the last's highest, each once; and valid rows in label order that do so are such rows. Assumes nothing.
+use Rattle.std.specs.Prelude.{Ok}
 use Rattle.std.proofs.Common.{◌≡◌, ℕ, suc, ◌+◌, ◌<◌, ◌≤◌, true, false, ltb, leb, List, [], ◌∷◌, ◌++◌, length, sym, refl, ap, ◌∙◌, subst, add-zero, arith, ltb-false, ltb-true, leb-false, leb-true}
 use borrow.Table.Steps.{cases}
 use Rattle.rule.specs.Rule.{largest_label}
 use Rattle.label_rows.specs.declared.LabelRow.{LabelRow}
-use Rattle.label_rows.specs.declared.Front.{Front}
 use Rattle.label_rows.specs.Coverage.{coverage_from}
 use Rattle.label_rows.specs.Class.{covers, row_of}
 use Rattle.label_rows.specs.Once.{covering, Each, Valid, InOrder}
@@ -146,12 +146,12 @@ counted-chain (r ∷ rs) {a} {e} h (Each.more v vs) (InOrder.more o os) k =
 
 -- the check passes such rows
 pub chain-passed : {a e : ℕ} {rs : List LabelRow} (i : ℕ) (rest : List LabelRow) → Chain a rs e
-    → coverage_from (Front.UpTo a) i (rs ++ rest) ≡ coverage_from (Front.UpTo e) (i + length rs) rest
-chain-passed {a} i rest Chain.none = ap (λ (n : ℕ). coverage_from (Front.UpTo a) n rest) (sym (add-zero i))
+    → coverage_from (Ok a) i (rs ++ rest) ≡ coverage_from (Ok e) (i + length rs) rest
+chain-passed {a} i rest Chain.none = ap (λ (n : ℕ). coverage_from (Ok a) n rest) (sym (add-zero i))
 chain-passed {a} {e} i rest (Chain.more {r = r} {rs = rs} v l c) =
     let n : (i + 1) + length rs ≡ i + suc (length rs) = omega arith in
-    coverage-first (Front.UpTo a) i r (rs ++ rest) (extended_fits a i r v (omega arith) (omega arith))
-    ∙ chain-passed (i + 1) rest c ∙ ap (λ (k : ℕ). coverage_from (Front.UpTo e) k rest) n
+    coverage-first (Ok a) i r (rs ++ rest) (extended_fits a i r v (omega arith) (omega arith))
+    ∙ chain-passed (i + 1) rest c ∙ ap (λ (k : ℕ). coverage_from (Ok e) k rest) n
 
 -- one row more behind them
 pub chain_snoc : {a e : ℕ} {rs : List LabelRow} (r : LabelRow) → Chain a rs e → Valid r → r.lowest ≡ e

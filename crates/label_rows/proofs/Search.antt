@@ -1,11 +1,11 @@
 -- Binary search in a sound list: the row sought is one of `count` rows from `low` on, since every row before ends below the label and the
 -- last of these doesn't; the highest labels ascend, so that by the last row of the first half the search goes on past that half or within
 -- what is left. A row that covers the label is the one sought. Assumes nothing.
+use Rattle.std.specs.Prelude.{Ok}
 use Rattle.std.proofs.Common.{◌≡◌, ℕ, zero, suc, ◌+◌, ◌-◌, ◌/◌, ◌<◌, ◌≤◌, true, cond, ltb, List, ◌∷◌, length, get_or, sym, refl, ◌∙◌, subst, arith, ltb-false, ltb-true}
 use borrow.Table.Steps.{cases}
 use Rattle.rule.specs.Rule.{largest_label}
 use Rattle.label_rows.specs.declared.LabelRow.{LabelRow}
-use Rattle.label_rows.specs.declared.Coverage.{Coverage}
 use Rattle.label_rows.specs.Coverage.{coverage}
 use Rattle.label_rows.specs.Class.{covers, no_row, row_of}
 use Rattle.label_rows.proofs.Rows.{valid-bounded, covers-inside, covers-above, covers-bounds, row_of-first, row_of-later}
@@ -84,7 +84,7 @@ pub record Within (rows : List LabelRow) (x low count : ℕ) : Type 0 where
   pub before : (j : ℕ) → j < low → highest_at rows j < x
   pub reaches : (k : ℕ) → k + 1 ≡ low + count → x ≤ highest_at rows k
 
-module _ (rows : List LabelRow) (sound : coverage rows ≡ Coverage.Whole) (x : ℕ) where
+module _ (rows : List LabelRow) (sound : coverage rows ≡ Ok tt) (x : ℕ) where
   pub some-row : 0 < length rows
   some-row = chain-some (sound-chain rows sound) (omega arith)
 

@@ -1,13 +1,12 @@
 -- The check tells the first row at fault and nothing else: what each answer says of the list holds, and an answer that holds of the list
 -- is the check's. Each row is passed as long as the rows before it are one behind another. Assumes nothing.
+use Rattle.std.specs.Prelude.{Result, Ok, Err}
 use Rattle.std.proofs.Common.{◌≡◌, ℕ, zero, suc, ◌+◌, ◌<◌, ◌≤◌, Bool, cond, ltb, leb, List, [], ◌∷◌, ◌++◌, length, get_or, take, drop, sym, ap, ◌∙◌, subst, add-one, arith, take-append-drop, length-take-le, take_all, take-suc, ltb-false, ltb-true, le-ltb, lt-ltb, leb-false, leb-true}
 use lib.Seq.{take-length}
 use borrow.Table.Steps.{cases}
 use Rattle.refusal.specs.declared.Refusal.{Refusal}
 use Rattle.rule.specs.Rule.{largest_label}
 use Rattle.label_rows.specs.declared.LabelRow.{LabelRow}
-use Rattle.label_rows.specs.declared.Front.{Front}
-use Rattle.label_rows.specs.declared.Coverage.{Coverage}
 use Rattle.label_rows.specs.Coverage.{invalid, extended, ended, coverage_from, coverage}
 use Rattle.label_rows.specs.Class.{no_row}
 use Rattle.label_rows.specs.Once.{Valid, Covers, Told}
@@ -36,12 +35,12 @@ module _ (rows : List LabelRow) where
   abbrev row : ℕ → LabelRow
   row i = get_or rows i no_row
 
-  abbrev from : ℕ → ℕ → Coverage
-  from next i = coverage_from (Front.UpTo next) i (drop i rows)
+  abbrev from : ℕ → ℕ → Result Unit Refusal
+  from next i = coverage_from (Ok next) i (drop i rows)
 
   module _ (i next : ℕ) (h : i < length rows) where
-    stops : {why : Refusal} → extended (Front.UpTo next) i (row i) ≡ Front.Refused why → from next i ≡ Coverage.Refused why
-    stops {why} e = coverage-next (Front.UpTo next) i rows h e ∙ refused-from why (i + 1) (drop (i + 1) rows)
+    stops : {why : Refusal} → extended (Ok next) i (row i) ≡ Err why → from next i ≡ Err why
+    stops {why} e = coverage-next (Ok next) i rows h e ∙ refused-from why (i + 1) (drop (i + 1) rows)
 
     grows : Chain 0 (take i rows) next → Valid (row i) → (row i).lowest ≡ next → Chain 0 (take (i + 1) rows) ((row i).highest + 1)
     grows c v l =
@@ -49,7 +48,7 @@ module _ (rows : List LabelRow) where
         subst (λ (l : List LabelRow). Chain 0 l ((row i).highest + 1)) (sym e) (chain_snoc (row i) c v l)
 
   -- past the last row
-  at-end : (next : ℕ) → Chain 0 rows next → Told rows (ended (Front.UpTo next) (length rows))
+  at-end : (next : ℕ) → Chain 0 rows next → Told rows (ended (Ok next) (length rows))
   at-end next c =
       cases (leb next largest_label)
       (λ t. let h : next ≤ largest_label = leb-true _ _ t in
@@ -64,7 +63,7 @@ module _ (rows : List LabelRow) where
       let e : i ≡ length rows = omega arith in
       let g : length rows ≤ i = omega arith in
       let t : take i rows ≡ rows = take_all i rows g in
-      subst (Told rows) (ap (λ (k : ℕ). ended (Front.UpTo next) k) (sym e) ∙ sym (coverage-end (Front.UpTo next) i rows g))
+      subst (Told rows) (ap (λ (k : ℕ). ended (Ok next) k) (sym e) ∙ sym (coverage-end (Ok next) i rows g))
       (at-end next (subst (λ (l : List LabelRow). Chain 0 l next) t c))
   told-from (suc m) i next n c =
       let h : i < length rows = omega arith in
@@ -79,7 +78,7 @@ module _ (rows : List LabelRow) where
       (λ u. let k : (row i).lowest < next = ltb-true _ _ u in
       subst (Told rows) (sym (stops i next h (extended-overlap next i (row i) v k l))) (Told.overlap i next h before v k))
       (λ u. let k : next ≤ (row i).lowest = ltb-false _ _ u in
-      subst (Told rows) (sym (coverage-next (Front.UpTo next) i rows h (extended_fits next i (row i) v l k)))
+      subst (Told rows) (sym (coverage-next (Ok next) i rows h (extended_fits next i (row i) v l k)))
       (told-from m (i + 1) ((row i).highest + 1) (omega arith) (grows i next h c v (omega arith))))))
 
   -- what the check answers holds of the list
@@ -92,17 +91,17 @@ module _ (rows : List LabelRow) where
   unfolding coverage
   passed i next h c =
       let n : 0 + length (take i rows) ≡ i = omega (arith, length-take-le i rows h) in
-      ap (coverage_from (Front.UpTo 0) 0) (sym (take-append-drop i rows))
+      ap (coverage_from (Ok 0) 0) (sym (take-append-drop i rows))
       ∙ chain-passed 0 (drop i rows) (covers-chain (take i rows) c)
-      ∙ ap (λ (k : ℕ). coverage_from (Front.UpTo next) k (drop i rows)) n
+      ∙ ap (λ (k : ℕ). coverage_from (Ok next) k (drop i rows)) n
 
-  all-passed : (next : ℕ) → Covers next rows → coverage rows ≡ ended (Front.UpTo next) (length rows)
+  all-passed : (next : ℕ) → Covers next rows → coverage rows ≡ ended (Ok next) (length rows)
   all-passed next c =
       passed (length rows) next (omega arith) (subst (Covers next) (sym (take-length rows)) c)
-      ∙ coverage-end (Front.UpTo next) (length rows) rows (omega arith)
+      ∙ coverage-end (Ok next) (length rows) rows (omega arith)
 
   -- and no other answer does
-  pub told-only : {x : Coverage} → Told rows x → coverage rows ≡ x
+  pub told-only : {x : Result Unit Refusal} → Told rows x → coverage rows ≡ x
   told-only (Told.whole c) = all-passed (largest_label + 1) c ∙ ended-whole (largest_label + 1) (length rows) (omega arith)
   told-only (Told.end next c h) = all-passed next c ∙ ended-short next (length rows) h
   told-only (Told.row i next h c t) = passed i next (omega arith) c ∙ stops i next h (extended_row next i (row i) t)

@@ -1,10 +1,8 @@
 -- Document 02, Notes 5 and 8: the class and the grams that a list of rows gives a label.
-use Rattle.std.specs.Prelude.{ℕ, Bool, cond, ◌&&◌, List, [], ◌∷◌, nat_le}
+use Rattle.std.specs.Prelude.{ℕ, Bool, cond, ◌&&◌, List, [], ◌∷◌, nat_le, Result, Ok, Err}
 use Rattle.refusal.specs.declared.Refusal.{Refusal}
 use Rattle.rule.specs.Rule.{largest_label}
 use Rattle.label_rows.specs.declared.LabelRow.{LabelRow}
-use Rattle.label_rows.specs.declared.Coverage.{Coverage}
-use Rattle.label_rows.specs.declared.Classed.{Classed}
 use Rattle.label_rows.specs.Coverage.{coverage}
 
 -- whether a row covers a label: "lowest label, highest label"
@@ -26,14 +24,14 @@ unfolding row_of
 grams_of rows x = (row_of rows x).grams
 
 -- "a label above 16,777,215 is then refused with 4 at position 0"
-unfoldable pub label_judged : Coverage → ℕ → Coverage
-label_judged Coverage.Whole x = cond (nat_le x largest_label) Coverage.Whole (Coverage.Refused (Refusal.Malformed 0))
-label_judged (Coverage.Refused why) x = Coverage.Refused why
+unfoldable pub label_judged : Result Unit Refusal → ℕ → Result Unit Refusal
+label_judged (Ok _) x = cond (nat_le x largest_label) (Ok tt) (Err (Refusal.Malformed 0))
+label_judged (Err why) x = Err why
 
-unfoldable pub class_in : Coverage → List LabelRow → ℕ → Classed
-class_in Coverage.Whole rows x = Classed.Class (row_of rows x).class
-class_in (Coverage.Refused why) rows x = Classed.Refused why
+unfoldable pub class_in : Result Unit Refusal → List LabelRow → ℕ → Result ℕ Refusal
+class_in (Ok _) rows x = Ok (row_of rows x).class
+class_in (Err why) rows x = Err why
 
 -- "It answers the class of any label when the list is sound"
-unfoldable pub classed : List LabelRow → ℕ → Classed
+unfoldable pub classed : List LabelRow → ℕ → Result ℕ Refusal
 classed rows x = class_in (label_judged (coverage rows) x) rows x

@@ -1,10 +1,9 @@
 -- Document 02, Note 5: what it means that rows in label order cover the labels below some label, each once, and what each answer of the
 -- check then says (proofs/Once.antt, proofs/Told.antt).
-use Rattle.std.specs.Prelude.{◌≡◌, ℕ, ◌+◌, ◌<◌, ◌≤◌, true, false, cond, List, [], ◌∷◌, length, get_or, take, nat_lt, slice_index_or}
+use Rattle.std.specs.Prelude.{◌≡◌, ℕ, ◌+◌, ◌<◌, ◌≤◌, true, false, cond, List, [], ◌∷◌, length, get_or, take, nat_lt, slice_index_or, Result, Ok, Err}
 use Rattle.refusal.specs.declared.Refusal.{Refusal}
 use Rattle.rule.specs.Rule.{largest_label}
 use Rattle.label_rows.specs.declared.LabelRow.{LabelRow}
-use Rattle.label_rows.specs.declared.Coverage.{Coverage}
 use Rattle.label_rows.specs.Coverage.{invalid}
 use Rattle.label_rows.specs.Class.{covers, no_row}
 
@@ -35,12 +34,12 @@ pub record Covers (next : ℕ) (rows : List LabelRow) : Type 0 where
 
 -- What an answer says of a list: the rows before the one named cover the labels below some label once, and the row named is wrong by
 -- itself (13), or valid and begins above that label, or isn't there (14), or valid and begins below it (15).
-pub data Told (rows : List LabelRow) : Coverage → Type 0 where
-  whole : Covers (largest_label + 1) rows → Told rows Coverage.Whole
+pub data Told (rows : List LabelRow) : Result Unit Refusal → Type 0 where
+  whole : Covers (largest_label + 1) rows → Told rows (Ok tt)
   row : (i next : ℕ) → i < length rows → Covers next (take i rows) → invalid (slice_index_or rows i no_row) ≡ true
-      → Told rows (Coverage.Refused (Refusal.Row i))
+      → Told rows (Err (Refusal.Row i))
   gap : (i next : ℕ) → i < length rows → Covers next (take i rows) → Valid (slice_index_or rows i no_row) → next < (get_or rows i no_row).lowest
-      → Told rows (Coverage.Refused (Refusal.Gap i))
-  end : (next : ℕ) → Covers next rows → next ≤ largest_label → Told rows (Coverage.Refused (Refusal.Gap (length rows)))
+      → Told rows (Err (Refusal.Gap i))
+  end : (next : ℕ) → Covers next rows → next ≤ largest_label → Told rows (Err (Refusal.Gap (length rows)))
   overlap : (i next : ℕ) → i < length rows → Covers next (take i rows) → Valid (slice_index_or rows i no_row) → (get_or rows i no_row).lowest < next
-      → Told rows (Coverage.Refused (Refusal.Overlap i))
+      → Told rows (Err (Refusal.Overlap i))

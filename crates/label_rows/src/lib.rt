@@ -29,39 +29,12 @@ pub struct LabelRow {
     pub grams: u16,
 }
 
-// What the check of a list comes to: its rows cover every label once, or why not.
-#[derive(Clone, Copy)]
-pub enum Coverage {
-    Whole,
-    Refused(Refusal),
-}
-
-// The class of a label, or why there is none.
-#[derive(Clone, Copy)]
-pub enum Classed {
-    Class(u16),
-    Refused(Refusal),
-}
-
-// The grams of a plan, or why it isn't weighed (document 02, Note 8).
-#[derive(Clone, Copy)]
-pub enum Weighed {
-    Grams(u64),
-    Refused(Refusal),
-}
-
-// How far the rows before some row cover the labels: those below a label, each once, or the first row at fault.
-#[derive(Clone, Copy)]
-pub enum Front {
-    UpTo(u32),
-    Refused(Refusal),
-}
-
 impl LabelRow {
     // The largest class.
     pub const LARGEST_CLASS: u16 = 3;
 
     // Whether the row is wrong by itself.
+    #[tactic(auto, unfolding(crate::specs::Coverage::invalid))]
     fn invalid(self) -> bool
         ensures { result ≡ invalid self }
     {
@@ -74,88 +47,61 @@ impl LabelRow {
         requires { self.lowest ≤ self.highest }
         ensures { result ≡ covers self label }
     {
-        std::num::wrapping_sub_u32(label, self.lowest) <= self.highest - self.lowest
+        label.wrapping_sub(self.lowest) <= self.highest - self.lowest
     }
 }
 
-impl Coverage {
-    // A label judged behind the list.
-    fn judge_label(self, label: u32) -> Coverage
-        ensures { result ≡ label_judged self label }
-    {
-        match self {
-            Coverage::Whole => {
-                if label <= Format::WIDE_LABEL {
-                    return Coverage::Whole;
-                }
-                Coverage::Refused(Refusal::Malformed(0))
-            }
-            Coverage::Refused(why) => Coverage::Refused(why),
-        }
+// How far the rows before row i cover the labels, each once, and row i with them: up to the label that comes next.
+fn extend(next: u32, i: usize, row: LabelRow) -> Result<u32, Refusal>
+    ensures { result ≡ extended (Ok next) i row }
+{
+    let lowest = row.lowest;
+    let highest = row.highest;
+    let invalid = row.invalid();
+    let gap = next < lowest;
+    let overlap = lowest < next;
+    if invalid {
+        return Err(Refusal::Row(i));
     }
+    if gap {
+        return Err(Refusal::Gap(i));
+    }
+    if overlap {
+        return Err(Refusal::Overlap(i));
+    }
+    Ok(highest + 1)
 }
 
-impl Front {
-    // Before the first row.
-    fn start() -> Front
-        ensures { result ≡ Front.UpTo 0 }
-    {
-        Front::UpTo(0)
+// Past the last of n rows, where they cover the labels below the next one.
+fn end(next: u32, n: usize) -> Result<(), Refusal>
+    ensures { result ≡ ended (Ok next) n }
+{
+    if next <= Format::WIDE_LABEL {
+        return Err(Refusal::Gap(n));
     }
+    Ok(())
+}
 
-    // Past one row more, row i.
-    fn extend(self, i: usize, row: LabelRow) -> Front
-        ensures { result ≡ extended self i row }
-    {
-        match self {
-            Front::UpTo(next) => {
-                let lowest = row.lowest;
-                let highest = row.highest;
-                let invalid = row.invalid();
-                let gap = next < lowest;
-                let overlap = lowest < next;
-                if invalid {
-                    return Front::Refused(Refusal::Row(i));
-                }
-                if gap {
-                    return Front::Refused(Refusal::Gap(i));
-                }
-                if overlap {
-                    return Front::Refused(Refusal::Overlap(i));
-                }
-                Front::UpTo(highest + 1)
-            }
-            Front::Refused(why) => Front::Refused(why),
-        }
+// A label judged behind the list.
+#[tactic(auto, unfolding(crate::specs::Class::label_judged))]
+fn judge_label(label: u32) -> Result<(), Refusal>
+    ensures { result ≡ label_judged (Ok tt) label }
+{
+    if label <= Format::WIDE_LABEL {
+        return Ok(());
     }
-
-    // Past the last row, where there are n.
-    fn end(self, n: usize) -> Coverage
-        ensures { result ≡ ended self n }
-    {
-        match self {
-            Front::UpTo(next) => {
-                if next <= Format::WIDE_LABEL {
-                    return Coverage::Refused(Refusal::Gap(n));
-                }
-                Coverage::Whole
-            }
-            Front::Refused(why) => Coverage::Refused(why),
-        }
-    }
+    Err(Refusal::Malformed(0))
 }
 
 // The check of a list: one walk over its rows.
-pub fn check(rows: &[LabelRow]) -> Coverage
+pub fn check(rows: &[LabelRow]) -> Result<(), Refusal>
     ensures { result ≡ coverage rows.now }
 {
-    let mut front = Front::start();
-    let mut i = 0;
-    while i < rows.len() {
-        front = front.extend(i, rows[i]);
-        i += 1;
+    let mut next = 0;
+    for (i, &row) in rows.iter().enumerate() {
+        next = extend(next, i, row)?;
     }
-    front.end(i)
+    end(next, rows.len())
 }
 
 // Of how many of n rows one is guessed.
@@ -221,7 +167,7 @@ fn next_row(low: usize, half: usize, highest: u32, label: u32) -> usize
 // first whose highest label isn't below it. A step chooses by values, and how many steps there are depends on the number of rows alone: of
 // labels at random a processor can't foretell which way they lead.
 pub fn find(rows: &[LabelRow], label: u32) -> LabelRow
-    requires { (coverage rows.now ≡ Coverage.Whole) × (label ≤ largest_label) }
+    requires { (coverage rows.now ≡ Ok tt) × (label ≤ largest_label) }
     ensures { result ≡ row_of rows.now label }
 {
     let n = rows.len();
@@ -238,15 +184,10 @@ pub fn find(rows: &[LabelRow], label: u32) -> LabelRow
 }
 
 // The class of a label, once the list is sound and the label is one.
-pub fn class_of(rows: &[LabelRow], label: u32) -> Classed
+pub fn class_of(rows: &[LabelRow], label: u32) -> Result<u16, Refusal>
     ensures { result ≡ classed rows.now label }
 {
-    let judged = check(rows).judge_label(label);
-    match judged {
-        Coverage::Whole => {
-            let row = find(rows, label);
-            Classed::Class(row.class)
-        }
-        Coverage::Refused(why) => Classed::Refused(why),
-    }
+    check(rows)?;
+    judge_label(label)?;
+    Ok(find(rows, label).class)
 }

@@ -1,12 +1,12 @@
 // A letter, and the letter of a byte (document 01, "Letters").
 #![tactic(auto)]
 
-ghost use Rattle.std.specs.Prelude.{◌≡◌, ◌≤◌, ◌<◌};
+ghost use Rattle.std.specs.Prelude.{◌≡◌, option_map, ◌≤◌, ◌<◌};
 ghost use Rattle.forest.specs.Letter.{letter_of};
-ghost use Rattle.letter.specs.Letter.{read_as};
+ghost use Rattle.letter.specs.Letter.{move_of};
 
 // A letter.
-#[derive(Clone, Copy)]
+#[derive(Clone, Copy, Debug, PartialEq, Eq)]
 pub enum Letter {
     A,
     Z,
@@ -26,19 +26,13 @@ impl Letter {
     pub const ANSWER_LENGTH: usize = 4;
 }
 
-// What a byte is: a letter, or something else.
-#[derive(Clone, Copy)]
-pub enum Read {
-    Move(Letter),
-    Other,
-}
-
-// The letter of a byte, by comparisons: a `match` becomes a jump through a table.
-pub fn letter_of(b: u8) -> Read
-    ensures { read_as result ≡ letter_of b }
+// The letter of a byte, if it is one, by comparisons: a `match` becomes a jump through a table.
+#[tactic(auto, unfolding(crate::specs::Letter::move_of, forest::specs::Letter::letter_of))]
+pub fn letter_of(b: u8) -> Option<Letter>
+    ensures { option_map move_of result ≡ letter_of b }
 {
     if b == b's' {
-        return Read::Move(Letter::S);
+        return Some(Letter::S);
     }
     if b < b'l' {
         return low_letter(b);
@@ -50,46 +44,46 @@ pub fn letter_of(b: u8) -> Read
 }
 
 // The letter of a byte below l.
-fn low_letter(b: u8) -> Read
+fn low_letter(b: u8) -> Option<Letter>
     requires { b < 108 }
-    ensures { read_as result ≡ letter_of b }
+    ensures { option_map move_of result ≡ letter_of b }
 {
     if b == b'a' {
-        return Read::Move(Letter::A);
+        return Some(Letter::A);
     }
     if b == b'f' {
-        return Read::Move(Letter::F);
+        return Some(Letter::F);
     }
-    Read::Other
+    None
 }
 
 // The letter of a byte from l on and below p.
-fn middle_letter(b: u8) -> Read
+fn middle_letter(b: u8) -> Option<Letter>
     requires { (108 ≤ b) × (b < 112) }
-    ensures { read_as result ≡ letter_of b }
+    ensures { option_map move_of result ≡ letter_of b }
 {
     if b == b'l' {
-        return Read::Move(Letter::L);
+        return Some(Letter::L);
     }
     if b == b'n' {
-        return Read::Move(Letter::N);
+        return Some(Letter::N);
     }
-    Read::Other
+    None
 }
 
 // The letter of a byte from p on, which isn't s.
-fn high_letter(b: u8) -> Read
+fn high_letter(b: u8) -> Option<Letter>
     requires { (112 ≤ b) × (b ≡ 115 → ⊥) }
-    ensures { read_as result ≡ letter_of b }
+    ensures { option_map move_of result ≡ letter_of b }
 {
     if b == b'p' {
-        return Read::Move(Letter::P);
+        return Some(Letter::P);
     }
     if b == b'u' {
-        return Read::Move(Letter::U);
+        return Some(Letter::U);
     }
     if b == b'z' {
-        return Read::Move(Letter::Z);
+        return Some(Letter::Z);
     }
-    Read::Other
+    None
 }

@@ -4,6 +4,7 @@ use native.Mathlib.Omega.{arith}
 use mathlib.Core.Path.{◌≡◌, sym, ap, subst, ◌∙◌}
 use mathlib.Core.List.{List}
 use lib.ListN.{length}
+use Rattle.std.specs.Prelude.{Some}
 use Rattle.forest.specs.Place.{Cells, Side, cell_row, cell_spine, step}
 use Rattle.forest.specs.Sides.{other}
 use Rattle.forest.specs.Walk.{cell_length, cells_in}
@@ -32,8 +33,8 @@ pub opened-long : (F : Facts) (a : ℕ) (cs : Cells) → length (opened F a cs).
 unfolding high
 opened-long F a cs =
     ap (λ (n : Node). length n.1) (sym (opened-cells F a cs))
-    ∙ length-add (run_cell F Side.left (outer F a)) (add (cell (cell_spine, a, 0, 0)) cs)
-    ∙ ap (high (run_cell F Side.left (outer F a))) (length-add (cell (cell_spine, a, 0, 0)) cs)
+    ∙ length-add (run_cell F Side.left (outer F a)) (add (Some (cell (cell_spine, a, 0, 0))) cs)
+    ∙ ap (high (run_cell F Side.left (outer F a))) (length-add (Some (cell (cell_spine, a, 0, 0))) cs)
 
 pub put-there : {cs : Cells} {s t : List ℕ} {k : ℕ} → Put cs s t k → cells_in t k ≡ cs
 put-there {t = t} p = ap (cells_in t) p.0 ∙ p.1.cells
@@ -71,15 +72,15 @@ opened-longer F a cs = omega (arith, opened-long F a cs, high-grows (run_cell F 
 
 -- a row that is entered
 module _ (F : Facts) (d : Side) (n v : ℕ) (cs : Cells) where
-  pub entered-cells : opened F (F.last d v) (add (run_cell F d v) (add (cell (cell_row, n, v, 0)) cs)) ≡ entered F d n v cs
+  pub entered-cells : opened F (F.last d v) (add (run_cell F d v) (add (Some (cell (cell_row, n, v, 0))) cs)) ≡ entered F d n v cs
   unfolding entered
   entered-cells = ap (opened F (F.last d v)) (row-run F d n v cs)
 
   pub entered-long : high (run_cell F d v) (length cs + 1) + 1 ≤ length (entered F d n v cs).1
   unfolding high
   entered-long =
-      let cells = add (run_cell F d v) (add (cell (cell_row, n, v, 0)) cs) in
-      let long : length cells ≡ high (run_cell F d v) (length cs + 1) = length-add (run_cell F d v) (add (cell (cell_row, n, v, 0)) cs) ∙ ap (high (run_cell F d v)) (length-add (cell (cell_row, n, v, 0)) cs) in
+      let cells = add (run_cell F d v) (add (Some (cell (cell_row, n, v, 0))) cs) in
+      let long : length cells ≡ high (run_cell F d v) (length cs + 1) = length-add (run_cell F d v) (add (Some (cell (cell_row, n, v, 0))) cs) ∙ ap (high (run_cell F d v)) (length-add (Some (cell (cell_row, n, v, 0))) cs) in
       let same : length (entered F d n v cs).1 ≡ length (opened F (F.last d v) cells).1 = ap (λ (x : Node). length x.1) (sym entered-cells) in
       omega (arith, long, same, opened-longer F (F.last d v) cells)
 

@@ -66,7 +66,7 @@ fn put_short(work: &[u8], cursor: &mut [u8], k: usize, side: Side, above: u16, t
     let end = facts::depth_at(work, back, top.two) as usize;
     if end + 1 < from {
         top.shrunk(above).write(cursor, k);
-        return place_cells::push(cursor, k, Cell::run(side, above, to));
+        return place_cells::push(cursor, k, Some(Cell::run(side, above, to)));
     }
     let under = Cell::read(cursor, k - 1);
     if (1 < k) & (under.kind == Cell::run_kind(side)) {
@@ -102,7 +102,7 @@ pub fn put_tree(work: &[u8], cursor: &mut [u8], k: usize, tree: u16) -> Standing
         let cursor = cursor.entry.now in
         Stood (opened (facts_in work.now) tree (cells_in cursor k)) cursor cursor' result }
 {
-    let k = place_cells::push(cursor, k, Cell::spine(tree));
+    let k = place_cells::push(cursor, k, Some(Cell::spine(tree)));
     let first = facts::outer_at(work, tree);
     let k = place_cells::push(cursor, k, move_parts::run_from(work, Side::Left, first));
     let rule = facts::last_at(work, Side::Left, first);
@@ -124,7 +124,7 @@ pub fn put_row(
         let cursor = cursor.entry.now in
         Stood (entered (facts_in work.now) (side_of side) number over (cells_in cursor k)) cursor cursor' result }
 {
-    let k = place_cells::push(cursor, k, Cell::row(number, over));
+    let k = place_cells::push(cursor, k, Some(Cell::row(number, over)));
     let k = place_cells::push(cursor, k, move_parts::run_from(work, side, over));
     put_tree(work, cursor, k, facts::last_at(work, side, over))
 }

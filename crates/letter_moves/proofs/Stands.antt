@@ -4,7 +4,8 @@ use Prim.Native.Nat.{ℕ, ◌+◌, ◌*◌, ◌≤◌, ◌<◌}
 use native.Mathlib.Omega.{arith}
 use mathlib.Core.Path.{◌≡◌, refl, sym, ap, subst, ◌∙◌}
 use mathlib.Core.List.{List, [], ◌∷◌, cons≢nil}
-use mathlib.Core.Option.{Option, none, some, none-ne-some}
+use Rattle.std.specs.Prelude.{Option, None, Some}
+use Rattle.std.proofs.lemmas.Option.{none-some}
 use lib.ListN.{length}
 use Rattle.forest.specs.Place.{Cells}
 use Rattle.forest.specs.Letter.{Letter}
@@ -73,7 +74,7 @@ no_cells : (s : List ℕ) (k : ℕ) → cells_in s k ≡ [] → k ≡ 0
 no_cells s k e = sym (length-cells s k) ∙ ap length e
 
 -- a letter other than a and z moves only from a node
-pub from-none : (s : List ℕ) (k : ℕ) (y : Option Node) → k ≡ 0 → none ≡ from_node (cells_in s k) y
+pub from-none : (s : List ℕ) (k : ℕ) (y : Option Node) → k ≡ 0 → None ≡ from_node (cells_in s k) y
 unfolding from_node
 from-none s k y e = rw (cells-none s k e)
 
@@ -112,7 +113,7 @@ module _ {r : ℕ} {t s : List ℕ} {k p : ℕ} (S : Placed r t s k p) where
   move-kept Letter.stay = from-kept (In t) (cells_in s k) _ (λ e. here e)
 
   -- a letter that leads to a node has room for its cells, and its rule has a row
-  module _ (l : Letter) {x : Node} (e : move (facts_in t) r l (p, cells_in s k) ≡ some x) where
+  module _ (l : Letter) {x : Node} (e : move (facts_in t) r l (p, cells_in s k) ≡ Some x) where
     valid-node : Valid (rules_kept t) r x
     unfolding moved
     valid-node = rw e at (next S.rows l (p, cells_in s k) S.valid)
@@ -132,33 +133,34 @@ module _ {r : ℕ} {t s : List ℕ} {k p : ℕ} (S : Stands r t s k p) where
   here-linkable = linkable-fewer k here-few S.linkable
 
   -- what the writing of a letter's change asks
-  pub arriving : (l : Letter) {x : Change} → move (facts_in t) r l (p, cells_in s k) ≡ some (change_node (facts_in t) l x s) → Able t s l x → keep_of x ≤ k → Arriving t s k l x
-  arriving l e a b =
+  pub arriving : (l : Letter) {x : Change} {y : Option Node} → move (facts_in t) r l (p, cells_in s k) ≡ y
+      → (y ≡ Some (change_node (facts_in t) l x s)) × Able t s l x × (keep_of x ≤ k) → Arriving t s k l x
+  arriving l m h =
       record {
         rows = rows-held S.placed.rows;
-        able = a;
-        rule = move_in S.placed l e;
-        settles = record { linkable = S.linkable; here = here-few; there = move-short S.placed l e; keeps = b; linked = S.linked };
+        able = h.1;
+        rule = move_in S.placed l (m ∙ h.0);
+        settles = record { linkable = S.linkable; here = here-few; there = move-short S.placed l (m ∙ h.0); keeps = h.2; linked = S.linked };
       }
 
   -- what it comes to
-  pub stepped-node : (l : Letter) {x : Node} → move (facts_in t) r l (p, cells_in s k) ≡ some x → {s' : List ℕ} {y : Landing} → Arrived t x s s' y → Stepped r t l k p s s' y
+  pub stepped-node : (l : Letter) {x : Node} → move (facts_in t) r l (p, cells_in s k) ≡ Some x → {s' : List ℕ} {y : Landing} → Arrived t x s s' y → Stepped r t l k p s s' y
   unfolding moved answer answer_word
   stepped-node l {x} e {s'} z =
       record {
         node = rw (e, z.settled.there) (λ i. (x.0, z.settled.cells i));
         answered = rw e z.answered;
-        stays = λ q. absurd (none-ne-some x (sym q ∙ e));
+        stays = λ q. absurd (none-some x (sym q ∙ e));
         within = z.settled.within;
         linked = rw z.settled.there (subst (Linked t s') (sym z.settled.cells) z.settled.linked);
       }
 
   -- one that leads nowhere leaves the place
-  pub stepped-nowhere : (l : Letter) → move (facts_in t) r l (p, cells_in s k) ≡ none → Stepped r t l k p s s (record { at = record { used = k; rule = p }; answer = nowhere })
+  pub stepped-nowhere : (l : Letter) → move (facts_in t) r l (p, cells_in s k) ≡ None → Stepped r t l k p s s (record { at = record { used = k; rule = p }; answer = nowhere })
   unfolding moved answer answer_word
   stepped-nowhere l e = record { node = rw e; answered = rw e; stays = λ q. refl; within = within_none cell_length (length t + row_length) s; linked = S.linked }
 
-  pub stepped_kept : (l : Letter) {x : Landing} → x ≡ record { at = record { used = k; rule = p }; answer = nowhere } → move (facts_in t) r l (p, cells_in s k) ≡ none → Stepped r t l k p s s x
+  pub stepped_kept : (l : Letter) {x : Landing} → x ≡ record { at = record { used = k; rule = p }; answer = nowhere } → move (facts_in t) r l (p, cells_in s k) ≡ None → Stepped r t l k p s s x
   stepped_kept l e q = rw e (stepped-nowhere l q)
 
   -- and where it stands

@@ -4,7 +4,7 @@ use Prim.Native.Nat.{ℕ, ◌*◌, ◌≤◌, ◌<◌}
 use native.Mathlib.Omega.{arith}
 use mathlib.Core.Path.{◌≡◌, refl, ap, ◌∙◌, subst}
 use mathlib.Core.List.{List, []}
-use mathlib.Core.Option.{Option, none, map}
+use Rattle.std.specs.Prelude.{Option, option_map}
 use lib.ListN.{length}
 use Rattle.rule.specs.declared.Rule.{Rule}
 use Rattle.rule.specs.Sound.{Sound, Closed}
@@ -52,7 +52,7 @@ module _ {R : List Rule} {rank : ℕ → ℕ} (S : Sound R rank) {r : ℕ} (C : 
   same-short x n Same.above = omega arith
   same-short x n (Same.at {e} {z} h) =
       let p = at_node good h in
-      place-bound S C p.0 (label_of e) (cells z) (placed-label_at (expression R r) p.0 ∙ ap (map placed_as) p.1)
+      place-bound S C p.0 (label_of e) (cells z) (placed-label_at (expression R r) p.0 ∙ ap (option_map placed_as) p.1)
 
   pub valid-short : (n : Node) → Valid R r n → length n.1 ≤ 3 * length R
   valid-short n v = same-short v.position n v.same

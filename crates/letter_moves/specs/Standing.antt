@@ -1,7 +1,7 @@
 -- What holds while letters run: the table is that of a sound plan's rules, and the place is that of a node of the walked rule's
 -- forest, or above it. What a letter does, as the model has it.
 use Rattle.std.specs.Prelude.{ℕ, ◌+◌, ◌≤◌, ◌≡◌, List, length}
-use Rattle.std.proofs.Math.Option.{Option, none}
+use Rattle.std.specs.Prelude.{Option, None}
 use Rattle.rule.specs.declared.Rule.{Rule}
 use Rattle.rule.specs.Sound.{Sound, Closed}
 use Rattle.forest.specs.Expression.{expression}
@@ -51,6 +51,6 @@ pub record Stands (r : ℕ) (t s : List ℕ) (k p : ℕ) : Type 0 where
 pub record Stepped (r : ℕ) (t : List ℕ) (l : Letter) (k p : ℕ) (s s' : List ℕ) (x : Landing) : Type 0 where
   pub node : (x.at.rule, cells_in s' x.at.used) ≡ moved (facts_in t) r l (p, cells_in s k)
   pub answered : x.answer ≡ answer_word (answer (facts_in t) r l (p, cells_in s k))
-  pub stays : move (facts_in t) r l (p, cells_in s k) ≡ none → s' ≡ s
+  pub stays : move (facts_in t) r l (p, cells_in s k) ≡ None → s' ≡ s
   pub within : Within cell_length (length t + row_length) s s'
   pub linked : Linked t s' (cells_in s' x.at.used)

@@ -1,11 +1,11 @@
 -- Whether a letter leads to a node tells its reason there: a, z and s have one reason either way. The cells below a row are found by looking
 -- down from its last cell to its opening. Assumes nothing.
-use Prim.Native.Nat.{ℕ, ◌-◌, ◌<◌}
+use Prim.Native.Nat.{ℕ, ◌+◌, ◌-◌, ◌<◌}
 use native.Mathlib.Omega.{arith}
 use mathlib.Core.Path.{◌≡◌, refl, sym, ap, ◌∙◌}
 use mathlib.Core.Bool.{Bool, true, false}
 use mathlib.Core.List.{List}
-use mathlib.Core.Option.{Option, none, some}
+use Rattle.std.specs.Prelude.{Option, None, Some}
 use borrow.Author.Tests.{eq-eqb, ne_eqb}
 use Rattle.forest.specs.Place.{Cells, cell_row}
 use Rattle.forest.specs.Letter.{Letter}
@@ -24,11 +24,11 @@ use Rattle.reasons.specs.Reason.{reason_above}
 use Rattle.reasons.specs.Decided.{is_found, stop_reason, decided_at, decided}
 
 -- a letter that leads to a node, and one that doesn't
-pub leads-moves : (c : Letter) {y : Option Node} {x : Node} → y ≡ some x → Reason.Moves ≡ decided_at c (is_found y)
+pub leads-moves : (c : Letter) {y : Option Node} {x : Node} → y ≡ Some x → Reason.Moves ≡ decided_at c (is_found y)
 unfolding decided_at is_found
 leads-moves c e = rw e
 
-pub leads-stops : (c : Letter) {y : Option Node} → y ≡ none → stop_reason c ≡ decided_at c (is_found y)
+pub leads-stops : (c : Letter) {y : Option Node} → y ≡ None → stop_reason c ≡ decided_at c (is_found y)
 unfolding decided_at is_found
 leads-stops c e = rw e
 
@@ -50,22 +50,22 @@ other-above code.Letter.P ha hz = refl
 other-above code.Letter.U ha hz = refl
 other-above code.Letter.S ha hz = refl
 
--- the cells below a row, looked for from cell i down
+-- the cells below a row, looked for from cell i down: the cell with number i is the one over i - 1 cells
 module _ (s : List ℕ) (i : ℕ) where
-  pub below-here : 0 < i → (cell_at s i).0 ≡ cell_row → below_row (cells_in s i) ≡ cells_in s (i - 1)
+  pub below-here : 0 < i → (cell_at s (i - 1 + 1)).0 ≡ cell_row → below_row (cells_in s i) ≡ cells_in s (i - 1)
   unfolding below_row
-  below-here h e = rw (cells-top s i h, eq-eqb _ _ e)
+  below-here h e = let top : i - 1 + 1 ≡ i = omega arith in rw (cells-top s i h, eq-eqb _ _ (rw top at e))
 
-  pub below_next : 0 < i → ((cell_at s i).0 ≡ cell_row → ⊥) → below_row (cells_in s i) ≡ below_row (cells_in s (i - 1))
+  pub below_next : 0 < i → ((cell_at s (i - 1 + 1)).0 ≡ cell_row → ⊥) → below_row (cells_in s i) ≡ below_row (cells_in s (i - 1))
   unfolding below_row
-  below_next h e = rw (cells-top s i h, ne_eqb _ _ e)
+  below_next h e = let top : i - 1 + 1 ≡ i = omega arith in rw (cells-top s i h, ne_eqb _ _ (rw top at e))
 
   pub below_none : i ≡ 0 → below_row (cells_in s i) ≡ cells_in s 0
   unfolding below_row cells_in
   below_none e = rw (cells-none s i e)
 
 -- the parent of a node that stands in no part's hole: the node at the cells below its row
-module _ (F : Facts) (s : List ℕ) (p k t r : ℕ) (off : outward F (cells_in s k) ≡ none) (row : cells_in s t ≡ under (cells_in s k))
+module _ (F : Facts) (s : List ℕ) (p k t r : ℕ) (off : outward F (cells_in s k) ≡ None) (row : cells_in s t ≡ under (cells_in s k))
     (below : cells_in s r ≡ below_row (cells_in s t)) where
   over-row : parent F (p, cells_in s k) ≡ node_at F (cells_in s r)
   over-row = parent-off F p (cells_in s k) off ∙ ap (node_at F) (ap below_row (sym row) ∙ sym below)
@@ -78,7 +78,7 @@ module _ (F : Facts) (s : List ℕ) (p k t r : ℕ) (off : outward F (cells_in s
   parent-moves h = leads-moves Letter.parent (over-row ∙ node-here F s r h)
 
 -- the part in whose hole it stands
-pub part-moves : (F : Facts) (p : ℕ) (cs : Cells) {x : Node} → outward F cs ≡ some x → Reason.Moves ≡ decided_at Letter.parent (is_found (parent F (p, cs)))
+pub part-moves : (F : Facts) (p : ℕ) (cs : Cells) {x : Node} → outward F cs ≡ Some x → Reason.Moves ≡ decided_at Letter.parent (is_found (parent F (p, cs)))
 part-moves F p cs e = leads-moves Letter.parent (parent-part F p cs e)
 
 -- a letter other than a and z moves only from a node

@@ -5,7 +5,7 @@ use native.Mathlib.Omega.{arith}
 use native.Mathlib.Numerals.{add-one}
 use mathlib.Core.Path.{◌≡◌, refl, sym, ap, ap₂, ◌∙◌}
 use mathlib.Core.List.{List, [], ◌∷◌, ◌++◌, map, append_assoc, append-nil}
-use mathlib.Core.Option.{none, some}
+use Rattle.std.specs.Prelude.{None, Some}
 use lib.ListN.{length, take, drop, get_or, length-append, length-drop, drop_of_length-le}
 use lib.Seq.{take_at, drop_at, drop-drop, drop-cons}
 use Rattle.words.specs.Number.{bytes}
@@ -15,7 +15,7 @@ use Rattle.words.specs.Front.{in_front}
 use Rattle.forest.specs.Letter.{Letter, letter_of}
 use Rattle.forest.specs.Walk.{answer_length, cell_length, cells_in, and_letters, letters_of, answers_bytes, answer_word}
 use Rattle.model.specs.Model.{Node}
-use Rattle.model.specs.Walk.{answer, answers, after}
+use Rattle.model.specs.Walk.{answers, after}
 use Rattle.work_rows.specs.Rows.{Within, row_length}
 use Rattle.facts.specs.Facts.{facts_in}
 use Rattle.work_rows.proofs.Rows.{within_none, within_both}
@@ -72,11 +72,11 @@ letters-none : (letters : List ℕ) (i : ℕ) → length letters ≤ i → lette
 unfolding letters_of
 letters-none letters i h = rw (drop_of_length-le letters h)
 
-letters-other : (letters : List ℕ) (i : ℕ) → i < length letters → letter_of (get_or letters i 0) ≡ none → letters_of (drop i letters) ≡ []
+letters-other : (letters : List ℕ) (i : ℕ) → i < length letters → letter_of (get_or letters i 0) ≡ None → letters_of (drop i letters) ≡ []
 unfolding letters_of and_letters
 letters-other letters i h e = rw (drop-cons letters i 0 h) (rw e)
 
-letters-more : (letters : List ℕ) (i : ℕ) (l : Letter) → i < length letters → letter_of (get_or letters i 0) ≡ some l → letters_of (drop i letters) ≡ l ∷ letters_of (drop (i + 1) letters)
+letters-more : (letters : List ℕ) (i : ℕ) (l : Letter) → i < length letters → letter_of (get_or letters i 0) ≡ Some l → letters_of (drop i letters) ≡ l ∷ letters_of (drop (i + 1) letters)
 unfolding letters_of and_letters
 letters-more letters i l h e = rw (drop-cons letters i 0 h, add-one i) (rw e)
 
@@ -121,11 +121,11 @@ module _ {r : ℕ} {t letters s₀ given₀ : List ℕ} {h₀ : Standing} where
     pub ran-all : length letters ≤ i → Ran r t letters h₀ s₀ s given₀ given h.used
     ran-all d = ran-end (letters-none letters i d)
 
-    pub ran-other : i < length letters → letter_of (get_or letters i 0) ≡ none → Ran r t letters h₀ s₀ s given₀ given h.used
+    pub ran-other : i < length letters → letter_of (get_or letters i 0) ≡ None → Ran r t letters h₀ s₀ s given₀ given h.used
     ran-other d e = ran-end (letters-other letters i d e)
 
     -- one letter more
-    pub partway-more : (l : Letter) → i < length letters → letter_of (get_or letters i 0) ≡ some l → Answerable letters given₀ → {s' given' : List ℕ} {x : Landing}
+    pub partway-more : (l : Letter) → i < length letters → letter_of (get_or letters i 0) ≡ Some l → Answerable letters given₀ → {s' given' : List ℕ} {x : Landing}
         → Stepped r t l h.used h.rule s s' x → given' ≡ put answer_length given (answer_length * i) x.answer → Partway r t letters h₀ s₀ given₀ (i + 1) x.at s' given'
     unfolding after answers
     partway-more l d e room {s'} {given'} {x} z w =

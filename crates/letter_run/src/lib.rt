@@ -4,7 +4,7 @@
 ghost use Rattle.letter_moves.specs.Standing.{Stands};
 ghost use Rattle.letter_run.specs.Ran.{Ran, Answerable};
 
-use letter::{Letter, Read, letter_of};
+use letter::{Letter, letter_of};
 use letter_arrival::Standing;
 
 // Letters in turn from a place, a word of answers each; gives the number of cells that they lead to.
@@ -26,9 +26,8 @@ pub fn run(
         Ran r rows letters from cursor cursor' answers answers' result }
 {
     let mut at = from;
-    let mut i: usize = 0;
-    while i < letters.len() {
-        let Read::Move(letter) = letter_of(letters[i]) else {
+    for (i, &byte) in letters.iter().enumerate() {
+        let Some(letter) = letter_of(byte) else {
             return at.used;
         };
         let landing = letter_step::step(rows, cursor, at, r, letter);
@@ -39,7 +38,6 @@ pub fn run(
             used: next.used,
             rule: next.rule,
         };
-        i += 1;
     }
     at.used
 }

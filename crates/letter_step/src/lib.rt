@@ -1,4 +1,5 @@
-// One letter from a place: the state of a walk, and a function for each letter (document 01, "Letters").
+// One letter from a place: the state of a walk, and a function for each letter (document 01, "Letters"). The eight stay apart, each lent
+// the state by `&mut`: document 01 names that form ("Language forms and where they go").
 #![tactic(auto)]
 
 ghost use Rattle.letter.specs.Letter.{move_of};
@@ -7,8 +8,10 @@ ghost use Rattle.letter_step.specs.Landed.{landed};
 
 use letter::Letter;
 use letter_arrival::{Landing, Standing};
+use side::Side;
 
 // a: the root of the first tree, or the place is kept.
+#[tactic(auto, unfolding(side::specs::Side::side_of, letter::specs::Letter::move_of))]
 fn first_root(rows: &[u8], cursor: &mut [u8], at: &mut Standing, r: u16) -> u32
     requires { Stands r rows.now cursor.old at.old.used at.old.rule }
     ensures { let cursor' = cursor.exit.now in
@@ -18,12 +21,13 @@ fn first_root(rows: &[u8], cursor: &mut [u8], at: &mut Standing, r: u16) -> u32
         let cursor = cursor.entry.now in
         Stepped r rows (move_of Letter.A) at.used at.rule cursor cursor' (landed at' result) }
 {
-    let landing = letter_moves::to_first_root(rows, cursor, at.used, at.rule, r);
+    let landing = letter_moves::to_root(rows, cursor, *at, r, Side::Left);
     *at = landing.at;
     landing.answer
 }
 
 // z: the root of the last tree, or the place is kept.
+#[tactic(auto, unfolding(side::specs::Side::side_of, letter::specs::Letter::move_of))]
 fn last_root(rows: &[u8], cursor: &mut [u8], at: &mut Standing, r: u16) -> u32
     requires { Stands r rows.now cursor.old at.old.used at.old.rule }
     ensures { let cursor' = cursor.exit.now in
@@ -33,12 +37,13 @@ fn last_root(rows: &[u8], cursor: &mut [u8], at: &mut Standing, r: u16) -> u32
         let cursor = cursor.entry.now in
         Stepped r rows (move_of Letter.Z) at.used at.rule cursor cursor' (landed at' result) }
 {
-    let landing = letter_moves::to_last_root(rows, cursor, at.used, at.rule, r);
+    let landing = letter_moves::to_root(rows, cursor, *at, r, Side::Right);
     *at = landing.at;
     landing.answer
 }
 
 // f: the first child, or the place is kept.
+#[tactic(auto, unfolding(side::specs::Side::side_of, letter::specs::Letter::move_of))]
 fn first_child(rows: &[u8], cursor: &mut [u8], at: &mut Standing, r: u16) -> u32
     requires { Stands r rows.now cursor.old at.old.used at.old.rule }
     ensures { let cursor' = cursor.exit.now in
@@ -48,12 +53,13 @@ fn first_child(rows: &[u8], cursor: &mut [u8], at: &mut Standing, r: u16) -> u32
         let cursor = cursor.entry.now in
         Stepped r rows (move_of Letter.F) at.used at.rule cursor cursor' (landed at' result) }
 {
-    let landing = letter_moves::to_first_child(rows, cursor, at.used, at.rule, r);
+    let landing = letter_moves::to_child(rows, cursor, *at, r, Side::Left);
     *at = landing.at;
     landing.answer
 }
 
 // l: the last child, or the place is kept.
+#[tactic(auto, unfolding(side::specs::Side::side_of, letter::specs::Letter::move_of))]
 fn last_child(rows: &[u8], cursor: &mut [u8], at: &mut Standing, r: u16) -> u32
     requires { Stands r rows.now cursor.old at.old.used at.old.rule }
     ensures { let cursor' = cursor.exit.now in
@@ -63,12 +69,13 @@ fn last_child(rows: &[u8], cursor: &mut [u8], at: &mut Standing, r: u16) -> u32
         let cursor = cursor.entry.now in
         Stepped r rows (move_of Letter.L) at.used at.rule cursor cursor' (landed at' result) }
 {
-    let landing = letter_moves::to_last_child(rows, cursor, at.used, at.rule, r);
+    let landing = letter_moves::to_child(rows, cursor, *at, r, Side::Right);
     *at = landing.at;
     landing.answer
 }
 
 // n: the next sibling, or the place is kept.
+#[tactic(auto, unfolding(side::specs::Side::side_of, letter::specs::Letter::move_of))]
 fn next_sibling(rows: &[u8], cursor: &mut [u8], at: &mut Standing, r: u16) -> u32
     requires { Stands r rows.now cursor.old at.old.used at.old.rule }
     ensures { let cursor' = cursor.exit.now in
@@ -78,12 +85,13 @@ fn next_sibling(rows: &[u8], cursor: &mut [u8], at: &mut Standing, r: u16) -> u3
         let cursor = cursor.entry.now in
         Stepped r rows (move_of Letter.N) at.used at.rule cursor cursor' (landed at' result) }
 {
-    let landing = letter_moves::to_next_sibling(rows, cursor, at.used, at.rule, r);
+    let landing = letter_moves::to_sibling(rows, cursor, *at, r, Side::Right);
     *at = landing.at;
     landing.answer
 }
 
 // p: the previous sibling, or the place is kept.
+#[tactic(auto, unfolding(side::specs::Side::side_of, letter::specs::Letter::move_of))]
 fn previous_sibling(rows: &[u8], cursor: &mut [u8], at: &mut Standing, r: u16) -> u32
     requires { Stands r rows.now cursor.old at.old.used at.old.rule }
     ensures { let cursor' = cursor.exit.now in
@@ -93,7 +101,7 @@ fn previous_sibling(rows: &[u8], cursor: &mut [u8], at: &mut Standing, r: u16) -
         let cursor = cursor.entry.now in
         Stepped r rows (move_of Letter.P) at.used at.rule cursor cursor' (landed at' result) }
 {
-    let landing = letter_moves::to_previous_sibling(rows, cursor, at.used, at.rule, r);
+    let landing = letter_moves::to_sibling(rows, cursor, *at, r, Side::Left);
     *at = landing.at;
     landing.answer
 }
@@ -108,7 +116,7 @@ fn parent(rows: &[u8], cursor: &mut [u8], at: &mut Standing, r: u16) -> u32
         let cursor = cursor.entry.now in
         Stepped r rows (move_of Letter.U) at.used at.rule cursor cursor' (landed at' result) }
 {
-    let landing = letter_moves::to_parent(rows, cursor, at.used, at.rule, r);
+    let landing = letter_moves::to_parent(rows, cursor, *at, r);
     *at = landing.at;
     landing.answer
 }
@@ -123,7 +131,7 @@ fn same(rows: &[u8], cursor: &mut [u8], at: &mut Standing, r: u16) -> u32
         let cursor = cursor.entry.now in
         Stepped r rows (move_of Letter.S) at.used at.rule cursor cursor' (landed at' result) }
 {
-    let landing = letter_moves::to_same(rows, cursor, at.used, at.rule, r);
+    let landing = letter_moves::to_same(rows, cursor, *at, r);
     *at = landing.at;
     landing.answer
 }

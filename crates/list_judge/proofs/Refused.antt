@@ -1,11 +1,10 @@
 -- What a plan is turned down for comes first, whatever the list is. Assumes nothing.
+use Rattle.std.specs.Prelude.{Result, Ok, Err}
 use mathlib.Core.Path.{◌≡◌, refl}
 use Rattle.refusal.specs.declared.Refusal.{Refusal}
-use Rattle.plan.specs.declared.Checked.{Checked}
-use Rattle.label_rows.specs.declared.Coverage.{Coverage}
 use Rattle.list_judge.specs.Listed.{list_judged}
 
-pub refused-first : (c : Coverage) (why : Refusal) → Checked.Refused why ≡ list_judged c (Checked.Refused why)
+pub refused-first : (c : Result Unit Refusal) (why : Refusal) → Err why ≡ list_judged c (Err why)
 unfolding list_judged
-refused-first Coverage.Whole why = refl
-refused-first (Coverage.Refused other) why = refl
+refused-first (Ok _) why = refl
+refused-first (Err other) why = refl

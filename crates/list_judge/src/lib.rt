@@ -5,31 +5,15 @@ ghost use Rattle.std.specs.Prelude.{◌≡◌};
 ghost use Rattle.label_rows.specs.Coverage.{coverage};
 ghost use Rattle.list_judge.specs.Listed.{list_judged};
 
-use label_rows::{Coverage, LabelRow};
+use label_rows::LabelRow;
 use plan::Checked;
+use refusal::Refusal;
 
-// n and start of a plan, unless it or the list is turned down.
-fn listed(judged: Checked, coverage: Coverage) -> Checked
-    ensures { result ≡ list_judged coverage judged }
-{
-    match judged {
-        Checked::Accepted { n, start } => match coverage {
-            Coverage::Whole => Checked::Accepted { n, start },
-            Coverage::Refused(why) => Checked::Refused(why),
-        },
-        Checked::Refused(why) => Checked::Refused(why),
-    }
-}
-
-// The same for a list that is still to be read: it is, unless the plan is turned down.
-pub fn judge_list(judged: Checked, rows: &[LabelRow]) -> Checked
+// n and start of a plan, unless it or the list is turned down; the list is read where the plan is accepted.
+pub fn judge_list(judged: Result<Checked, Refusal>, rows: &[LabelRow]) -> Result<Checked, Refusal>
     ensures { result ≡ list_judged (coverage rows.now) judged }
 {
-    match judged {
-        Checked::Accepted { .. } => {
-            let coverage = label_rows::check(rows);
-            listed(judged, coverage)
-        }
-        Checked::Refused(_) => judged,
-    }
+    let plan = judged?;
+    label_rows::check(rows)?;
+    Ok(plan)
 }

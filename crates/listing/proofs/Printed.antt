@@ -1,18 +1,28 @@
 -- What is left to print, candidate by candidate. The lines left before a candidate are its own, if it is listed, and those left after it.
 -- A line has two digits for each byte, so none is longer than 69 bytes. Assumes nothing.
-use Prim.Native.Nat.{ℕ, suc, ◌+◌, ◌-◌, ◌*◌, ◌/◌, ◌%◌, ◌≤◌, ◌<◌}
+use Rattle.std.specs.Prelude.{Result, Ok, Err, is_ok}
+use Rattle.refusal.specs.declared.Refusal.{Refusal}
+use Rattle.plan.specs.declared.Checked.{Checked}
+use Rattle.plan_list.specs.Listed.{is_accepted}
+use Prim.Native.Nat.{ℕ, zero, suc, ◌+◌, ◌-◌, ◌*◌, ◌/◌, ◌%◌, ◌≤◌, ◌<◌}
 use native.Mathlib.Omega.{arith}
 use native.Mathlib.Numerals.{add-one}
 use mathlib.Core.Path.{◌≡◌, refl, sym, ap, ◌∙◌}
 use mathlib.Core.Bool.{Bool, true, false, cond, ◌&&◌}
 use mathlib.Core.List.{List, [], ◌∷◌, ◌++◌}
-use lib.ListN.{length, get_or, take, drop, length-append, length-drop, drop_of_length-le}
-use lib.Seq.{drop-cons, take_all}
-use Rattle.decimal.specs.Put.{Next}
+use lib.ListN.{length, get_or, take, drop, length-append, length-drop}
+use lib.Dec.{eqb}
+use lib.Seq.{sets-eq, take_all}
+use Rattle.std.proofs.Common.{inl, inr}
+use Rattle.std.proofs.lemmas.Bool.{and_parts, cases_lt, eqb-true}
+use Rattle.std.specs.Prelude.{slice_index}
+use Rattle.hex.specs.Hex.{lower_digits, encode_with, encode_lower}
+use Rattle.decimal.specs.Put.{Put, Next}
 use Rattle.decimal.proofs.Next.{next-by, next-left}
+use Rattle.decimal.proofs.Puts.{put_both}
 use Rattle.plan.specs.Check.{checked}
 use Rattle.plan_list.specs.Listed.{rule_bytes, three_rules, plan_of, candidates, rules_at, place_of, candidate, plain, wordless, is_accepted, is_listed, kept, listed}
-use Rattle.plan_list.specs.Lines.{hexes, hex_line, lines_of, list_output}
+use Rattle.plan_list.specs.Lines.{hex_digit, hexes, hex_line, lines_of, list_output}
 use Rattle.listing.specs.Left.{Left, Candidate}
 
 -- ---- a line
@@ -25,14 +35,54 @@ pub line-long : (s : List ℕ) → length (hex_line s) ≡ 2 * length s + 1
 unfolding hex_line
 line-long s = omega (arith, length-append (hexes s) (10 ∷ []), hexes-long s)
 
--- the line of the bytes from i on
-pub line-more : (s : List ℕ) (i : ℕ) → i < length s → hex_line (drop i s) ≡ hexes (get_or s i 0 ∷ []) ++ hex_line (drop (i + 1) s)
-unfolding hex_line hexes
-line-more s i h = rw (add-one i, drop-cons s i 0 h)
+-- the digits are those of the crate hex, one by one
+abbrev same_digit : ℕ → Bool
+same_digit v = eqb (slice_index lower_digits v) (hex_digit v)
 
-pub line-none : (s : List ℕ) (i : ℕ) → length s ≤ i → hex_line (drop i s) ≡ 10 ∷ []
-unfolding hex_line hexes
-line-none s i h = rw (drop_of_length-le s h)
+abbrev same_digits : ℕ → Bool
+same_digits zero = true
+same_digits (suc n) = same_digit n && same_digits n
+
+digit-of : (n v : ℕ) → same_digits n ≡ true → v < n → same_digit v ≡ true
+digit-of zero v h lt = absurd (omega arith)
+digit-of (suc n) v h lt =
+    let parts = and_parts (same_digit n) (same_digits n) h in
+    elim (cases_lt v n) [
+      | inl below ↦ digit-of n v parts.1 below
+      | inr top ↦
+          let e : v ≡ n = omega arith in
+          rw e parts.0
+    ]
+
+digits-same : same_digits 16 ≡ true
+unfolding hex_digit
+digits-same = refl
+
+digit-at : (v : ℕ) → v < 16 → slice_index lower_digits v ≡ hex_digit v
+digit-at v h = eqb-true _ _ (digit-of 16 v digits-same h)
+
+pub hexes-encoded : (s : List ℕ) → ((k : ℕ) → get_or s k 0 < 256) → hexes s ≡ encode_lower s
+unfolding hexes encode_with
+hexes-encoded [] h = refl
+hexes-encoded (b ∷ bs) h =
+    let first = h 0 in
+    let high = digit-at (b / 16) (omega arith) in
+    let low = digit-at (b % 16) (omega arith) in
+    let rest = hexes-encoded bs (λ k. h (suc k)) in
+    cc
+
+-- a text at the front of the output
+put-first : {text new out : List ℕ} {n : ℕ} → new ≡ text → n ≡ length text → n ≤ length out → Put text 0 out (new ++ drop n out) n
+put-first {text} {out = out} {n} e q h =
+    let room : 0 + length text ≤ length out = omega arith in
+    let ends : n ≡ 0 + length text = omega arith in
+    record { stored = rw (e, ends) (sym (sets-eq text out 0 room)); ends = ends; room = room }
+
+-- a line is those digits, and then its end
+pub put-line : (plan : List ℕ) {digits out t : List ℕ} {n end : ℕ} → ((k : ℕ) → get_or plan k 0 < 256) → digits ≡ encode_lower plan → n ≡ 2 * length plan
+    → n ≤ length out → Put (10 ∷ []) n (digits ++ drop n out) t end → Put (hex_line plan) 0 out t end
+unfolding hex_line
+put-line plan bytes e q h P = put_both (put-first (e ∙ sym (hexes-encoded plan bytes)) (q ∙ sym (hexes-long plan)) h) P
 
 -- ---- what is left
 module _ (i : ℕ) (h : i < candidates) where
@@ -103,3 +153,9 @@ module _ {i done : ℕ} {plan : List ℕ} (L : Left i done) (C : Candidate i pla
 
     pub plan-with : {r : ℕ} → r ≡ done + length bytes → Left (i + 1) r
     plan-with q = record { rest = ap (λ (k : ℕ). drop k list_output) q ∙ next-left list_output done bytes _ line-next; few = omega (arith, short, L.few) }
+
+-- an answer that is not turned down
+pub ok-accepted : (r : Result Checked Refusal) → is_ok r ≡ is_accepted r
+unfolding is_accepted
+ok-accepted (Ok c) = refl
+ok-accepted (Err why) = refl

@@ -2,16 +2,15 @@
 // it prints is plan_list's `list_output`; which plans these are is plan_list's `members`.
 #![tactic(auto)]
 
-ghost use Rattle.std.specs.Prelude.{◌≡◌, [], ◌∷◌, ◌+◌, ◌*◌, ◌≤◌, ◌<◌, length, drop};
+ghost use Rattle.std.specs.Prelude.{◌≡◌, [], ◌+◌, ◌*◌, ◌≤◌, ◌<◌, length, drop};
 ghost use Rattle.decimal.specs.Put.{Put, Next};
 ghost use Rattle.plan.specs.Check.{checked};
 ghost use Rattle.plan_list.specs.Listed.{three_rules, candidates, rules_at, place_of, plain as Listed·plain, wordless as Listed·wordless, is_accepted};
-ghost use Rattle.plan_list.specs.Lines.{hex_digit, hexes, hex_line, list_output};
+ghost use Rattle.plan_list.specs.Lines.{hex_line, list_output};
 ghost use Rattle.listing.specs.Left.{Left, Candidate};
 
-use plan::Checked;
+use program_io::Printer;
 use std::io;
-use std::io::Write;
 use std::rt::Stdout;
 
 // Candidates, and the first that have two rules and three.
@@ -29,23 +28,12 @@ const LINE: usize = 69;
 // What ends a line.
 const LINE_END: u8 = 10;
 
-// Standard output, and how writing to it has gone.
-#[derive(Drop)]
-struct Printer {
-    stdout: Stdout,
-    gone: io::Result<()>,
-}
-
-// Bytes printed: those that come next in the program's output, of which so many were printed before; gives how many are printed then.
-// Nothing else here writes. After a write that failed none is tried, and main ends with its error.
-fn emit(printer: &mut Printer, done: usize, bytes: &[u8]) -> usize
-    requires { Next list_output done bytes.now × (done + length bytes.now ≤ 1000000) }
-    ensures { result ≡ done + length bytes.now }
+// Bytes printed: those that come next in the program's output. Nothing else here writes.
+fn emit(printer: &mut Printer<Stdout>, bytes: &[u8])
+    requires { Next list_output printer.old.printed bytes.now × (printer.old.printed + length bytes.now ≤ 1000000) }
+    ensures { printer.new.printed ≡ printer.old.printed + length bytes.now }
 {
-    if printer.gone.is_ok() {
-        printer.gone = Write::write_all(&mut printer.stdout, bytes);
-    }
-    done + bytes.len()
+    printer.print(bytes);
 }
 
 // How many rules a candidate has.
@@ -115,94 +103,61 @@ fn wordless(x: u8) -> bool
 fn accepted(plan: &[u8]) -> bool
     ensures { result ≡ is_accepted (checked plan.now) }
 {
-    match plan::check(plan) {
-        Checked::Accepted { .. } => true,
-        Checked::Refused(_) => false,
-    }
+    plan::check(plan).is_ok()
 }
 
-// A digit below 16 in hexadecimal.
-fn hex_digit(v: u8) -> u8
-    requires { v < 16 }
-    ensures { result ≡ hex_digit v }
-{
-    if v < 10 {
-        return b'0' + v;
-    }
-    b'a' - 10 + v
-}
-
-// A byte's two digits.
-fn put_hex(out: &mut [u8], at: usize, b: u8) -> usize
-    requires { at + 2 ≤ length out.old }
-    ensures { Put (hexes (b ∷ [])) at out.old out.new result }
-{
-    let end = decimal::put_byte(out, at, hex_digit(b / 16));
-    decimal::put_byte(out, end, hex_digit(b % 16))
-}
-
-// A plan's line, at the front of the output.
+// A plan's line, at the front of the output: two digits a byte, in lower case.
 fn put_line(out: &mut [u8], plan: &[u8]) -> usize
     requires { length (hex_line plan.now) ≤ length out.old }
     ensures { Put (hex_line plan.now) 0 out.old out.new result }
 {
-    let mut end = 0;
-    let mut i = 0;
-    while i < plan.len() {
-        end = put_hex(out, end, plan[i]);
-        i += 1;
-    }
-    decimal::put_byte(out, end, LINE_END)
+    let end = 2 * plan.len();
+    hex::encode_to_slice(plan, &mut out[..end]).unwrap();
+    out[end] = LINE_END;
+    end + 1
 }
 
 // A candidate with labels 0 alone: printed if check accepts it.
-fn list_plan(printer: &mut Printer, i: usize, done: usize, plan: &[u8]) -> usize
-    requires { Left i done × Candidate i plan.now }
-    ensures { Left (i + 1) result }
+fn list_plan(printer: &mut Printer<Stdout>, i: usize, plan: &[u8])
+    requires { Left i printer.old.printed × Candidate i plan.now }
+    ensures { Left (i + 1) printer.new.printed }
 {
     if !accepted(plan) {
-        return done;
+        return;
     }
     let mut out = [0u8; LINE];
     let end = put_line(&mut out, plan);
-    emit(printer, done, &out[..end])
+    emit(printer, &out[..end]);
 }
 
 // A candidate by its number.
-fn list_one(printer: &mut Printer, i: usize, done: usize) -> usize
-    requires { Left i done × (i < candidates) }
-    ensures { Left (i + 1) result }
+fn list_one(printer: &mut Printer<Stdout>, i: usize)
+    requires { Left i printer.old.printed × (i < candidates) }
+    ensures { Left (i + 1) printer.new.printed }
 {
     let j = place_of(i);
     let a = (j / 3 / 48) as u8;
     let b = (j / 3 % 48) as u8;
     if !(wordless(a) & plain(b)) {
-        return done;
+        return;
     }
     let n = rules_at(i);
     let plan = three_rules(n, (j % 3) as u8, a, b);
     let first = 24 - 8 * (n as usize);
-    list_plan(printer, i, done, &plan[first..])
+    list_plan(printer, i, &plan[first..]);
 }
 
-// All of them, in order; gives how many bytes were printed, after which nothing is left.
-fn list(printer: &mut Printer) -> usize
-    ensures { drop result list_output ≡ [] }
+// All of them, in order; gives the printer that printed them, after which nothing is left.
+fn list(output: Stdout) -> Printer<Stdout>
+    ensures { drop result.printed list_output ≡ [] }
 {
-    let mut done = 0;
-    let mut i = 0;
-    while i < CANDIDATES {
-        done = list_one(printer, i, done);
-        i += 1;
+    let mut printer = Printer::new(output);
+    for i in 0..CANDIDATES {
+        list_one(&mut printer, i);
     }
-    done
+    printer
 }
 
 fn main(rt: HostRuntime) -> io::Result<()> {
-    let mut printer = Printer {
-        stdout: rt.stdout(),
-        gone: Ok(()),
-    };
-    list(&mut printer);
-    printer.gone
+    list(rt.stdout()).gone
 }

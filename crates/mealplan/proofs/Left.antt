@@ -1,12 +1,13 @@
 -- What a walk answers and leaves, given as numbers: part by part. Assumes nothing.
+use Rattle.std.specs.Prelude.{Result}
+use Rattle.refusal.specs.declared.Refusal.{Refusal}
 use Prim.Native.Nat.{ℕ}
 use mathlib.Core.Path.{◌≡◌, ap, ◌∙◌}
 use mathlib.Core.List.{List}
-use Rattle.forest.specs.declared.Walked.{Walked}
 use Rattle.demand.specs.Calls.{Left, leaves}
 use Rattle.c_result.specs.Interface.{walked_gives, result_number, result_position}
 
-pub left-given : {x : Walked} {work cursor answers : List ℕ} {l : Left} {result position : ℕ} → leaves x work cursor answers ≡ l
+pub left-given : {x : Result Unit Refusal} {work cursor answers : List ℕ} {l : Left} {result position : ℕ} → leaves x work cursor answers ≡ l
     → (result ≡ result_number (walked_gives x)) × (position ≡ result_position (walked_gives x))
     → (result ≡ result_number (walked_gives l.answer)) × (work ≡ l.work) × (cursor ≡ l.cursor) × (answers ≡ l.answers)
     × (position ≡ result_position (walked_gives l.answer))

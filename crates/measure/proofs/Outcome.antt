@@ -1,4 +1,5 @@
 -- Measure's answer and work, by the ways through its code: refused, or counted over the loaded rules and then cleared. Assumes nothing.
+use Rattle.std.specs.Prelude.{Result, Ok, Err}
 use Prim.Native.Nat.{ℕ, ◌*◌}
 use mathlib.Core.Path.{◌≡◌, ap, sym, ◌∙◌}
 use mathlib.Core.List.{List}
@@ -18,19 +19,19 @@ use Rattle.count_all.specs.Rows.{Countable}
 use Rattle.measure.specs.Answer.{Answered}
 
 -- the answer and the work that measure gives
-abbrev pub Outcome : List ℕ → List ℕ → Measured → List ℕ → Type 0
+abbrev pub Outcome : List ℕ → List ℕ → Result Measured Refusal → List ℕ → Type 0
 Outcome s work m t = (m ≡ measured s work) × (t ≡ measured_work s work)
 
 -- loaded rows can be counted
 pub countable : {s t : List ℕ} {n start : ℕ} → Held s n start t → Countable t n start
 countable h = record { passable = record { ready = h.ready; room = h.room }; below = h.below }
 
-module _ {s work t : List ℕ} {x : Checked} (b : Prepared s work t (checked s) x) where
-  pub refused : {r : Refusal} → x ≡ Checked.Refused r → Outcome s work (Measured.Refused r) t
+module _ {s work t : List ℕ} {x : Result Checked Refusal} (b : Prepared s work t (checked s) x) where
+  pub refused : {r : Refusal} → x ≡ Err r → Outcome s work (Err r) t
   unfolding measured measured_from measured_work
   refused {r} e = (ap (measured_from (rules_of s)) (sym e ∙ b.answer), b.refused r e)
 
-  pub finished : {n start : ℕ} {m : Measured} {u v : List ℕ} → x ≡ Checked.Accepted n start → Answered n start m t u → v ≡ cleared (word_length * work_words n) u
+  pub finished : {n start : ℕ} {m : Result Measured Refusal} {u v : List ℕ} → x ≡ Ok (record { n = n; start = start }) → Answered n start m t u → v ≡ cleared (word_length * work_words n) u
       → Outcome s work m v
   unfolding forest measured measured_from measured_work
   finished {n} {start} {m} {u} e a p =

@@ -6,7 +6,7 @@ use native.Mathlib.Omega.{arith}
 use mathlib.Core.Path.{◌≡◌, refl, ap, ◌∙◌}
 use mathlib.Core.Bool.{Bool, true, false, cond, not, ◌&&◌, and-eq-true_iff}
 use mathlib.Core.List.{[], ◌∷◌}
-use mathlib.Core.Option.{Option, none, some, map}
+use Rattle.std.specs.Prelude.{Option, None, Some, option_map}
 use lib.Dec.{eqb, ltb, lt→ltb}
 use Rattle.rule.specs.declared.Rule.{Rule}
 use Rattle.forest.specs.Expression.{Expression, rule_number}
@@ -73,19 +73,19 @@ state-step F r s a v cs o h g = go cs (top-grows F s a cs h)
 -- the state after a position's cells, by what stands there
 abbrev pub Seen : Facts → ℕ → Where → Expression → Position → Type 0
 Seen F r Where.row e z =
-    (state_after F r (cells z) ≡ State.at (representative e) (top_kind (cells z)) none) × (eqb (top_kind (cells z)) cell_spine ≡ false)
+    (state_after F r (cells z) ≡ State.at (representative e) (top_kind (cells z)) None) × (eqb (top_kind (cells z)) cell_spine ≡ false)
 Seen F r Where.tree e z = spine_in F (state_after F r (cells z)) (rule_number e) ≡ true
 Seen F r Where.spine e z =
-    state_after F r (cells z) ≡ State.at (rule_number e) (top_kind (cells z)) (map rule_number (continues z))
+    state_after F r (cells z) ≡ State.at (rule_number e) (top_kind (cells z)) (option_map rule_number (continues z))
 Seen F r Where.here e z =
-    (state_after F r (cells z) ≡ State.at (rule_number e) (top_kind (cells z)) (map rule_number (continues z))) × (is_node (F.rule (rule_number e)) (top_kind (cells z)) ≡ true)
+    (state_after F r (cells z) ≡ State.at (rule_number e) (top_kind (cells z)) (option_map rule_number (continues z))) × (is_node (F.rule (rule_number e)) (top_kind (cells z)) ≡ true)
 
 -- the state after a row's opening
-row-state : (F : Facts) (r : ℕ) (d : ℕ) (e : Expression) (cs : Cells) → Tells F e → row_in F r (state_after F r cs) d ≡ some (rule_number e) → (state_after F r ((cell_row, d, representative e, 0) ∷ cs) ≡ State.at (representative e) cell_row none)
+row-state : (F : Facts) (r : ℕ) (d : ℕ) (e : Expression) (cs : Cells) → Tells F e → row_in F r (state_after F r cs) d ≡ Some (rule_number e) → (state_after F r ((cell_row, d, representative e, 0) ∷ cs) ≡ State.at (representative e) cell_row None)
 unfolding state_after next form_of after_row
 row-state F r d e cs t q = rw (q, t.represents, eqb_same (representative e))
 
-pub kept-none : (s : Side) → kept_by s none ≡ none
+pub kept-none : (s : Side) → kept_by s None ≡ None
 unfolding kept_by
 kept-none Side.left = refl
 kept-none Side.right = refl
@@ -95,10 +95,10 @@ unfolding cell_run
 run-no-spine Side.left = refl
 run-no-spine Side.right = refl
 
-side-seen : (F : Facts) (r : ℕ) (s : Side) (x : ℕ) (b c : Expression) (z : Position) → Steps F s x (representative (pick s b c)) → Top F x (cells z) → state_after F r (cells z) ≡ State.at x (top_kind (cells z)) none → Seen F r Where.row (pick s b c) (Position.pair_side s x b c z)
+side-seen : (F : Facts) (r : ℕ) (s : Side) (x : ℕ) (b c : Expression) (z : Position) → Steps F s x (representative (pick s b c)) → Top F x (cells z) → state_after F r (cells z) ≡ State.at x (top_kind (cells z)) None → Seen F r Where.row (pick s b c) (Position.pair_side s x b c z)
 unfolding cells
 side-seen F r s x b c z g h q =
-    rw top_kind-step (state-step F r s x (representative (pick s b c)) (cells z) none h g q ∙ rw kept-none, run-no-spine s)
+    rw top_kind-step (state-step F r s x (representative (pick s b c)) (cells z) None h g q ∙ rw kept-none, run-no-spine s)
 
 right-seen : (F : Facts) (r x : ℕ) (b c : Expression) (z : Position) → is_empty b ≡ true → Seen F r Where.row (Expression.pair x b c) z → Seen F r Where.row c z
 unfolding representative
@@ -131,7 +131,7 @@ unfolding cells top_kind row_in row_under shape rule_number is_node
 under-seen F r x a c z (Here.node t gc) q =
     (row-state F r row_of_node c (cells z) (tells F Sort.row c gc) (rw (q.0, t.rule, let k : eqb (top_kind (cells z)) cell_spine ≡ true = rw t.rule at q.1 in k)), refl)
 
-arm-row : (s : Side) (x b c k : ℕ) → row_under (Rule.Part x b c) k (row_of_part s) ≡ some (pick s b c)
+arm-row : (s : Side) (x b c k : ℕ) → row_under (Rule.Part x b c) k (row_of_part s) ≡ Some (pick s b c)
 unfolding row_under row_of_part pick
 arm-row Side.left x b c k = refl
 arm-row Side.right x b c k = refl
@@ -141,7 +141,7 @@ unfolding cells top_kind row_in shape rule_number
 arm-seen F r s x a b c z (Here.part t gb gc) q =
     (row-state F r (row_of_part s) (pick s b c) (cells z) (tells F Sort.row (pick s b c) (picked (Fit F Sort.row) s b c gb gc)) (rw (q.0, t.rule, arm-row, pick-map rule_number s b c)), refl)
 
-pub kept-continues : (s : Side) (x : ℕ) (b c : Expression) (z : Position) → kept_by s (map rule_number (continues z)) ≡ map rule_number (continues (Position.join_side s x b c z))
+pub kept-continues : (s : Side) (x : ℕ) (b c : Expression) (z : Position) → kept_by s (option_map rule_number (continues z)) ≡ option_map rule_number (continues (Position.join_side s x b c z))
 unfolding kept_by continues
 kept-continues Side.left x b c z = refl
 kept-continues Side.right x b c z = refl
@@ -149,13 +149,13 @@ kept-continues Side.right x b c z = refl
 join-seen : (F : Facts) (r : ℕ) (s : Side) (x : ℕ) (b c : Expression) (z : Position) → Steps F s x (rule_number (pick s b c)) → Top F x (cells z) → Seen F r Where.spine (Expression.join x b c) z → Seen F r Where.spine (pick s b c) (Position.join_side s x b c z)
 unfolding cells rule_number
 join-seen F r s x b c z g h q =
-    rw (top_kind-step, ← (kept-continues s x b c z)) (state-step F r s x (rule_number (pick s b c)) (cells z) (map rule_number (continues z)) h g q)
+    rw (top_kind-step, ← (kept-continues s x b c z)) (state-step F r s x (rule_number (pick s b c)) (cells z) (option_map rule_number (continues z)) h g q)
 
 part-seen : (F : Facts) (r x a : ℕ) (b c : Expression) (z : Position) → Here F (Expression.part x a b c) → Seen F r Where.spine (Expression.part x a b c) z → Seen F r Where.here (Expression.part x a b c) z
 unfolding is_node shape rule_number
 part-seen F r x a b c z (Here.part t gb gc) q = (q, rw t.rule)
 
-hole-seen : (F : Facts) (r x a : ℕ) (b c e : Expression) (z : Position) → Here F (Expression.part x a b c) → Seen F r Where.here (Expression.part x a b c) z → continues z ≡ some e → Seen F r Where.tree e z
+hole-seen : (F : Facts) (r x a : ℕ) (b c e : Expression) (z : Position) → Here F (Expression.part x a b c) → Seen F r Where.here (Expression.part x a b c) z → continues z ≡ Some e → Seen F r Where.tree e z
 unfolding spine_in spine_at is_that shape rule_number
 hole-seen F r x a b c e z (Here.part t gb gc) q h = rw (q.0, t.rule, h, eqb_same (rule_number e))
 

@@ -7,7 +7,7 @@ use native.Mathlib.Omega.{arith}
 use mathlib.Core.Path.{◌≡◌, refl, ap, ◌∙◌}
 use mathlib.Core.Bool.{Bool, true, false}
 use mathlib.Core.List.{[], ◌∷◌}
-use mathlib.Core.Option.{some}
+use Rattle.std.specs.Prelude.{Some}
 use lib.Dec.{T, eqb, leb, leb→le, le→leb, eqb→eq, eqb_refl}
 use Rattle.forest.specs.Place.{Cells, Side, cell_row, cell_spine, cell_run, step}
 use Rattle.forest.specs.Sides.{other}
@@ -120,7 +120,7 @@ module _ (F : Facts) (s : Side) (a v : ℕ) (g : Steps F s a v) where
       go cs (grows {x} {t} j e d) = rw step-grows (shrunk-more t x j e d)
 
 -- the step of a place on the other side is turned
-beside_top-run : (F : Facts) (s : Side) (x y : ℕ) (t : Cells) → beside_top F s ((cell_run (other s), x, y, 0) ∷ t) ≡ some (turned F s (one_above F (other s) x y) (shrunk F (other s) ((cell_run (other s), x, y, 0) ∷ t)))
+beside_top-run : (F : Facts) (s : Side) (x y : ℕ) (t : Cells) → beside_top F s ((cell_run (other s), x, y, 0) ∷ t) ≡ Some (turned F s (one_above F (other s) x y) (shrunk F (other s) ((cell_run (other s), x, y, 0) ∷ t)))
 unfolding beside_top
 beside_top-run F s x y t = rw eqb_same
 
@@ -129,10 +129,10 @@ unfolding pop_run cell_run other
 pop_run-other Side.left x y t = refl
 pop_run-other Side.right x y t = refl
 
-pub turned-step : (F : Facts) (s : Side) (a v : ℕ) (cs : Cells) → Top F a cs → Steps F (other s) a v → beside_top F s (pop_run s (step (other s) a v cs)) ≡ some (turned F s a cs)
+pub turned-step : (F : Facts) (s : Side) (a v : ℕ) (cs : Cells) → Top F a cs → Steps F (other s) a v → beside_top F s (pop_run s (step (other s) a v cs)) ≡ Some (turned F s a cs)
 turned-step F s a v cs h g = go cs (top-grows F (other s) a cs h)
   where
-    go : (cs : Cells) → Grows F (other s) a cs → beside_top F s (pop_run s (step (other s) a v cs)) ≡ some (turned F s a cs)
+    go : (cs : Cells) → Grows F (other s) a cs → beside_top F s (pop_run s (step (other s) a v cs)) ≡ Some (turned F s a cs)
     go cs (begins h) = rw (step-begins (other s) a v cs h, pop_run-other, beside_top-run, above-one F (other s) a v g, shrunk-one F (other s) a v g)
     go cs (grows {x} {t} j e d) =
         rw (step-grows, pop_run-other, beside_top-run, above_more F (other s) a v g x j e d, shrunk-more F (other s) a v g t x j e d)

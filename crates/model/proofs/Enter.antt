@@ -5,7 +5,7 @@ use Prim.Native.Nat.{ℕ}
 use mathlib.Core.Path.{◌≡◌, refl}
 use mathlib.Core.Bool.{false, cond}
 use mathlib.Core.List.{◌∷◌}
-use mathlib.Core.Option.{Option, none, some, map}
+use Rattle.std.specs.Prelude.{Option, None, Some, option_map}
 use Rattle.forest.specs.Expression.{Expression, rule_number}
 use Rattle.forest.specs.Place.{Cells, Side, cell_spine, is_empty, representative}
 use Rattle.forest.specs.Sides.{pick}
@@ -21,14 +21,14 @@ use Rattle.model.proofs.Fit.{Fit, Tells, picked, pair-steps, join-steps, node-ou
 
 -- a move on positions and a move on cells come to the same node
 pub data Agree (w : Expression) : Option Located → Option Node → Type 0 where
-  nowhere : Agree w none none
-  found : {e : Expression} {z : Position} → At w Where.here e z → Agree w (some (e, z)) (some (rule_number e, cells z))
+  nowhere : Agree w None None
+  found : {e : Expression} {z : Position} → At w Where.here e z → Agree w (Some (e, z)) (Some (rule_number e, cells z))
 
 -- a node as the walker on cells knows it
 abbrev pub node_of : Located → Node
 node_of x = (rule_number x.0, cells x.1)
 
-pub agreed : (w : Expression) (x : Option Located) (y : Option Node) → Agree w x y → y ≡ map node_of x
+pub agreed : (w : Expression) (x : Option Located) (y : Option Node) → Agree w x y → y ≡ option_map node_of x
 agreed w x y nowhere = refl
 agreed w x y (found h) = refl
 
@@ -53,7 +53,7 @@ join-end Side.left r b c z = refl
 join-end Side.right r b c z = refl
 
 abbrev pub Ends : Facts → Expression → Side → Expression → Type 0
-Ends F w s e = (z : Position) → At w Where.spine e z → Agree w (some (part_end s e z)) (some (F.last s (rule_number e), run F s (rule_number e) (cells z)))
+Ends F w s e = (z : Position) → At w Where.spine e z → Agree w (Some (part_end s e z)) (Some (F.last s (rule_number e), run F s (rule_number e) (cells z)))
 
 part-ends : (F : Facts) (w : Expression) (s : Side) (r a : ℕ) (b c : Expression) → Tells F (Expression.part r a b c) → Ends F w s (Expression.part r a b c)
 unfolding rule_number last depth
@@ -72,23 +72,23 @@ ends F w s e (Fit.join {r} {b} {c} t gb gc) =
     join-ends F w s r b c (join-steps F s r b c (Fit.join t gb gc)) (picked (Ends F w s) s b c (ends F w s b gb) (ends F w s c gc))
 
 -- the root of a tree
-node-opened : (F : Facts) (w : Expression) (r a : ℕ) (c : Expression) (z : Position) → Tells F (Expression.node r a c) → At w Where.tree (Expression.node r a c) z → Agree w (some (P.opened (Expression.node r a c) z)) (some (M.opened F r (cells z)))
+node-opened : (F : Facts) (w : Expression) (r a : ℕ) (c : Expression) (z : Position) → Tells F (Expression.node r a c) → At w Where.tree (Expression.node r a c) z → Agree w (Some (P.opened (Expression.node r a c) z)) (Some (M.opened F r (cells z)))
 unfolding P.opened M.opened rule_number last depth cells
 node-opened F w r a c z t h =
     rw (node-outer F r a c t, t.ends Side.left, run_none F Side.left r ((cell_spine, r, 0, 0) ∷ cells z) (t.deep Side.left)) (found (At.node h))
 
-fill-opened : (F : Facts) (w : Expression) (r : ℕ) (b c : Expression) (z : Position) → Tells F (Expression.fill r b c) → Ends F w Side.left b → At w Where.tree (Expression.fill r b c) z → Agree w (some (P.opened (Expression.fill r b c) z)) (some (M.opened F r (cells z)))
+fill-opened : (F : Facts) (w : Expression) (r : ℕ) (b c : Expression) (z : Position) → Tells F (Expression.fill r b c) → Ends F w Side.left b → At w Where.tree (Expression.fill r b c) z → Agree w (Some (P.opened (Expression.fill r b c) z)) (Some (M.opened F r (cells z)))
 unfolding P.opened M.opened part_end cells
 fill-opened F w r b c z t ih h = rw (fill-outer F r b c t) (ih (Position.fill_spine r b c z) (At.fill h))
 
-pub tree-opened : (F : Facts) (w : Expression) (e : Expression) (z : Position) → Fit F Sort.tree e → At w Where.tree e z → Agree w (some (P.opened e z)) (some (M.opened F (rule_number e) (cells z)))
+pub tree-opened : (F : Facts) (w : Expression) (e : Expression) (z : Position) → Fit F Sort.tree e → At w Where.tree e z → Agree w (Some (P.opened e z)) (Some (M.opened F (rule_number e) (cells z)))
 unfolding rule_number
 tree-opened F w e z (Fit.node {r} {a} {c} t gc) h = node-opened F w r a c z t h
 tree-opened F w e z (Fit.fill {r} {b} {c} t gb gc) h = fill-opened F w r b c z t (ends F w Side.left b gb) h
 
 -- entering the row of e at z
 unfoldable pub entered : Facts → Side → Expression → Cells → Option Node
-entered F s e cs = cond (is_empty e) none (some (M.opened F (F.last s (representative e)) (run F s (representative e) cs)))
+entered F s e cs = cond (is_empty e) None (Some (M.opened F (F.last s (representative e)) (run F s (representative e) cs)))
 
 abbrev pub Enters : Facts → Expression → Side → Expression → Type 0
 Enters F w s e = (z : Position) → At w Where.row e z → Agree w (P.enter s e z) (entered F s e (cells z))

@@ -5,7 +5,7 @@ use Prim.Native.Nat.{ℕ}
 use mathlib.Core.Path.{◌≡◌, refl, ap}
 use mathlib.Core.Bool.{false, cond}
 use mathlib.Core.List.{[], ◌∷◌}
-use mathlib.Core.Option.{Option, none, some, map}
+use Rattle.std.specs.Prelude.{Option, None, Some, option_map}
 use lib.Dec.{eqb}
 use Rattle.forest.specs.Expression.{Expression, rule_number}
 use Rattle.forest.specs.Place.{Cells, Side, cell_row, cell_spine, cell_run, row_of_node, row_of_part, is_empty, representative}
@@ -29,12 +29,12 @@ agree-else w x x' y y' nowhere k = k
 agree-else w x x' y y' (found h) k = found h
 
 -- at a row's opening nothing is beside in the row
-follow-row : (F : Facts) (s : Side) (d v : ℕ) (t : Cells) → follow F s ((cell_row, d, v, 0) ∷ t) ≡ cond (eqb d (row_of_part (other s))) (M.inward F t) none
+follow-row : (F : Facts) (s : Side) (d v : ℕ) (t : Cells) → follow F s ((cell_row, d, v, 0) ∷ t) ≡ cond (eqb d (row_of_part (other s))) (M.inward F t) None
 unfolding follow M.beside pop_run cell_run beside_top other ended or_else
 follow-row F Side.left d v t = refl
 follow-row F Side.right d v t = refl
 
-follow-node : (F : Facts) (s : Side) (v : ℕ) (t : Cells) → follow F s ((cell_row, row_of_node, v, 0) ∷ t) ≡ none
+follow-node : (F : Facts) (s : Side) (v : ℕ) (t : Cells) → follow F s ((cell_row, row_of_node, v, 0) ∷ t) ≡ None
 unfolding row_of_part other
 follow-node F Side.left v t = follow-row F Side.left row_of_node v t
 follow-node F Side.right v t = follow-row F Side.right row_of_node v t
@@ -75,11 +75,11 @@ enter-number F s d e cs g =
     rw (t.empties, t.represents)
 
 -- at a row's opening, and at a node, the cells are not empty
-node_at_lem : (F : Facts) (v : ℕ) (cs : Cells) → Top F v cs → node_at F cs ≡ some (v, cs)
+node_at_lem : (F : Facts) (v : ℕ) (cs : Cells) → Top F v cs → node_at F cs ≡ Some (v, cs)
 unfolding node_at
-node_at_lem F v cs (at_row {d} {t = t}) = ap (λ n. some (n, (cell_row, d, v, 0) ∷ t)) (top-standing F v ((cell_row, d, v, 0) ∷ t) at_row)
-node_at_lem F v cs (at_run {a} {t = t} s j e d) = ap (λ n. some (n, (cell_run s, a, v, 0) ∷ t)) (top-standing F v ((cell_run s, a, v, 0) ∷ t) (at_run s j e d))
-node_at_lem F v cs (at_spine {a} {t = t} o) = ap (λ n. some (n, (cell_spine, a, 0, 0) ∷ t)) (top-standing F v ((cell_spine, a, 0, 0) ∷ t) (at_spine o))
+node_at_lem F v cs (at_row {d} {t = t}) = ap (λ n. Some (n, (cell_row, d, v, 0) ∷ t)) (top-standing F v ((cell_row, d, v, 0) ∷ t) at_row)
+node_at_lem F v cs (at_run {a} {t = t} s j e d) = ap (λ n. Some (n, (cell_run s, a, v, 0) ∷ t)) (top-standing F v ((cell_run s, a, v, 0) ∷ t) (at_run s j e d))
+node_at_lem F v cs (at_spine {a} {t = t} o) = ap (λ n. Some (n, (cell_spine, a, 0, 0) ∷ t)) (top-standing F v ((cell_spine, a, 0, 0) ∷ t) (at_spine o))
 
 module _ (F : Facts) (w : Expression) (g : Fit F Sort.row w) where
   turn-leaves : (s : Side) (r : ℕ) (b c : Expression) (z : Position) → At w Where.row (Expression.pair r b c) z → is_empty b ≡ false → is_empty c ≡ false → Agree w (P.leave s (Position.pair_side (other s) r b c z)) (follow F s (cells (Position.pair_side (other s) r b c z)))
@@ -174,14 +174,14 @@ module _ (F : Facts) (w : Expression) (g : Fit F Sort.row w) where
   root-agrees s = rw (enter-number F s row_of_node w [] g) (enters F w s w g (Position.start w) At.start)
 
   -- the moves of a node, as equations
-  pub child-is : (s : Side) (e : Expression) (z : Position) → At w Where.here e z → M.child F s (rule_number e, cells z) ≡ map node_of (P.child s e z)
+  pub child-is : (s : Side) (e : Expression) (z : Position) → At w Where.here e z → M.child F s (rule_number e, cells z) ≡ option_map node_of (P.child s e z)
   child-is s e z h = agreed w (P.child s e z) (M.child F s (rule_number e, cells z)) (child-agrees s e z h)
 
-  pub sibling-is : (s : Side) (e : Expression) (z : Position) → At w Where.here e z → M.sibling F s (rule_number e, cells z) ≡ map node_of (P.sibling s z)
+  pub sibling-is : (s : Side) (e : Expression) (z : Position) → At w Where.here e z → M.sibling F s (rule_number e, cells z) ≡ option_map node_of (P.sibling s z)
   sibling-is s e z h = agreed w (P.sibling s z) (M.sibling F s (rule_number e, cells z)) (sibling-agrees s e z h)
 
-  pub parent_is : (e : Expression) (z : Position) → At w Where.here e z → M.parent F (rule_number e, cells z) ≡ map node_of (P.parent z)
+  pub parent_is : (e : Expression) (z : Position) → At w Where.here e z → M.parent F (rule_number e, cells z) ≡ option_map node_of (P.parent z)
   parent_is e z h = agreed w (P.parent z) (M.parent F (rule_number e, cells z)) (parent-agrees e z h)
 
-  pub root_is : (s : Side) → M.root F s (rule_number w) ≡ map node_of (P.enter s w (Position.start w))
+  pub root_is : (s : Side) → M.root F s (rule_number w) ≡ option_map node_of (P.enter s w (Position.start w))
   root_is s = agreed w (P.enter s w (Position.start w)) (M.root F s (rule_number w)) (root-agrees s)

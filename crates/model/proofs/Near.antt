@@ -6,7 +6,7 @@ use native.Mathlib.Omega.{arith}
 use mathlib.Core.Path.{◌≡◌, refl, sym, ◌∙◌}
 use mathlib.Core.Bool.{false, false≢true}
 use mathlib.Core.List.{[], ◌∷◌}
-use mathlib.Core.Option.{Option, none, some, map, get_or}
+use Rattle.std.specs.Prelude.{Option, None, Some, option_map, unwrap_or}
 use lib.ListN.{length, drop, length-drop}
 use lib.Seq.{drop-drop}
 use lib.Dec.{eqb, leb}
@@ -94,8 +94,8 @@ module _ (F : Facts) where
 
 -- so does a move that leads to a node
 data Near (j : ℕ) (cs : Cells) : Option Model.Node → Type 0 where
-  off : Near j cs none
-  on : {x : Model.Node} → Keeps j cs x.1 → Near j cs (some x)
+  off : Near j cs None
+  on : {x : Model.Node} → Keeps j cs x.1 → Near j cs (Some x)
 
 near-else : (j : ℕ) (cs : Cells) (x y : Option Model.Node) → Near j cs x → Near j cs y → Near j cs (or_else x y)
 unfolding or_else
@@ -132,17 +132,17 @@ module _ (F : Facts) where
       let ds = Model.run F s v ((cell_row, d, v, 0) ∷ cs) in
       on (under-trans cs ds (Model.opened F (F.last s v) ds).1 (keeps-run F s v ((cell_row, d, v, 0) ∷ cs)) (keeps-opened F (F.last s v) ds))))
 
-  near-continued : (cs : Cells) (x : Option ℕ) → Near 0 cs (map (λ (c : ℕ). Model.opened F c cs) x)
-  near-continued cs none = off
-  near-continued cs (some c) = on (keeps-opened F c cs)
+  near-continued : (cs : Cells) (x : Option ℕ) → Near 0 cs (option_map (λ (c : ℕ). Model.opened F c cs) x)
+  near-continued cs None = off
+  near-continued cs (Some c) = on (keeps-opened F c cs)
 
   near-inward : (cs : Cells) → Near 4 cs (Model.inward F cs)
   unfolding Model.inward Model.beside
   near-inward cs =
       let t = Model.pop_run Side.right cs in
-      near-else 4 cs (Model.beside_top F Side.right t) (map (λ (c : ℕ). Model.opened F c cs) (Model.continuing F t))
+      near-else 4 cs (Model.beside_top F Side.right t) (option_map (λ (c : ℕ). Model.opened F c cs) (Model.continuing F t))
       (near-after 1 3 cs t (Model.beside_top F Side.right t) (keeps-pop_run Side.right cs) (near-beside_top Side.right t))
-      (near-more 0 4 cs (map (λ (c : ℕ). Model.opened F c cs) (Model.continuing F t)) (near-continued cs (Model.continuing F t)))
+      (near-more 0 4 cs (option_map (λ (c : ℕ). Model.opened F c cs) (Model.continuing F t)) (near-continued cs (Model.continuing F t)))
 
   near-part_at : (cs : Cells) → Near 0 cs (Model.part_at F cs)
   unfolding Model.part_at
@@ -163,7 +163,7 @@ module _ (F : Facts) where
   near-ended s (c ∷ cs) =
       by_bool (eqb c.1 (row_of_part (other s))) (λ u. rw u (near-after 1 4 (c ∷ cs) cs (Model.inward F cs) all (near-inward cs))) (λ u. rw u off)
 
-  near-tree : (j : ℕ) (cs : Cells) (x : Option Model.Node) → Near j cs x → Near j cs (map (λ (y : Model.Node). Model.opened F y.0 y.1) x)
+  near-tree : (j : ℕ) (cs : Cells) (x : Option Model.Node) → Near j cs x → Near j cs (option_map (λ (y : Model.Node). Model.opened F y.0 y.1) x)
   near-tree j cs x off = off
   near-tree j cs x (on {x = y} h) = on (under-trans (drop j cs) y.1 (Model.opened F y.0 y.1).1 h (keeps-opened F y.0 y.1))
 
@@ -171,7 +171,7 @@ module _ (F : Facts) where
   unfolding follow Model.beside
   near-follow s cs =
       let u = Model.pop_run s cs in
-      let x = map (λ (y : Model.Node). Model.opened F y.0 y.1) (Model.beside_top F s u) in
+      let x = option_map (λ (y : Model.Node). Model.opened F y.0 y.1) (Model.beside_top F s u) in
       near-after 1 5 cs u (or_else x (ended F s u)) (keeps-pop_run s cs)
       (near-else 5 u x (ended F s u) (near-more 3 2 u x (near-tree 3 u (Model.beside_top F s u) (near-beside_top s u))) (near-ended s u))
 
@@ -221,9 +221,9 @@ under-tree (c ∷ cs) = by_bool (eqb c.0 (cell_run Side.left)) (λ u. rw u (more
 
 -- a letter but a root keeps all cells below the last eight, or only drops cells
 data Shares (cs : Cells) : Option Model.Node → Type 0 where
-  nowhere : Shares cs none
-  kept : {x : Model.Node} → Keeps 8 cs x.1 → Shares cs (some x)
-  fallen : {x : Model.Node} → Under x.1 cs → Shares cs (some x)
+  nowhere : Shares cs None
+  kept : {x : Model.Node} → Keeps 8 cs x.1 → Shares cs (Some x)
+  fallen : {x : Model.Node} → Under x.1 cs → Shares cs (Some x)
 
 near-shares : (cs : Cells) (x : Option Model.Node) → Near 8 cs x → Shares cs x
 near-shares cs x off = nowhere
@@ -257,7 +257,7 @@ move-shares F r (Letter.sibling s) x q =
 move-shares F r Letter.parent x q =
     from-shares x.1 (Model.parent F x)
     (parent-shares F x.1 (Model.outward F x.1) (near-more 4 4 x.1 (Model.outward F x.1) (near-outward F x.1)))
-move-shares F r Letter.stay x q = from-shares x.1 (some x) (fallen all)
+move-shares F r Letter.stay x q = from-shares x.1 (Some x) (fallen all)
 
 -- what lies at the bottom of two stacks is the same in both
 under-length : (t cs : Cells) → Under t cs → length t ≤ length cs
@@ -280,7 +280,7 @@ first-kept cs ds h =
 first-fallen : (cs ds : Cells) → Under ds cs → first_cells (min (length cs) (length ds) - 16) cs ≡ first_cells (min (length cs) (length ds) - 16) ds
 first-fallen cs ds h = same_first ds cs h (min (length cs) (length ds) - 16) (omega arith)
 
-shares-first : (x : Model.Node) (y : Option Model.Node) → Shares x.1 y → let ds = (get_or y x).1 in first_cells (min (length x.1) (length ds) - 16) x.1 ≡ first_cells (min (length x.1) (length ds) - 16) ds
+shares-first : (x : Model.Node) (y : Option Model.Node) → Shares x.1 y → let ds = (unwrap_or y x).1 in first_cells (min (length x.1) (length ds) - 16) x.1 ≡ first_cells (min (length x.1) (length ds) - 16) ds
 shares-first x y nowhere = refl
 shares-first x y (kept {x = z} h) = first-kept x.1 z.1 h
 shares-first x y (fallen {x = z} h) = first-fallen x.1 z.1 h

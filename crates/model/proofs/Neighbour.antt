@@ -3,7 +3,7 @@
 -- Assumes nothing.
 use Prim.Native.Nat.{ℕ}
 use mathlib.Core.Path.{◌≡◌, refl, sym, ap, ◌∙◌, subst}
-use mathlib.Core.Option.{Option, none, some, map}
+use Rattle.std.specs.Prelude.{Option, None, Some, option_map}
 use Rattle.forest.specs.Expression.{Expression, rule_number}
 use Rattle.forest.specs.Place.{Side, Cells, Placed, placed_of}
 use Rattle.forest.specs.Position.{Position, Located, At, Where, cells, located_of}
@@ -28,7 +28,7 @@ use Rattle.model.proofs.Walk.{label_is}
 use Rattle.model.proofs.Paths.{located-node}
 
 module _ (F : Facts) (w : Expression) (g : Fit F Sort.row w) where
-  hole-one : (s : Side) (x : Node) (e : Expression) (z : Position) → IsPart e → Here F e → outward F x.1 ≡ some (rule_number e, cells z) → how_many (sibling_cases F s x) ≡ 1
+  hole-one : (s : Side) (x : Node) (e : Expression) (z : Position) → IsPart e → Here F e → outward F x.1 ≡ Some (rule_number e, cells z) → how_many (sibling_cases F s x) ≡ 1
   unfolding rule_number shape
   hole-one s x e z (is_a_part {r} {a} {b} {c}) (Here.part t gb gc) q = one-in-hole F s x (r, cells z) a (rule_number b) (rule_number c) q t.rule
 
@@ -40,11 +40,11 @@ module _ (F : Facts) (w : Expression) (g : Fit F Sort.row w) where
   pub exactly-one : (s : Side) (e : Expression) (z : Position) → At w Where.here e z → how_many (sibling_cases F s (rule_number e, cells z)) ≡ 1
   exactly-one s e z h = out_one s (rule_number e) z (outwards F w g e z h)
 
-  agree-placed : (x : Option Located) (y : Option Node) → Agree w x y → map placed_as x ≡ map (placed_node F) y
+  agree-placed : (x : Option Located) (y : Option Node) → Agree w x y → option_map placed_as x ≡ option_map (placed_node F) y
   agree-placed x y nowhere = refl
-  agree-placed x y (found {e} {z} h) = ap (λ (a : ℕ). some (a, cells z)) (sym (label_is F w g e z h))
+  agree-placed x y (found {e} {z} h) = ap (λ (a : ℕ). Some (a, cells z)) (sym (label_is F w g e z h))
 
-  first-case : (good : Good Sort.row w) (s : Side) (p : Path) (e : Expression) (z : Position) → label_at (located_of w) p ≡ some (e, z) → FirstCase F s (rule_number e, cells z) (answer (placed_of w) (Letter.sibling s) p)
+  first-case : (good : Good Sort.row w) (s : Side) (p : Path) (e : Expression) (z : Position) → label_at (located_of w) p ≡ Some (e, z) → FirstCase F s (rule_number e, cells z) (answer (placed_of w) (Letter.sibling s) p)
   unfolding sibling
   first-case good s p e z q =
       let h : At w Where.here e z = node_at_lem good p q in
@@ -52,12 +52,12 @@ module _ (F : Facts) (w : Expression) (g : Fit F Sort.row w) where
         one = exactly-one s e z h;
         first =
             placed-answer w (Letter.sibling s) p
-            ∙ ap (map placed_as) (answer-sibling good p q s)
+            ∙ ap (option_map placed_as) (answer-sibling good p q s)
             ∙ agree-placed (P.sibling s z) (sibling F s (rule_number e, cells z)) (sibling-agrees F w g s e z h);
       }
 
   -- at every node of the placed forest, known by its cells
-  pub first-cases : (good : Good Sort.row w) (s : Side) (p : Path) (a : Placed) → label_at (placed_of w) p ≡ some a → FirstCase F s (standing F a.1, a.1) (answer (placed_of w) (Letter.sibling s) p)
+  pub first-cases : (good : Good Sort.row w) (s : Side) (p : Path) (a : Placed) → label_at (placed_of w) p ≡ Some a → FirstCase F s (standing F a.1, a.1) (answer (placed_of w) (Letter.sibling s) p)
   first-cases good s p a q =
       let x = located-node w good p a q in
       let e = x.0.0 in let z = x.0.1 in

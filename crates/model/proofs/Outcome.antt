@@ -4,7 +4,7 @@ use Prim.Native.Nat.{ℕ}
 use mathlib.Core.Path.{◌≡◌, refl, sym, ap, ap₂, ◌∙◌}
 use mathlib.Core.Bool.{true, false, true≢false}
 use mathlib.Core.List.{List, [], ◌∷◌}
-use mathlib.Core.Option.{Option, none, some, map}
+use Rattle.std.specs.Prelude.{Option, None, Some, option_map}
 use Rattle.forest.specs.Expression.{Expression, rule_number}
 use Rattle.forest.specs.Forest.{Forest}
 use Rattle.forest.specs.Relabel.{relabel}
@@ -34,21 +34,21 @@ use Rattle.model.specs.Same.{Same}
 use Rattle.model.proofs.Paths.{answer_at, moved_at_lem, place-cells, all-distinct}
 
 -- labels taken off one by one
-map-twice : (x : Option Located) → map label (map placed_as x) ≡ map (λ (y : Located). label_of y.0) x
-map-twice none = refl
-map-twice (some x) = refl
+map-twice : (x : Option Located) → option_map label (option_map placed_as x) ≡ option_map (λ (y : Located). label_of y.0) x
+map-twice None = refl
+map-twice (Some x) = refl
 
 module _ (w : Expression) (good : Good Sort.row w) where
   -- the forest of labels
   abbrev labels : Forest ℕ
   labels = relabel label (placed_of w)
 
-  label-answer : (c : Letter) (p : Path) → Named (located_of w) p → answer labels c p ≡ map (λ (y : Located). label_of y.0) (move_at w c (label_at (located_of w) p))
+  label-answer : (c : Letter) (p : Path) → Named (located_of w) p → answer labels c p ≡ option_map (λ (y : Located). label_of y.0) (move_at w c (label_at (located_of w) p))
   label-answer c p n =
       answer-relabel label (placed_of w) c p
-      ∙ ap (map label) (placed-answer w c p)
+      ∙ ap (option_map label) (placed-answer w c p)
       ∙ map-twice (answer (located_of w) c p)
-      ∙ ap (map (λ (y : Located). label_of y.0)) (answer_at w good c p n)
+      ∙ ap (option_map (λ (y : Located). label_of y.0)) (answer_at w good c p n)
 
   label-moved : (c : Letter) (p : Path) → moved labels c p ≡ moved (located_of w) c p
   label-moved c p = moved-relabel label (placed_of w) c p ∙ placed-moved w c p
@@ -85,7 +85,7 @@ module _ (w : Expression) (good : Good Sort.row w) where
     pub record Found (cs : Cells) : Type 0 where
       pub path : Path
       pub named : Named (located_of w) path
-      pub found : path_of (placed_of w) cs ≡ some path
+      pub found : path_of (placed_of w) cs ≡ Some path
       pub same : Same w (label_at (located_of w) path) (standing F cs, cs)
 
     pub accepted-path : (cs : Cells) → accepts F (rule_number w) cs ≡ true → Found cs
@@ -93,7 +93,7 @@ module _ (w : Expression) (good : Good Sort.row w) where
     accepted-path cs q =
         let n : NodeWith w cs = accepted-node F w fit cs q in
         let h = at_node good n.there in
-        let here : label_at (placed_of w) h.0 ≡ some (placed_as (n.expression, n.position)) = placed-label_at w h.0 ∙ ap (map placed_as) h.1 in
+        let here : label_at (placed_of w) h.0 ≡ Some (placed_as (n.expression, n.position)) = placed-label_at w h.0 ∙ ap (option_map placed_as) h.1 in
         let place : place_at (placed_of w) h.0 ≡ cs = place-cells w good h.0 ∙ ap cells_at h.1 ∙ n.equal_cells in
         record {
           path = h.0;
@@ -105,14 +105,14 @@ module _ (w : Expression) (good : Good Sort.row w) where
     -- and where it refuses there is none
     refused-node : (x : Option Located) (p : Path) (cs : Cells) → label_at (located_of w) p ≡ x → cells_at x ≡ cs → accepts F (rule_number w) cs ≡ false → cs ≡ []
     unfolding cells_at
-    refused-node none p cs l e q = sym e
-    refused-node (some x) p cs l e q = absurd (true≢false (sym (accepts-node F w fit x.0 x.1 (node_at_lem good p l)) ∙ ap (accepts F (rule_number w)) e ∙ q))
+    refused-node None p cs l e q = sym e
+    refused-node (Some x) p cs l e q = absurd (true≢false (sym (accepts-node F w fit x.0 x.1 (node_at_lem good p l)) ∙ ap (accepts F (rule_number w)) e ∙ q))
 
-    pub refused-path : (c : Cell) (cs : Cells) → accepts F (rule_number w) (c ∷ cs) ≡ false → path_of (placed_of w) (c ∷ cs) ≡ none
+    pub refused-path : (c : Cell) (cs : Cells) → accepts F (rule_number w) (c ∷ cs) ≡ false → path_of (placed_of w) (c ∷ cs) ≡ None
     refused-path c cs q = go (path_of (placed_of w) (c ∷ cs)) refl
       where
-        go : (x : Option Path) → path_of (placed_of w) (c ∷ cs) ≡ x → path_of (placed_of w) (c ∷ cs) ≡ none
-        go none e = e
-        go (some p) e =
+        go : (x : Option Path) → path_of (placed_of w) (c ∷ cs) ≡ x → path_of (placed_of w) (c ∷ cs) ≡ None
+        go None e = e
+        go (Some p) e =
             let k : (c ∷ cs) ≡ [] = refused-node (label_at (located_of w) p) p (c ∷ cs) refl (sym (place-cells w good p) ∙ path-cells (placed_of w) (c ∷ cs) p e) q in
             cc

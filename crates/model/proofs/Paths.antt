@@ -4,7 +4,8 @@ use Prim.Native.Nat.{ℕ, ◌-◌, min}
 use mathlib.Core.Path.{◌≡◌, refl, sym, ap, ◌∙◌, subst}
 use mathlib.Core.Bool.{Bool, true, false, cond}
 use mathlib.Core.List.{[], ◌∷◌}
-use mathlib.Core.Option.{Option, none, some, map, none-ne-some, some-injective}
+use Rattle.std.specs.Prelude.{Option, None, Some, option_map}
+use Rattle.std.proofs.lemmas.Option.{none-some, same_Some}
 use lib.ListN.{length}
 use lib.Dec.{eqb}
 use Rattle.forest.specs.Expression.{Expression, rule_number}
@@ -56,16 +57,16 @@ cells-filled (Position.fill_spine r b c z) = tt
 cells-filled (Position.join_side s r b c z) = step-filled s r (rule_number (pick s b c)) (cells z)
 
 -- a node of the placed forest is one of the located forest
-unmapped : {A B : Type 0} (h : A → B) (x : Option A) (b : B) → map h x ≡ some b → (a : A) × (x ≡ some a) × (h a ≡ b)
-unmapped h none b e = absurd (none-ne-some _ e)
-unmapped h (some a) b e = (a, refl, some-injective (h a) b e)
+unmapped : {A B : Type 0} (h : A → B) (x : Option A) (b : B) → option_map h x ≡ Some b → (a : A) × (x ≡ Some a) × (h a ≡ b)
+unmapped h None b e = absurd (none-some _ e)
+unmapped h (Some a) b e = (a, refl, same_Some (h a) b e)
 
 module _ (w : Expression) (good : Good Sort.row w) where
-  pub located-node : (p : Path) (a : Placed) → label_at (placed_of w) p ≡ some a → (x : Located) × (label_at (located_of w) p ≡ some x) × (placed_as x ≡ a)
+  pub located-node : (p : Path) (a : Placed) → label_at (placed_of w) p ≡ Some a → (x : Located) × (label_at (located_of w) p ≡ Some x) × (placed_as x ≡ a)
   located-node p a e = unmapped placed_as (label_at (located_of w) p) a (sym (placed-label_at w p) ∙ e)
 
   -- a letter on the located forest is the letter on positions
-  answer-above : (c : Letter) → answer (located_of w) c [] ≡ move_at w c none
+  answer-above : (c : Letter) → answer (located_of w) c [] ≡ move_at w c None
   unfolding move_at answer is_above is_root label_at
   answer-above (Letter.root s) = answer-root good s []
   answer-above (Letter.child s) = refl
@@ -73,7 +74,7 @@ module _ (w : Expression) (good : Good Sort.row w) where
   answer-above Letter.parent = refl
   answer-above Letter.stay = refl
 
-  answer-node : (c : Letter) (p : Path) (e : Expression) (z : Position) → label_at (located_of w) p ≡ some (e, z) → answer (located_of w) c p ≡ move_at w c (some (e, z))
+  answer-node : (c : Letter) (p : Path) (e : Expression) (z : Position) → label_at (located_of w) p ≡ Some (e, z) → answer (located_of w) c p ≡ move_at w c (Some (e, z))
   unfolding move_at
   answer-node (Letter.root s) p e z h = answer-root good s p
   answer-node (Letter.child s) p e z h = answer-child good p h s
@@ -94,10 +95,10 @@ module _ (w : Expression) (good : Good Sort.row w) where
       (λ a e. answer-label (located_of w) c p e ∙ ap (λ x. or_else x (label_at (located_of w) p)) (sym e ∙ answer_at c p n))
 
   -- the place of a path is the cells of its position
-  map-cells : (x : Option Located) → cells_of (map placed_as x) ≡ cells_at x
+  map-cells : (x : Option Located) → cells_of (option_map placed_as x) ≡ cells_at x
   unfolding cells_of cells_at
-  map-cells none = refl
-  map-cells (some x) = refl
+  map-cells None = refl
+  map-cells (Some x) = refl
 
   pub place-cells : (p : Path) → place_at (placed_of w) p ≡ cells_at (label_at (located_of w) p)
   unfolding place_at
@@ -139,5 +140,5 @@ module _ (w : Expression) (good : Good Sort.row w) where
               let z : x.0.1 ≡ y.0.1 =
               places.same-position F w fit x.0.0 y.0.0 x.0.1 y.0.1 (node_at_lem good p x.1) (node_at_lem good q y.1)
               (ap (λ (v : Placed). v.1) x.2 ∙ h ∙ sym (ap (λ (v : Placed). v.1) y.2)) in
-              paths.same-position good p q x.1 (y.1 ∙ ap (λ (v : Position). some (y.0.0, v)) (sym z));
+              paths.same-position good p q x.1 (y.1 ∙ ap (λ (v : Position). Some (y.0.0, v)) (sym z));
         }

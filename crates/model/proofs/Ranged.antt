@@ -4,7 +4,8 @@
 use Prim.Native.Nat.{ℕ}
 use mathlib.Core.Path.{◌≡◌}
 use mathlib.Core.List.{[], ◌∷◌}
-use mathlib.Core.Option.{some, none-ne-some, some-injective}
+use Rattle.std.specs.Prelude.{Some}
+use Rattle.std.proofs.lemmas.Option.{none-some, same_Some}
 use Rattle.forest.specs.Expression.{Expression, rule_number}
 use Rattle.forest.specs.Place.{Cells, Side, cell_row, cell_spine, cell_run, is_empty, representative, step}
 use Rattle.forest.specs.Sides.{pick}
@@ -65,7 +66,7 @@ step-numbers P Side.right a b cs p q (run Side.right x y h) = run Side.right x q
 -- what stands at a position, what its spine continues in, and its cells
 record Ranged (P : ℕ → Type 0) (e : Expression) (z : Position) : Type 0 where
   here : Every P e
-  ahead : (c : Expression) → continues z ≡ some c → Every P c
+  ahead : (c : Expression) → continues z ≡ Some c → Every P c
   numbers : Numbers P (cells z)
 
 module _ (P : ℕ → Type 0) where
@@ -74,7 +75,7 @@ module _ (P : ℕ → Type 0) where
 
   start-ranged : (w : Expression) → Every P w → Ranged P w (Position.start w)
   unfolding continues cells
-  start-ranged w h = record { here = h; ahead = λ c q. absurd (none-ne-some c q); numbers = row (representative-in P w h) none }
+  start-ranged w h = record { here = h; ahead = λ c q. absurd (none-some c q); numbers = row (representative-in P w h) none }
 
   side-ranged : (s : Side) (r : ℕ) (b c : Expression) (z : Position) → Ranged P (Expression.pair r b c) z → Ranged P (pick s b c) (Position.pair_side s r b c z)
   unfolding continues cells rule_number
@@ -82,7 +83,7 @@ module _ (P : ℕ → Type 0) where
       let k : Every P (pick s b c) = sides s r b c h.here in
       record {
         here = k;
-        ahead = λ x q. absurd (none-ne-some x q);
+        ahead = λ x q. absurd (none-some x q);
         numbers = step-numbers P s r (representative (pick s b c)) (cells z) (number_in P (Expression.pair r b c) h.here) (representative-in P (pick s b c) k) h.numbers;
       }
 
@@ -92,26 +93,26 @@ module _ (P : ℕ → Type 0) where
   node-ranged : (r a : ℕ) (c : Expression) (z : Position) → Ranged P (Expression.node r a c) z → Ranged P (Expression.node r a c) (Position.node_spine r a c z)
   unfolding continues cells rule_number
   node-ranged r a c z h =
-      record { here = h.here; ahead = λ x q. absurd (none-ne-some x q); numbers = spine (number_in P (Expression.node r a c) h.here) h.numbers }
+      record { here = h.here; ahead = λ x q. absurd (none-some x q); numbers = spine (number_in P (Expression.node r a c) h.here) h.numbers }
 
   fill-ranged : (r : ℕ) (b c : Expression) (z : Position) → Every P (Expression.fill r b c) → Numbers P (cells z) → Ranged P b (Position.fill_spine r b c z)
   unfolding continues cells
   fill-ranged r b c z (fill p hb hc) h =
-      record { here = hb; ahead = λ x q. rw (some-injective c x q) at hc; numbers = spine p h }
+      record { here = hb; ahead = λ x q. rw (same_Some c x q) at hc; numbers = spine p h }
 
   under-ranged : (r a : ℕ) (c : Expression) (z : Position) → Every P (Expression.node r a c) → Numbers P (cells z) → Ranged P c (Position.node_row r a c z)
   unfolding continues cells
-  under-ranged r a c z (node p hc) h = record { here = hc; ahead = λ x q. absurd (none-ne-some x q); numbers = row (representative-in P c hc) h }
+  under-ranged r a c z (node p hc) h = record { here = hc; ahead = λ x q. absurd (none-some x q); numbers = row (representative-in P c hc) h }
 
   arm-ranged : (s : Side) (r a : ℕ) (b c : Expression) (z : Position) → Every P (Expression.part r a b c) → Numbers P (cells z) → Ranged P (pick s b c) (Position.part_row s r a b c z)
   unfolding continues cells
   arm-ranged s r a b c z (part p hb hc) h =
       let k : Every P (pick s b c) = picked (Every P) s b c hb hc in
-      record { here = k; ahead = λ x q. absurd (none-ne-some x q); numbers = row (representative-in P (pick s b c) k) h }
+      record { here = k; ahead = λ x q. absurd (none-some x q); numbers = row (representative-in P (pick s b c) k) h }
 
-  join-ahead : (s : Side) (r : ℕ) (b c : Expression) (z : Position) → ((x : Expression) → continues z ≡ some x → Every P x) → (x : Expression) → continues (Position.join_side s r b c z) ≡ some x → Every P x
+  join-ahead : (s : Side) (r : ℕ) (b c : Expression) (z : Position) → ((x : Expression) → continues z ≡ Some x → Every P x) → (x : Expression) → continues (Position.join_side s r b c z) ≡ Some x → Every P x
   unfolding continues
-  join-ahead Side.left r b c z h x q = absurd (none-ne-some x q)
+  join-ahead Side.left r b c z h x q = absurd (none-some x q)
   join-ahead Side.right r b c z h x q = h x q
 
   join-ranged : (s : Side) (r : ℕ) (b c : Expression) (z : Position) → Every P (Expression.join r b c) → Ranged P (Expression.join r b c) z → Ranged P (pick s b c) (Position.join_side s r b c z)
@@ -120,7 +121,7 @@ module _ (P : ℕ → Type 0) where
       let k : Every P (pick s b c) = picked (Every P) s b c hb hc in
       record { here = k; ahead = join-ahead s r b c z h.ahead; numbers = step-numbers P s r (rule_number (pick s b c)) (cells z) p (number_in P (pick s b c) k) h.numbers }
 
-  hole-ranged : (x e : Expression) (z : Position) → continues z ≡ some e → Ranged P x z → Ranged P e z
+  hole-ranged : (x e : Expression) (z : Position) → continues z ≡ Some e → Ranged P x z → Ranged P e z
   hole-ranged x e z q h = record { here = h.ahead e q; ahead = h.ahead; numbers = h.numbers }
 
   ranged : (w : Expression) → Every P w → (k : Where) (e : Expression) (z : Position) → At w k e z → Ranged P e z

@@ -5,7 +5,7 @@ use Prim.Native.Nat.{ℕ}
 use mathlib.Core.Path.{◌≡◌, refl}
 use mathlib.Core.Bool.{true, false, not, ◌&&◌, false≢true, and-eq-true_iff}
 use mathlib.Core.List.{[], ◌∷◌}
-use mathlib.Core.Option.{Option, none, some, map}
+use Rattle.std.specs.Prelude.{Option, None, Some, option_map}
 use lib.Dec.{eqb, eqb→eq}
 use Rattle.rule.specs.declared.Rule.{Rule}
 use Rattle.forest.specs.Expression.{Expression, rule_number}
@@ -51,11 +51,11 @@ formed c =
     (λ v. rw v no_form)
 
 -- a row's opening
-opens : (F : Facts) (w e : Expression) (z : Position) (d v : ℕ) (cs : Cells) (o : Option ℕ) → Fit F Sort.row e → At w Where.row e z → cells z ≡ (cell_row, d, representative e, 0) ∷ cs → o ≡ some (rule_number e) → Fine (after_row F o v) → Stood F w (after_row F o v) ((cell_row, d, v, 0) ∷ cs)
+opens : (F : Facts) (w e : Expression) (z : Position) (d v : ℕ) (cs : Cells) (o : Option ℕ) → Fit F Sort.row e → At w Where.row e z → cells z ≡ (cell_row, d, representative e, 0) ∷ cs → o ≡ Some (rule_number e) → Fine (after_row F o v) → Stood F w (after_row F o v) ((cell_row, d, v, 0) ∷ cs)
 unfolding after_row top_kind
 opens F w e z d v cs o g h q p f =
     let t : Tells F e = tells F Sort.row e g in
-    let u : eqb v (representative e) ≡ true = fine-taken (eqb v (representative e)) (State.at v cell_row none) (rw (p, t.represents) at f) in
+    let u : eqb v (representative e) ≡ true = fine-taken (eqb v (representative e)) (State.at v cell_row None) (rw (p, t.represents) at f) in
     let x : v ≡ representative e = eqb→eq v (representative e) (rw u tt) in
     rw (p, t.represents, u, x) (rw q at (in_row (row_of F w z e g h) (rw q)))
 
@@ -63,7 +63,7 @@ start-opens : (F : Facts) (w : Expression) → Fit F Sort.row w → (d v : ℕ) 
 unfolding row_in cells after_row
 start-opens F w g d v f =
     by_bool (eqb d row_of_node)
-    (λ u. rw (eqb→eq d row_of_node (rw u tt)) (opens F w w (Position.start w) row_of_node v [] (some (rule_number w)) g At.start refl refl (rw u at f)))
+    (λ u. rw (eqb→eq d row_of_node (rw u tt)) (opens F w w (Position.start w) row_of_node v [] (Some (rule_number w)) g At.start refl refl (rw u at f)))
     (λ u. absurd (rw u at f))
 
 row-opens-none : (F : Facts) (w : Expression) (z : Position) (p : ℕ) (k d v : ℕ) → Row F w z p → eqb k cell_spine ≡ false → Fine (after_row F (row_under (F.rule p) k d) v) → ⊥
@@ -79,10 +79,10 @@ unfolding row_under cells pick after_row
 part-opens F w z r a b c k d v t gb gc h f =
     by_bool (eqb d (row_of_part Side.left))
     (λ u. rw (eqb→eq d (row_of_part Side.left) (rw u tt))
-    (opens F w b (Position.part_row Side.left r a b c z) (row_of_part Side.left) v (cells z) (some (rule_number b)) gb (At.arm Side.left h) refl refl (rw u at f)))
+    (opens F w b (Position.part_row Side.left r a b c z) (row_of_part Side.left) v (cells z) (Some (rule_number b)) gb (At.arm Side.left h) refl refl (rw u at f)))
     (λ u. by_bool (eqb d (row_of_part Side.right))
     (λ x. rw (eqb→eq d (row_of_part Side.right) (rw x tt))
-    (opens F w c (Position.part_row Side.right r a b c z) (row_of_part Side.right) v (cells z) (some (rule_number c)) gc (At.arm Side.right h) refl refl (rw (u, x) at f)))
+    (opens F w c (Position.part_row Side.right r a b c z) (row_of_part Side.right) v (cells z) (Some (rule_number c)) gc (At.arm Side.right h) refl refl (rw (u, x) at f)))
     (λ x. absurd (rw (u, x) at f)))
 
 spine-opens : (F : Facts) (w : Expression) (e : Expression) (z : Position) (k d v : ℕ) → Fit F Sort.spine e → At w Where.spine e z → Fine (after_row F (row_under (F.rule (rule_number e)) k d) v) → Stood F w (after_row F (row_under (F.rule (rule_number e)) k d) v) ((cell_row, d, v, 0) ∷ cells z)
@@ -95,7 +95,7 @@ unfolding row_under cells after_row shape rule_number
 node_opens F w z r a c d v t gc h f =
     by_bool (eqb d row_of_node)
     (λ u. rw (t.rule, eqb→eq d row_of_node (rw u tt))
-    (opens F w c (Position.node_row r a c (Position.node_spine r a c z)) row_of_node v ((cell_spine, r, 0, 0) ∷ cells z) (some (rule_number c)) gc (At.under (At.node h)) refl refl (rw (t.rule, u) at f)))
+    (opens F w c (Position.node_row r a c (Position.node_spine r a c z)) row_of_node v ((cell_spine, r, 0, 0) ∷ cells z) (Some (rule_number c)) gc (At.under (At.node h)) refl refl (rw (t.rule, u) at f)))
     (λ u. absurd (rw (t.rule, u) at f))
 
 row-stood : (F : Facts) (w : Expression) → Fit F Sort.row w → (st : State) (cs : Cells) → Stood F w st cs → (d v : ℕ) → Fine (after_row F (row_in F (rule_number w) st d) v) → Stood F w (after_row F (row_in F (rule_number w) st d) v) ((cell_row, d, v, 0) ∷ cs)
@@ -126,18 +126,18 @@ row-spine F w z p k a o (tree (Fit.node {r} {a = l} {c} t gc) h) q = tree_opens 
 row-spine F w z p k a o (tree (Fit.fill {r} {b} {c} t gb gc) h) q = tree_opens F w (Expression.fill r b c) z k a (Fit.fill t gb gc) h (rw t.rule at q)
 row-spine F w z p k a o (two {b = b} {c = c} (Rattle.model.proofs.Fit.grown x10) h x y) q = elim x10 [ ]
 
-that : (x : Option Expression) (a : ℕ) → is_that (map rule_number x) a ≡ true → (c : Expression) × (x ≡ some c) × (rule_number c ≡ a)
+that : (x : Option Expression) (a : ℕ) → is_that (option_map rule_number x) a ≡ true → (c : Expression) × (x ≡ Some c) × (rule_number c ≡ a)
 unfolding is_that
-that none a q = absurd (false≢true q)
-that (some c) a q = (c, refl, eqb→eq (rule_number c) a (rw q tt))
+that None a q = absurd (false≢true q)
+that (Some c) a q = (c, refl, eqb→eq (rule_number c) a (rw q tt))
 
 module _ (F : Facts) (w : Expression) (g : Fit F Sort.row w) where
-  hole-spine : (r l : ℕ) (b c : Expression) (z : Position) (a : ℕ) → At w Where.here (Expression.part r l b c) z → (x : Expression) × (continues z ≡ some x) × (rule_number x ≡ a) → Opened F w a (cells z)
+  hole-spine : (r l : ℕ) (b c : Expression) (z : Position) (a : ℕ) → At w Where.here (Expression.part r l b c) z → (x : Expression) × (continues z ≡ Some x) × (rule_number x ≡ a) → Opened F w a (cells z)
   hole-spine r l b c z a h x =
       let k : At w Where.tree x.0 z = At.hole h x.1 in
       rw x.2 at (tree-spine F w x.0 z (whole F w g Where.tree x.0 z k) k)
 
-  part-spines : (e : Expression) (z : Position) (k a : ℕ) → Fit F Sort.spine e → At w Where.spine e z → spine_at (F.rule (rule_number e)) (rule_number e) k (map rule_number (continues z)) a ≡ true → Opened F w a (cells z)
+  part-spines : (e : Expression) (z : Position) (k a : ℕ) → Fit F Sort.spine e → At w Where.spine e z → spine_at (F.rule (rule_number e)) (rule_number e) k (option_map rule_number (continues z)) a ≡ true → Opened F w a (cells z)
   unfolding spine_at shape rule_number
   part-spines e z k a (Fit.part {r} {a = l} {b} {c} t gb gc) h q = hole-spine r l b c z a (At.part h) (that (continues z) a (rw t.rule at q))
   part-spines e z k a (Fit.join t gb gc) h q = absurd (false≢true (rw t.rule at q))
@@ -145,7 +145,7 @@ module _ (F : Facts) (w : Expression) (g : Fit F Sort.row w) where
   spine-stood : (st : State) (cs : Cells) → Stood F w st cs → (a : ℕ) → spine_in F st a ≡ true → Opened F w a cs
   unfolding spine_in spine_at shape rule_number
   spine-stood st cs nowhere a q = absurd (false≢true q)
-  spine-stood st cs (in_row {v = p} {z} x u) a q = row-spine F w z p (top_kind (cells z)) a none x q
+  spine-stood st cs (in_row {v = p} {z} x u) a q = row-spine F w z p (top_kind (cells z)) a None x q
   spine-stood st cs (in_spine {e} {z} k x) a q = part-spines e z (top_kind (cells z)) a k x q
   spine-stood st cs (at_node t gc x) a q = absurd (false≢true (rw t.rule at q))
 

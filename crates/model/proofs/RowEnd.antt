@@ -5,7 +5,8 @@ use Prim.Native.Nat.{ℕ}
 use mathlib.Core.Path.{◌≡◌, refl, sym, ◌∙◌}
 use mathlib.Core.Bool.{false}
 use mathlib.Core.List.{[], ◌∷◌}
-use mathlib.Core.Option.{Option, none, some, none-ne-some}
+use Rattle.std.specs.Prelude.{Option, None, Some}
+use Rattle.std.proofs.lemmas.Option.{none-some}
 use Rattle.forest.specs.Expression.{Expression, rule_number}
 use Rattle.forest.specs.Place.{Cells, Side, cell_row, cell_run, row_of_node, row_of_part, is_empty, representative}
 use Rattle.forest.specs.Sides.{pick, other}
@@ -29,14 +30,14 @@ opening Side.left d v t = opens
 opening Side.right d v t = opens
 
 Ends : Facts → Side → Cells → Type 0
-Ends F s cs = beside_top F s (pop_run s cs) ≡ none → Opens (below_row cs) (pop_run s cs)
+Ends F s cs = beside_top F s (pop_run s cs) ≡ None → Opens (below_row cs) (pop_run s cs)
 
 module _ (F : Facts) (w : Expression) (g : Fit F Sort.row w) where
-  turn-goes-on : (s : Side) (r : ℕ) (b c : Expression) (z : Position) → At w Where.row (Expression.pair r b c) z → is_empty b ≡ false → is_empty c ≡ false → ¬ (beside_top F s (pop_run s (cells (Position.pair_side (other s) r b c z))) ≡ none)
+  turn-goes-on : (s : Side) (r : ℕ) (b c : Expression) (z : Position) → At w Where.row (Expression.pair r b c) z → is_empty b ≡ false → is_empty c ≡ false → ¬ (beside_top F s (pop_run s (cells (Position.pair_side (other s) r b c z))) ≡ None)
   unfolding cells
   turn-goes-on s r b c z h x y e =
       let f : Fit F Sort.row (Expression.pair r b c) = whole F w g Where.row (Expression.pair r b c) z h in
-      none-ne-some _ (sym e ∙ turned-step F s r (representative (pick (other s) b c)) (cells z) (pair-says F w g r b c z h x y) (pair-steps F (other s) r b c f x y))
+      none-some _ (sym e ∙ turned-step F s r (representative (pick (other s) b c)) (cells z) (pair-says F w g r b c z h x y) (pair-steps F (other s) r b c f x y))
 
   step-ends : (s u : Side) (r : ℕ) (b c : Expression) (z : Position) → At w Where.row (Expression.pair r b c) z → is_empty b ≡ false → is_empty c ≡ false → Ends F s (cells z) → Ends F s (cells (Position.pair_side u r b c z))
   unfolding Ends cells other
@@ -54,11 +55,11 @@ module _ (F : Facts) (w : Expression) (g : Fit F Sort.row w) where
   ends s e z (At.under {r} {a} {c} {z = y} h) = λ _. opening s row_of_node (representative c) (cells y)
   ends s e z (At.arm {r} {a} {b} {c} {z = y} u h) = λ _. opening s (row_of_part u) (representative (pick u b c)) (cells y)
 
-  out-ends : (s : Side) (p : ℕ) (z : Position) → Out F w z → up F (p, cells z) ≡ none → across F s (p, cells z) ≡ none → Opens (below_row (under (cells z))) (row_end s (p, cells z))
+  out-ends : (s : Side) (p : ℕ) (z : Position) → Out F w z → up F (p, cells z) ≡ None → across F s (p, cells z) ≡ None → Opens (below_row (under (cells z))) (row_end s (p, cells z))
   unfolding up across row_end beside Ends
-  out-ends s p z (inside x i h u v) k e = absurd (none-ne-some _ (sym k ∙ v))
+  out-ends s p z (inside x i h u v) k e = absurd (none-some _ (sym k ∙ v))
   out-ends s p z (alone y h u v q) k e = rw q (ends s y _ h (rw q at e))
 
   -- where the row ends, its number is d and what lies below it w
-  pub row_ends : (s : Side) (e : Expression) (z : Position) → At w Where.here e z → up F (rule_number e, cells z) ≡ none → across F s (rule_number e, cells z) ≡ none → Opens (below_row (under (cells z))) (row_end s (rule_number e, cells z))
+  pub row_ends : (s : Side) (e : Expression) (z : Position) → At w Where.here e z → up F (rule_number e, cells z) ≡ None → across F s (rule_number e, cells z) ≡ None → Opens (below_row (under (cells z))) (row_end s (rule_number e, cells z))
   row_ends s e z h = out-ends s (rule_number e) z (outwards F w g e z h)

@@ -4,7 +4,7 @@
 use Prim.Native.Nat.{ℕ}
 use mathlib.Core.Path.{◌≡◌, refl}
 use mathlib.Core.List.{◌∷◌}
-use mathlib.Core.Option.{Option, none, some, map}
+use Rattle.std.specs.Prelude.{Option, None, Some, option_map}
 use Rattle.forest.specs.Expression.{Expression, rule_number}
 use Rattle.forest.specs.Place.{Cells, Side, cell_spine, cell_run, representative}
 use Rattle.forest.specs.Sides.{pick, other}
@@ -21,26 +21,26 @@ use Rattle.model.proofs.Enter.{Agree, found, node_of, Ends, part_end, ends, tree
 
 -- the move by what is left of the cells without a right run on top
 inward_from : Facts → Cells → Cells → Option Node
-inward_from F t cs = or_else (beside_top F Side.right t) (map (λ (c : ℕ). M.opened F c cs) (M.continuing F t))
+inward_from F t cs = or_else (beside_top F Side.right t) (option_map (λ (c : ℕ). M.opened F c cs) (M.continuing F t))
 
 -- a turn in a spine comes to the first or last part of the join's other side
-turned-agrees : (F : Facts) (w : Expression) (s : Side) (r : ℕ) (b c : Expression) (z : Position) → Steps F s r (rule_number (pick s b c)) → Ends F w (other s) (pick s b c) → At w Where.spine (Expression.join r b c) z → Agree w (some (part_end (other s) (pick s b c) (Position.join_side s r b c z))) (some (turned F s r (cells z)))
+turned-agrees : (F : Facts) (w : Expression) (s : Side) (r : ℕ) (b c : Expression) (z : Position) → Steps F s r (rule_number (pick s b c)) → Ends F w (other s) (pick s b c) → At w Where.spine (Expression.join r b c) z → Agree w (Some (part_end (other s) (pick s b c) (Position.join_side s r b c z))) (Some (turned F s r (cells z)))
 unfolding turned cells
 turned-agrees F w s r b c z g e h = rw g.leads (e (Position.join_side s r b c z) (At.join s h))
 
 module _ (F : Facts) (w : Expression) (g : Fit F Sort.row w) where
-  fill-inward : (r : ℕ) (b c : Expression) (y p : Position) → Fit F Sort.tree (Expression.fill r b c) → At w Where.tree c p → Agree w (some (P.opened c p)) (inward_from F (pop_run Side.right ((cell_spine, r, 0, 0) ∷ cells y)) (cells p))
+  fill-inward : (r : ℕ) (b c : Expression) (y p : Position) → Fit F Sort.tree (Expression.fill r b c) → At w Where.tree c p → Agree w (Some (P.opened c p)) (inward_from F (pop_run Side.right ((cell_spine, r, 0, 0) ∷ cells y)) (cells p))
   unfolding inward_from pop_run cell_run beside_top other or_else continuing inner_of rule_number shape
   fill-inward r b c y p (Fit.fill t gb gc) h = rw t.rule (tree-opened F w c p gc h)
 
-  left-inward : (r : ℕ) (b c : Expression) (y : Position) (cs : Cells) → Fit F Sort.spine (Expression.join r b c) → At w Where.spine (Expression.join r b c) y → Agree w (some (P.opened c (Position.join_side Side.right r b c y))) (inward_from F (pop_run Side.right (cells (Position.join_side Side.left r b c y))) cs)
+  left-inward : (r : ℕ) (b c : Expression) (y : Position) (cs : Cells) → Fit F Sort.spine (Expression.join r b c) → At w Where.spine (Expression.join r b c) y → Agree w (Some (P.opened c (Position.join_side Side.right r b c y))) (inward_from F (pop_run Side.right (cells (Position.join_side Side.left r b c y))) cs)
   unfolding inward_from cells other pick part_end or_else rule_number
   left-inward r b c y cs (Fit.join t gb gc) h =
       rw (turned-step F Side.right r (rule_number b) (cells y) (says F w g Where.spine (Expression.join r b c) y h) (join-steps F Side.left r b c (Fit.join t gb gc)))
       (turned-agrees F w Side.right r b c y (join-steps F Side.right r b c (Fit.join t gb gc)) (ends F w Side.left c gc) h)
 
   -- the root of the tree in the hole of the part at p; z is p without some of its joins
-  inward-from : (e : Expression) (z p : Position) → At w Where.spine e z → ((c : Expression) → continues z ≡ some c → At w Where.tree c p) → Agree w (P.inward p z) (inward_from F (pop_run Side.right (cells z)) (cells p))
+  inward-from : (e : Expression) (z p : Position) → At w Where.spine e z → ((c : Expression) → continues z ≡ Some c → At w Where.tree c p) → Agree w (P.inward p z) (inward_from F (pop_run Side.right (cells z)) (cells p))
   unfolding P.inward cells continues
   inward-from e z p (At.fill {r} {b} {c} {z = y} h) k = fill-inward r b c y p (whole F w g Where.tree (Expression.fill r b c) y h) (k c refl)
   inward-from e z p (At.join {r} {b} {c} {z = y} Side.left h) k =
@@ -66,18 +66,18 @@ last-is-part F e z (Fit.join {r} {b} {c} t gb gc) = last-is-part F c (Position.j
 
 -- the node at z stands in the hole of a part; or its tree stands in a row
 pub data Out (F : Facts) (w : Expression) (z : Position) : Type 0 where
-  inside : (x : Located) → IsPart x.0 → At w Where.here x.0 x.1 → P.outward z ≡ some x → M.outward F (cells z) ≡ some (node_of x) → Out F w z
-  alone : (e : Expression) → At w Where.row e (P.row_of z) → P.outward z ≡ none → M.outward F (cells z) ≡ none → under (cells z) ≡ cells (P.row_of z) → Out F w z
+  inside : (x : Located) → IsPart x.0 → At w Where.here x.0 x.1 → P.outward z ≡ Some x → M.outward F (cells z) ≡ Some (node_of x) → Out F w z
+  alone : (e : Expression) → At w Where.row e (P.row_of z) → P.outward z ≡ None → M.outward F (cells z) ≡ None → under (cells z) ≡ cells (P.row_of z) → Out F w z
 
 -- the same of what a tree at z stands on
 data On (F : Facts) (w : Expression) (z : Position) : Type 0 where
-  part_below : (x : Located) → IsPart x.0 → At w Where.here x.0 x.1 → P.part_at z ≡ some x → M.part_at F (cells z) ≡ some (node_of x) → On F w z
-  row_below : (e : Expression) → At w Where.row e z → P.part_at z ≡ none → M.part_at F (cells z) ≡ none → On F w z
+  part_below : (x : Located) → IsPart x.0 → At w Where.here x.0 x.1 → P.part_at z ≡ Some x → M.part_at F (cells z) ≡ Some (node_of x) → On F w z
+  row_below : (e : Expression) → At w Where.row e z → P.part_at z ≡ None → M.part_at F (cells z) ≡ None → On F w z
 
-got : (w : Expression) (x : Located) (y : Option Node) → Agree w (some x) y → At w Where.here x.0 x.1 × (y ≡ some (node_of x))
+got : (w : Expression) (x : Located) (y : Option Node) → Agree w (Some x) y → At w Where.here x.0 x.1 × (y ≡ Some (node_of x))
 got w x y (found h) = (h, refl)
 
-row-no-part : (w e : Expression) (z : Position) → At w Where.row e z → P.part_at z ≡ none
+row-no-part : (w e : Expression) (z : Position) → At w Where.row e z → P.part_at z ≡ None
 unfolding P.part_at
 row-no-part w e z At.start = refl
 row-no-part w e z (At.side s h u v) = refl
@@ -86,17 +86,17 @@ row-no-part w e z (At.only_left {r} {b} {c} h u v) = row-no-part w (Expression.p
 row-no-part w e z (At.under h) = refl
 row-no-part w e z (At.arm s h) = refl
 
-spine-part : (w e : Expression) (z : Position) → At w Where.spine e z → P.part_at z ≡ some (e, z)
+spine-part : (w e : Expression) (z : Position) → At w Where.spine e z → P.part_at z ≡ Some (e, z)
 unfolding P.part_at
 spine-part w e z (At.fill h) = refl
 spine-part w e z (At.join s h) = refl
 
-tree-no-part : (F : Facts) (e : Expression) (cs : Cells) → Fit F Sort.tree e → Top F (representative e) cs → M.part_at F cs ≡ none
+tree-no-part : (F : Facts) (e : Expression) (cs : Cells) → Fit F Sort.tree e → Top F (representative e) cs → M.part_at F cs ≡ None
 unfolding M.part_at is_part shape rule_number representative
 tree-no-part F e cs (Fit.node {r} t gc) h = rw (top-standing F r cs h, t.rule)
 tree-no-part F e cs (Fit.fill {r} t gb gc) h = rw (top-standing F r cs h, t.rule)
 
-part-at : (F : Facts) (r a : ℕ) (b c : Expression) (cs : Cells) → Here F (Expression.part r a b c) → Top F r cs → M.part_at F cs ≡ some (r, cs)
+part-at : (F : Facts) (r a : ℕ) (b c : Expression) (cs : Cells) → Here F (Expression.part r a b c) → Top F r cs → M.part_at F cs ≡ Some (r, cs)
 unfolding M.part_at is_part shape rule_number
 part-at F r a b c cs (Here.part t gb gc) h = rw (top-standing F r cs h, t.rule)
 
@@ -131,7 +131,7 @@ module _ (F : Facts) (w : Expression) (g : Fit F Sort.row w) where
   right-out : (r : ℕ) (b c : Expression) (z : Position) → Fit F Sort.spine (Expression.join r b c) → At w Where.spine (Expression.join r b c) z → Out F w (Position.join_side Side.right r b c z)
   unfolding P.outward M.outward M.beside under cells other pick part_end or_else rule_number
   right-out r b c z (Fit.join t gb gc) h =
-      let x = got w (P.last_part b (Position.join_side Side.left r b c z)) (some (turned F Side.left r (cells z))) (turned-agrees F w Side.left r b c z (join-steps F Side.left r b c (Fit.join t gb gc)) (ends F w Side.right b gb) h) in
+      let x = got w (P.last_part b (Position.join_side Side.left r b c z)) (Some (turned F Side.left r (cells z))) (turned-agrees F w Side.left r b c z (join-steps F Side.left r b c (Fit.join t gb gc)) (ends F w Side.right b gb) h) in
       inside (P.last_part b (Position.join_side Side.left r b c z)) (last-is-part F b (Position.join_side Side.left r b c z) gb) x.0 refl
       (rw (turned-step F Side.left r (rule_number c) (cells z) (says F w g Where.spine (Expression.join r b c) z h) (join-steps F Side.right r b c (Fit.join t gb gc))) x.1)
 

@@ -4,7 +4,8 @@
 use Prim.Native.Nat.{ℕ}
 use mathlib.Core.Path.{◌≡◌}
 use mathlib.Core.Bool.{true, false}
-use mathlib.Core.Option.{some, none-ne-some, some-injective}
+use Rattle.std.specs.Prelude.{Some}
+use Rattle.std.proofs.lemmas.Option.{none-some, same_Some}
 use Rattle.forest.specs.Expression.{Expression, rule_number}
 use Rattle.forest.specs.Place.{Cells, Side, is_empty, representative}
 use Rattle.forest.specs.Sides.{pick}
@@ -22,7 +23,7 @@ pub data Here (F : Facts) : Expression → Type 0 where
 
 -- what a spine continues in is a tree
 abbrev pub Ahead : Facts → Position → Type 0
-Ahead F z = (c : Expression) → continues z ≡ some c → Fit F Sort.tree c
+Ahead F z = (c : Expression) → continues z ≡ Some c → Fit F Sort.tree c
 
 -- the sort of what stands at a position
 abbrev pub Whole : Facts → Where → Expression → Position → Type 0
@@ -37,7 +38,7 @@ pair_inside F s r b c (Fit.grown x) = elim x [ ]
 
 join-inside : (F : Facts) (s : Side) (r : ℕ) (b c : Expression) (z : Position) → Fit F Sort.spine (Expression.join r b c) → Ahead F z → Fit F Sort.spine (pick s b c) × Ahead F (Position.join_side s r b c z)
 unfolding continues pick
-join-inside F Side.left r b c z (Fit.join t gb gc) h = (gb, λ x q. absurd (none-ne-some x q))
+join-inside F Side.left r b c z (Fit.join t gb gc) h = (gb, λ x q. absurd (none-some x q))
 join-inside F Side.right r b c z (Fit.join t gb gc) h = (gc, h)
 
 tree_node : (F : Facts) (r a : ℕ) (c : Expression) → Fit F Sort.row (Expression.node r a c) → Fit F Sort.tree (Expression.node r a c)
@@ -48,14 +49,14 @@ tree_fill F r b c (Fit.grown g) = g
 
 node-here : (F : Facts) (r a : ℕ) (c : Expression) (z : Position) → Fit F Sort.tree (Expression.node r a c) → Here F (Expression.node r a c) × Ahead F (Position.node_spine r a c z)
 unfolding continues
-node-here F r a c z (Fit.node t gc) = (node t gc, λ x q. absurd (none-ne-some x q))
+node-here F r a c z (Fit.node t gc) = (node t gc, λ x q. absurd (none-some x q))
 
 part-here : (F : Facts) (r a : ℕ) (b c : Expression) → Fit F Sort.spine (Expression.part r a b c) → Here F (Expression.part r a b c)
 part-here F r a b c (Fit.part t gb gc) = part t gb gc
 
 fill-inside : (F : Facts) (r : ℕ) (b c : Expression) (z : Position) → Fit F Sort.tree (Expression.fill r b c) → Fit F Sort.spine b × Ahead F (Position.fill_spine r b c z)
 unfolding continues
-fill-inside F r b c z (Fit.fill t gb gc) = (gb, λ x q. rw (some-injective c x q) at gc)
+fill-inside F r b c z (Fit.fill t gb gc) = (gb, λ x q. rw (same_Some c x q) at gc)
 
 node-inside : (F : Facts) (r a : ℕ) (c : Expression) → Here F (Expression.node r a c) → Fit F Sort.row c
 node-inside F r a c (node t gc) = gc

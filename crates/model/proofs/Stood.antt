@@ -6,7 +6,7 @@ use native.Mathlib.Omega.{arith}
 use mathlib.Core.Path.{◌≡◌, refl, sym}
 use mathlib.Core.Bool.{Bool, true, false, cond, not, ◌&&◌, and-eq-true_iff}
 use mathlib.Core.List.{[], ◌∷◌}
-use mathlib.Core.Option.{Option, none, map}
+use Rattle.std.specs.Prelude.{Option, None, option_map}
 use lib.Dec.{eqb, ltb, ltb→lt, eqb→eq}
 use Rattle.forest.specs.Expression.{Expression, rule_number}
 use Rattle.forest.specs.Place.{Cells, Side, cell_spine, cell_run, is_empty, representative, step}
@@ -47,16 +47,16 @@ row_of F w z e (Fit.grown g) h = tree-row F w z e g h
 -- a state and the cells that lead to it, with the position that has these cells
 pub data Stood (F : Facts) (w : Expression) : State → Cells → Type 0 where
   nowhere : Stood F w State.above []
-  in_row : {v : ℕ} {z : Position} → Row F w z v → eqb (top_kind (cells z)) cell_spine ≡ false → Stood F w (State.at v (top_kind (cells z)) none) (cells z)
-  in_spine : {e : Expression} {z : Position} → Fit F Sort.spine e → At w Where.spine e z → Stood F w (State.at (rule_number e) (top_kind (cells z)) (map rule_number (continues z))) (cells z)
-  at_node : {r a : ℕ} {c : Expression} {z : Position} → Tells F (Expression.node r a c) → Fit F Sort.row c → At w Where.tree (Expression.node r a c) z → Stood F w (State.at r cell_spine none) ((cell_spine, r, 0, 0) ∷ cells z)
+  in_row : {v : ℕ} {z : Position} → Row F w z v → eqb (top_kind (cells z)) cell_spine ≡ false → Stood F w (State.at v (top_kind (cells z)) None) (cells z)
+  in_spine : {e : Expression} {z : Position} → Fit F Sort.spine e → At w Where.spine e z → Stood F w (State.at (rule_number e) (top_kind (cells z)) (option_map rule_number (continues z))) (cells z)
+  at_node : {r a : ℕ} {c : Expression} {z : Position} → Tells F (Expression.node r a c) → Fit F Sort.row c → At w Where.tree (Expression.node r a c) z → Stood F w (State.at r cell_spine None) ((cell_spine, r, 0, 0) ∷ cells z)
 
 -- one step on: where there is depth, it leads down a two-sided pair or a join
 record Stepped (F : Facts) (w : Expression) (s : Side) (p : ℕ) (o : Option ℕ) (cs : Cells) : Type 0 where
   there : Stood F w (State.at (F.toward s p) (cell_run s) (kept_by s o)) (step s p (F.toward s p) cs)
   deep : F.depth s p ≡ suc (F.depth s (F.toward s p))
 
-two-stepped : (F : Facts) (w : Expression) (s : Side) (r : ℕ) (b c : Expression) (z : Position) → Fit F Sort.row (Expression.pair r b c) → At w Where.row (Expression.pair r b c) z → is_empty b ≡ false → is_empty c ≡ false → Fit F Sort.row (pick s b c) → Stepped F w s r none (cells z)
+two-stepped : (F : Facts) (w : Expression) (s : Side) (r : ℕ) (b c : Expression) (z : Position) → Fit F Sort.row (Expression.pair r b c) → At w Where.row (Expression.pair r b c) z → is_empty b ≡ false → is_empty c ≡ false → Fit F Sort.row (pick s b c) → Stepped F w s r None (cells z)
 unfolding cells
 two-stepped F w s r b c z g h u v k =
     let q : Steps F s r (representative (pick s b c)) = pair-steps F s r b c g u v in
@@ -67,7 +67,7 @@ two-stepped F w s r b c z g h u v k =
       deep = rw q.leads q.deep;
     }
 
-join-stepped : (F : Facts) (w : Expression) (s : Side) (r : ℕ) (b c : Expression) (z : Position) → Fit F Sort.spine (Expression.join r b c) → At w Where.spine (Expression.join r b c) z → Fit F Sort.spine (pick s b c) → Stepped F w s r (map rule_number (continues z)) (cells z)
+join-stepped : (F : Facts) (w : Expression) (s : Side) (r : ℕ) (b c : Expression) (z : Position) → Fit F Sort.spine (Expression.join r b c) → At w Where.spine (Expression.join r b c) z → Fit F Sort.spine (pick s b c) → Stepped F w s r (option_map rule_number (continues z)) (cells z)
 unfolding cells
 join-stepped F w s r b c z g h k =
     let q : Steps F s r (rule_number (pick s b c)) = join-steps F s r b c g in
@@ -81,7 +81,7 @@ join-stepped F w s r b c z g h k =
 no-depth : (n : ℕ) → n ≡ 0 → 0 < n → ⊥
 no-depth n e h = omega arith
 
-row-stepped : (F : Facts) (w : Expression) (s : Side) (v : ℕ) (z : Position) → Row F w z v → 0 < F.depth s v → Stepped F w s v none (cells z)
+row-stepped : (F : Facts) (w : Expression) (s : Side) (v : ℕ) (z : Position) → Row F w z v → 0 < F.depth s v → Stepped F w s v None (cells z)
 unfolding rule_number depth
 row-stepped F w s v z (hollow t) h = absurd (no-depth (F.depth s v) (t.deep s) h)
 row-stepped F w s v z (two {r} {b} {c} (Fit.pair t gb gc) k x y) h = two-stepped F w s r b c z (Fit.pair t gb gc) k x y (picked (Fit F Sort.row) s b c gb gc)
@@ -89,7 +89,7 @@ row-stepped F w s v z (tree (Fit.node t gc) k) h = absurd (no-depth (F.depth s v
 row-stepped F w s v z (tree (Fit.fill t gb gc) k) h = absurd (no-depth (F.depth s v) (t.deep s) h)
 row-stepped F w s v z (two {b = b} {c = c} (Rattle.model.proofs.Fit.grown x10) k x y) h = elim x10 [ ]
 
-spine-stepped : (F : Facts) (w : Expression) (s : Side) (e : Expression) (z : Position) → Fit F Sort.spine e → At w Where.spine e z → 0 < F.depth s (rule_number e) → Stepped F w s (rule_number e) (map rule_number (continues z)) (cells z)
+spine-stepped : (F : Facts) (w : Expression) (s : Side) (e : Expression) (z : Position) → Fit F Sort.spine e → At w Where.spine e z → 0 < F.depth s (rule_number e) → Stepped F w s (rule_number e) (option_map rule_number (continues z)) (cells z)
 unfolding rule_number depth
 spine-stepped F w s e z (Fit.part {r} t gb gc) k h = absurd (no-depth (F.depth s r) (t.deep s) h)
 spine-stepped F w s e z (Fit.join {r} {b} {c} t gb gc) k h = join-stepped F w s r b c z (Fit.join t gb gc) k (picked (Fit F Sort.spine) s b c gb gc)

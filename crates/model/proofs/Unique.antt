@@ -6,7 +6,7 @@ use native.Mathlib.Omega.{arith}
 use mathlib.Core.Path.{◌≡◌, refl, sym, ap, ◌∙◌}
 use mathlib.Core.Bool.{true, false, cond}
 use mathlib.Core.List.{[], ◌∷◌}
-use mathlib.Core.Option.{Option, none, some}
+use Rattle.std.specs.Prelude.{Option, None, Some}
 use lib.Dec.{eqb}
 use Rattle.forest.specs.Expression.{Expression, rule_number}
 use Rattle.forest.specs.Place.{Cell, Cells, Side, cell_row, cell_spine, cell_run, row_of_part, is_empty, representative, step}
@@ -96,20 +96,20 @@ side_of_row d = cond (eqb d (row_of_part Side.left)) Side.left Side.right
 
 -- a position made of another: a tree opened there
 opening : Option Expression → Position → Position
-opening none z = z
-opening (some (Expression.empty r)) z = z
-opening (some (Expression.pair r b c)) z = z
-opening (some (Expression.node r a c)) z = Position.node_spine r a c z
-opening (some (Expression.fill r b c)) z = Position.fill_spine r b c z
-opening (some (Expression.part r a b c)) z = z
-opening (some (Expression.join r b c)) z = z
+opening None z = z
+opening (Some (Expression.empty r)) z = z
+opening (Some (Expression.pair r b c)) z = z
+opening (Some (Expression.node r a c)) z = Position.node_spine r a c z
+opening (Some (Expression.fill r b c)) z = Position.fill_spine r b c z
+opening (Some (Expression.part r a b c)) z = z
+opening (Some (Expression.join r b c)) z = z
 
 -- by the last cell, what stands there, and what its spine continues in
 made : Cell → Expression → Option Expression → Position → Position
 made x (Expression.empty r) o z = z
 made x (Expression.pair r b c) o z = Position.pair_side (side_of_run x.0) r b c z
-made x (Expression.node r a c) o z = cond (eqb x.0 cell_row) (Position.node_row r a c z) (opening (some (Expression.node r a c)) z)
-made x (Expression.fill r b c) o z = opening (some (Expression.fill r b c)) z
+made x (Expression.node r a c) o z = cond (eqb x.0 cell_row) (Position.node_row r a c z) (opening (Some (Expression.node r a c)) z)
+made x (Expression.fill r b c) o z = opening (Some (Expression.fill r b c)) z
 made x (Expression.part r a b c) o z = cond (eqb x.0 cell_row) (Position.part_row (side_of_row x.1) r a b c z) (opening o z)
 made x (Expression.join r b c) o z = Position.join_side (side_of_run x.0) r b c z
 
@@ -156,7 +156,7 @@ unfolding cells made top_cell peel cell_run
 arm-climbs F w s r a b c y q h = over {z = Position.part_row s r a b c y} y h refl (rw (← q, side-of-row s))
 
 -- a spine opened at a tree
-tree-made : (w e : Expression) (z : Position) (a : ℕ) → At w Where.tree e z → made (cell_spine, a, 0, 0) (content z) (continues z) z ≡ opening (some e) z
+tree-made : (w e : Expression) (z : Position) (a : ℕ) → At w Where.tree e z → made (cell_spine, a, 0, 0) (content z) (continues z) z ≡ opening (Some e) z
 unfolding made core
 tree-made w e z a (At.tree_node {r} {a = l} {c} h) = rw (← (contains w Where.row (Expression.node r l c) z h))
 tree-made w e z a (At.tree_fill {r} {b} {c} h) = rw (← (contains w Where.row (Expression.fill r b c) z h))

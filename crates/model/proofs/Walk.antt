@@ -4,7 +4,7 @@
 use Prim.Native.Nat.{ℕ}
 use mathlib.Core.Path.{◌≡◌, refl, ap, ap₂}
 use mathlib.Core.List.{List, [], ◌∷◌}
-use mathlib.Core.Option.{Option, none, some, map, get_or}
+use Rattle.std.specs.Prelude.{Option, None, Some, option_map, unwrap_or}
 use Rattle.forest.specs.Expression.{Expression, rule_number}
 use Rattle.forest.specs.Place.{Cells}
 use Rattle.forest.specs.Position.{or_else, Position, Located, At, Where, cells, label_of}
@@ -24,12 +24,12 @@ use Rattle.model.proofs.Moves.{child-agrees, sibling-agrees, parent-agrees, root
 -- the node that a letter leads to on positions, from a node or from above the forest
 unfoldable pub move_at : Expression → Letter → Option Located → Option Located
 move_at w (Letter.root s) x = P.enter s w (Position.start w)
-move_at w (Letter.child s) none = none
-move_at w (Letter.child s) (some x) = P.child s x.0 x.1
-move_at w (Letter.sibling s) none = none
-move_at w (Letter.sibling s) (some x) = P.sibling s x.1
-move_at w Letter.parent none = none
-move_at w Letter.parent (some x) = P.parent x.1
+move_at w (Letter.child s) None = None
+move_at w (Letter.child s) (Some x) = P.child s x.0 x.1
+move_at w (Letter.sibling s) None = None
+move_at w (Letter.sibling s) (Some x) = P.sibling s x.1
+move_at w Letter.parent None = None
+move_at w Letter.parent (Some x) = P.parent x.1
 move_at w Letter.stay x = x
 
 unfoldable pub moved_at : Expression → Letter → Option Located → Option Located
@@ -38,7 +38,7 @@ moved_at w l x = or_else (move_at w l x) x
 -- letters taken in turn
 unfoldable pub answers_at : Expression → List Letter → Option Located → List (Option ℕ)
 answers_at w [] x = []
-answers_at w (l ∷ ls) x = map (λ (y : Located). label_of y.0) (move_at w l x) ∷ answers_at w ls (moved_at w l x)
+answers_at w (l ∷ ls) x = option_map (λ (y : Located). label_of y.0) (move_at w l x) ∷ answers_at w ls (moved_at w l x)
 
 unfoldable pub after_at : Expression → List Letter → Option Located → Option Located
 after_at w [] x = x
@@ -46,8 +46,8 @@ after_at w (l ∷ ls) x = after_at w ls (moved_at w l x)
 
 -- the cells of a place
 unfoldable pub cells_at : Option Located → Cells
-cells_at none = []
-cells_at (some x) = cells x.1
+cells_at None = []
+cells_at (Some x) = cells x.1
 
 pub equal_cells : (w : Expression) (x : Option Located) (n : Node) → Same w x n → n.1 ≡ cells_at x
 unfolding cells_at
@@ -86,7 +86,7 @@ module _ (F : Facts) (w : Expression) (g : Fit F Sort.row w) where
   move-agrees Letter.stay x n above = nowhere
   move-agrees Letter.stay x n (at {e} {z} h) = rw (from-here e z h) (found h)
 
-  kept : (x y : Option Located) (n : Node) (k : Option Node) → Same w x n → Agree w y k → Same w (or_else y x) (get_or k n)
+  kept : (x y : Option Located) (n : Node) (k : Option Node) → Same w x n → Agree w y k → Same w (or_else y x) (unwrap_or k n)
   unfolding or_else
   kept x y n k h nowhere = h
   kept x y n k h (found a) = at a
@@ -95,12 +95,12 @@ module _ (F : Facts) (w : Expression) (g : Fit F Sort.row w) where
   unfolding moved_at moved
   moved_same l x n h = kept x (move_at w l x) n (move F (rule_number w) l n) h (move-agrees l x n h)
 
-  labelled : (y : Option Located) (k : Option Node) → Agree w y k → map (λ (n : Node). label (F.rule n.0)) k ≡ map (λ (x : Located). label_of x.0) y
+  labelled : (y : Option Located) (k : Option Node) → Agree w y k → option_map (λ (n : Node). label (F.rule n.0)) k ≡ option_map (λ (x : Located). label_of x.0) y
   labelled y k nowhere = refl
-  labelled y k (found {e} {z} h) = ap (λ n. some n) (label_is F w g e z h)
+  labelled y k (found {e} {z} h) = ap (λ n. Some n) (label_is F w g e z h)
 
   -- the answer to one letter
-  pub answer-is : (l : Letter) (x : Option Located) (n : Node) → Same w x n → answer F (rule_number w) l n ≡ map (λ (y : Located). label_of y.0) (move_at w l x)
+  pub answer-is : (l : Letter) (x : Option Located) (n : Node) → Same w x n → answer F (rule_number w) l n ≡ option_map (λ (y : Located). label_of y.0) (move_at w l x)
   unfolding answer
   answer-is l x n h = labelled (move_at w l x) (move F (rule_number w) l n) (move-agrees l x n h)
 
@@ -120,5 +120,5 @@ module _ (F : Facts) (w : Expression) (g : Fit F Sort.row w) where
   cells-after ls x n h = equal_cells w (after_at w ls x) (after F (rule_number w) ls n) (after_same ls x n h)
 
   -- a node's cells alone are its place: the rule is read off the last cell
-  pub same_here : (e : Expression) (z : Position) → At w Where.here e z → Same w (some (e, z)) (standing F (cells z), cells z)
+  pub same_here : (e : Expression) (z : Position) → At w Where.here e z → Same w (Some (e, z)) (standing F (cells z), cells z)
   same_here e z h = rw (standing_here F w g e z h) (at h)

@@ -1,6 +1,6 @@
 -- The walker on a stack of cells (document 003, section 3, on the cells of document 01): every move by facts of rules alone.
 use Rattle.std.specs.Prelude.{ℕ, cond, [], ◌∷◌, eqb}
-use Rattle.std.proofs.Math.Option.{Option, none, some}
+use Rattle.std.specs.Prelude.{Option, None, Some}
 use Rattle.rule.specs.declared.Rule.{Rule}
 use Rattle.forest.specs.Place.{Cells, Side, cell_row, row_of_node, row_of_part}
 use Rattle.forest.specs.Sides.{pick}
@@ -13,12 +13,12 @@ unfoldable pub use Rattle.model.specs.Neighbour.{first_that, sibling_cases}
 
 -- the first (left) or last (right) child of a node with that rule at cs
 unfoldable pub child_of : Facts → Side → Rule → Cells → Option Node
-child_of F s Rule.Empty cs = none
-child_of F s (Rule.Pair b c) cs = none
+child_of F s Rule.Empty cs = None
+child_of F s (Rule.Pair b c) cs = None
 child_of F s (Rule.Node x c) cs = enter F s row_of_node c cs
-child_of F s (Rule.Fill b c) cs = none
+child_of F s (Rule.Fill b c) cs = None
 child_of F s (Rule.Part x b c) cs = or_else (enter F s (row_of_part s) (pick s b c) cs) (inward F cs)
-child_of F s (Rule.Join b c) cs = none
+child_of F s (Rule.Join b c) cs = None
 
 unfoldable pub child : Facts → Side → Node → Option Node
 child F s x = child_of F s (F.rule x.0) x.1
@@ -35,8 +35,8 @@ below_row (c ∷ cs) = cond (eqb c.0 cell_row) cs (below_row cs)
 
 -- the node at cs, none above the forest
 unfoldable pub node_at : Facts → Cells → Option Node
-node_at F [] = none
-node_at F (c ∷ cs) = some (standing F (c ∷ cs), c ∷ cs)
+node_at F [] = None
+node_at F (c ∷ cs) = Some (standing F (c ∷ cs), c ∷ cs)
 
 -- the parent of the node at cs: the part in whose hole it stands, else the node over its row
 unfoldable pub parent : Facts → Node → Option Node

@@ -5,7 +5,7 @@
 --   d, the row's number: the article's ℓ, m and r are row_of_part left, row_of_node and row_of_part right;
 --   w, what lies below: the cells under the row's opening.
 use Rattle.std.specs.Prelude.{ℕ, suc, Bool, true, false, cond, not, ◌&&◌, ◌||◌, List, [], ◌∷◌, eqb}
-use Rattle.std.proofs.Math.Option.{Option, none, some, map}
+use Rattle.std.specs.Prelude.{Option, None, Some, option_map}
 use Rattle.rule.specs.declared.Rule.{Rule}
 use Rattle.forest.specs.Place.{Cells, Side, row_of_node, row_of_part}
 use Rattle.forest.specs.Sides.{other, pick}
@@ -15,8 +15,8 @@ use Rattle.model.specs.Pieces.{opened, inward, under, outward, beside_hole}
 
 -- "= ⊥"
 unfoldable pub fails : {A : Type 0} → Option A → Bool
-fails none = true
-fails (some a) = false
+fails None = true
+fails (Some a) = false
 
 -- "= ε"
 unfoldable pub is_nil : Cells → Bool
@@ -49,22 +49,22 @@ below s x = tail (row_end s x)
 
 -- "z(u) = a⟨LxR⟩": the L (left) or R (right) of such a symbol, none of another
 unfoldable pub arm_of : Side → Rule → Option ℕ
-arm_of s Rule.Empty = none
-arm_of s (Rule.Pair b c) = none
-arm_of s (Rule.Node x c) = none
-arm_of s (Rule.Fill b c) = none
-arm_of s (Rule.Part x b c) = some (pick s b c)
-arm_of s (Rule.Join b c) = none
+arm_of s Rule.Empty = None
+arm_of s (Rule.Pair b c) = None
+arm_of s (Rule.Node x c) = None
+arm_of s (Rule.Fill b c) = None
+arm_of s (Rule.Part x b c) = Some (pick s b c)
+arm_of s (Rule.Join b c) = None
 
 -- "↑(v) = u, z(u) = a⟨LxR⟩": that L or R, none where moving up fails
 unfoldable pub up_arm : Facts → Side → Option Node → Option ℕ
-up_arm F s none = none
-up_arm F s (some u) = arm_of s (F.rule u.0)
+up_arm F s None = None
+up_arm F s (Some u) = arm_of s (F.rule u.0)
 
 -- there is an L or R, and it is such a rule
 unfoldable pub arm_is : (ℕ → Bool) → Option ℕ → Bool
-arm_is such none = false
-arm_is such (some a) = such a
+arm_is such None = false
+arm_is such (Some a) = such a
 
 -- 1: "↑(v) = u, z(u) = a⟨LxR⟩ and ◁r(R) ≠ ⊥"
 unfoldable pub arm_has_tree : Facts → Side → Node → Bool
@@ -88,22 +88,22 @@ row_ends_off F s x = fails (up F x) && (fails (across F s x) && (is_nil (below s
 
 -- the answer of case 1, "w((d, h), u) ◁r(R)": on the part's cells the first tree of its R, or the last of its L
 unfoldable pub into_arm : Facts → Side → Option Node → Option Node
-into_arm F s none = none
-into_arm F s (some u) = beside_hole F s (F.rule u.0) u.1
+into_arm F s None = None
+into_arm F s (Some u) = beside_hole F s (F.rule u.0) u.1
 
 -- the five cases in the article's sequence, each with its answer: of 3 "w((d, h'), Δ(D))", of 4 "w'((d', h'), ↓(v'))", of 2 and 5 "⊥"
 unfoldable pub sibling_cases : Facts → Side → Node → List (Bool × Option Node)
 sibling_cases F s x =
     (arm_has_tree F s x, into_arm F s (up F x))
-    ∷ (arm_is_empty F s x, none)
-    ∷ (row_goes_on F s x, map (λ (t : Node). opened F t.0 t.1) (across F s x))
+    ∷ (arm_is_empty F s x, None)
+    ∷ (row_goes_on F s x, option_map (λ (t : Node). opened F t.0 t.1) (across F s x))
     ∷ (row_ends_at_hole F s x, inward F (below s x))
-    ∷ (row_ends_off F s x, none)
+    ∷ (row_ends_off F s x, None)
     ∷ []
 
 -- the answer of the first case whose condition holds, nowhere where none does
 unfoldable pub first_that : List (Bool × Option Node) → Option Node
-first_that [] = none
+first_that [] = None
 first_that (c ∷ cs) = cond c.0 c.1 (first_that cs)
 
 -- how many of the conditions hold

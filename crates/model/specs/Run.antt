@@ -1,7 +1,7 @@
 -- Runs on a stack of cells (document 000's runs within a row or spine, as document 01 stores them): growing, shrinking and
 -- turning one. A place is a list of cells, the last cell first; a node is the number of its rule and its cells.
 use Rattle.std.specs.Prelude.{ℕ, zero, suc, ◌-◌, cond, [], ◌∷◌, eqb, leb}
-use Rattle.std.proofs.Math.Option.{Option, none, some}
+use Rattle.std.specs.Prelude.{Option, None, Some}
 use Rattle.forest.specs.Place.{Cells, Side, cell_run, step}
 use Rattle.forest.specs.Sides.{other}
 use Rattle.model.specs.Facts.{Facts}
@@ -46,11 +46,11 @@ turned F s v cs = (F.last (other s) (F.toward s v), run F (other s) (F.toward s 
 -- the next on side s within a row or spine, where no run of that direction is on top: the run on top is one step shorter,
 -- then turns
 unfoldable pub beside_top : Facts → Side → Cells → Option Node
-beside_top F s [] = none
+beside_top F s [] = None
 beside_top F s (c ∷ cs) =
     cond (eqb c.0 (cell_run (other s)))
-    (some (turned F s (one_above F (other s) c.1 c.2) (shrunk F (other s) (c ∷ cs))))
-    none
+    (Some (turned F s (one_above F (other s) c.1 c.2) (shrunk F (other s) (c ∷ cs))))
+    None
 
 -- the tree beside in a row, or the part beside in a spine
 unfoldable pub beside : Facts → Side → Cells → Option Node

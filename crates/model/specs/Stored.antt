@@ -1,7 +1,7 @@
 -- The test of stored cells (document 01, "The stored place", and refusal 10 of walk): from cell 1 up, each cell must be one
 -- of the forms there and fit the state that the cells below it lead to.
 use Rattle.std.specs.Prelude.{ℕ, ◌-◌, Bool, true, false, cond, not, ◌&&◌, [], ◌∷◌, eqb, ltb}
-use Rattle.std.proofs.Math.Option.{Option, none, some}
+use Rattle.std.specs.Prelude.{Option, None, Some}
 use Rattle.rule.specs.declared.Rule.{Rule}
 use Rattle.forest.specs.Place.{Cell, Cells, Side, cell_row, cell_spine, cell_run, row_of_node, row_of_part}
 use Rattle.model.specs.Facts.{Facts}
@@ -33,26 +33,26 @@ pub data State : Type 0 where
 
 -- the rule whose row the number d opens under a node
 unfoldable pub row_under : Rule → ℕ → ℕ → Option ℕ
-row_under Rule.Empty k d = none
-row_under (Rule.Pair b c) k d = none
-row_under (Rule.Node x c) k d = cond (eqb k cell_spine && eqb d row_of_node) (some c) none
-row_under (Rule.Fill b c) k d = none
-row_under (Rule.Part x b c) k d = cond (eqb d (row_of_part Side.left)) (some b) (cond (eqb d (row_of_part Side.right)) (some c) none)
-row_under (Rule.Join b c) k d = none
+row_under Rule.Empty k d = None
+row_under (Rule.Pair b c) k d = None
+row_under (Rule.Node x c) k d = cond (eqb k cell_spine && eqb d row_of_node) (Some c) None
+row_under (Rule.Fill b c) k d = None
+row_under (Rule.Part x b c) k d = cond (eqb d (row_of_part Side.left)) (Some b) (cond (eqb d (row_of_part Side.right)) (Some c) None)
+row_under (Rule.Join b c) k d = None
 
 -- the same in a state; r is the walked rule
 unfoldable pub row_in : Facts → ℕ → State → ℕ → Option ℕ
-row_in F r above d = cond (eqb d row_of_node) (some r) none
+row_in F r above d = cond (eqb d row_of_node) (Some r) None
 row_in F r (at p k o) d = row_under (F.rule p) k d
-row_in F r wrong d = none
+row_in F r wrong d = None
 
 unfoldable pub after_row : Facts → Option ℕ → ℕ → State
-after_row F none v = wrong
-after_row F (some x) v = cond (eqb v (F.representative x)) (at v cell_row none) wrong
+after_row F None v = wrong
+after_row F (Some x) v = cond (eqb v (F.representative x)) (at v cell_row None) wrong
 
 unfoldable pub is_that : Option ℕ → ℕ → Bool
-is_that none a = false
-is_that (some c) a = eqb c a
+is_that None a = false
+is_that (Some c) a = eqb c a
 
 -- the spine of tree a may open at rule p: the tree just reached in a row, or what the spine's last part continues in
 unfoldable pub spine_at : Rule → ℕ → ℕ → Option ℕ → ℕ → Bool
@@ -73,7 +73,7 @@ unfoldable pub reaches : Facts → Side → ℕ → ℕ → Bool
 reaches F s a b = ltb (F.depth s b) (F.depth s a) && eqb (along F s (F.depth s a - F.depth s b) a) b
 
 unfoldable pub kept_by : Side → Option ℕ → Option ℕ
-kept_by Side.left o = none
+kept_by Side.left o = None
 kept_by Side.right o = o
 
 -- a run from the rule just reached, after no run of its direction

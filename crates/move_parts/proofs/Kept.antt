@@ -6,7 +6,7 @@ use native.Mathlib.Omega.{arith}
 use mathlib.Core.Path.{◌≡◌, refl, sym, ◌∙◌}
 use mathlib.Core.Bool.{Bool, true, false, cond}
 use mathlib.Core.List.{[], ◌∷◌}
-use mathlib.Core.Option.{Option, none, some, map}
+use Rattle.std.specs.Prelude.{Option, None, Some, option_map}
 use lib.Dec.{eqb, leb}
 use borrow.Author.Tests.{eqb-true}
 use Rattle.rule.specs.declared.Rule.{Rule}
@@ -24,19 +24,19 @@ use Rattle.place_cells.proofs.Stack.{run-no-row}
 use Rattle.facts.proofs.Closes.{above-has, outer-has}
 
 -- the rule of a node that was found
-pub found-rule : (P : ℕ → Type 0) {y : Option Node} {x : Node} → y ≡ some x → Kept P y → P x.0
+pub found-rule : (P : ℕ → Type 0) {y : Option Node} {x : Node} → y ≡ Some x → Kept P y → P x.0
 unfolding Kept
 found-rule P e k = (rw e at k).0
 
 else-kept : (P : ℕ → Type 0) (x y : Option Node) → Kept P x → Kept P y → Kept P (or_else x y)
 unfolding Kept or_else
-else-kept P none y a b = b
-else-kept P (some x) y a b = a
+else-kept P None y a b = b
+else-kept P (Some x) y a b = a
 
-map-kept : (P : ℕ → Type 0) (f : Node → Node) → ((x : Node) → node_has P x → node_has P (f x)) → (x : Option Node) → Kept P x → Kept P (map f x)
+map-kept : (P : ℕ → Type 0) (f : Node → Node) → ((x : Node) → node_has P x → node_has P (f x)) → (x : Option Node) → Kept P x → Kept P (option_map f x)
 unfolding Kept
-map-kept P f g none a = tt
-map-kept P f g (some x) a = g x a
+map-kept P f g None a = tt
+map-kept P f g (Some x) a = g x a
 
 module _ (F : Facts) (P : ℕ → Type 0) (h : Closed F P) where
   step_kept : (s : Side) (a b : ℕ) (cs : Cells) → P a → P b → Each (Fits P) cs → Each (Fits P) (step s a b cs)
@@ -99,7 +99,7 @@ module _ (F : Facts) (P : ℕ → Type 0) (h : Closed F P) where
       (λ u. rw u (opened-kept (F.last s r) (run F s r ((cell_row, d, r, 0) ∷ cs)) (h.ends s r q)
       (run-kept s r ((cell_row, d, r, 0) ∷ cs) q (record { one = λ z. absurd (z refl); two = q }, e))))
 
-  inner-kept : (x : Rule) (cs : Cells) → Names P x → Each (Fits P) cs → Kept P (map (λ (c : ℕ). opened F c cs) (inner_of x))
+  inner-kept : (x : Rule) (cs : Cells) → Names P x → Each (Fits P) cs → Kept P (option_map (λ (c : ℕ). opened F c cs) (inner_of x))
   unfolding Kept Names inner_of
   inner-kept Rule.Empty cs n e = tt
   inner-kept (Rule.Pair b c) cs n e = tt
@@ -108,7 +108,7 @@ module _ (F : Facts) (P : ℕ → Type 0) (h : Closed F P) where
   inner-kept (Rule.Part x b c) cs n e = tt
   inner-kept (Rule.Join b c) cs n e = tt
 
-  continued-kept : (t cs : Cells) → Each (Fits P) t → Each (Fits P) cs → Kept P (map (λ (c : ℕ). opened F c cs) (continuing F t))
+  continued-kept : (t cs : Cells) → Each (Fits P) t → Each (Fits P) cs → Kept P (option_map (λ (c : ℕ). opened F c cs) (continuing F t))
   unfolding Each Kept continuing
   continued-kept [] cs f e = tt
   continued-kept (c ∷ t) cs f e =
@@ -120,7 +120,7 @@ module _ (F : Facts) (P : ℕ → Type 0) (h : Closed F P) where
   unfolding inward beside
   inward-kept cs e =
       let f = pop_kept Side.right cs e in
-      else-kept P (beside_top F Side.right (pop_run Side.right cs)) (map (λ (c : ℕ). opened F c cs) (continuing F (pop_run Side.right cs)))
+      else-kept P (beside_top F Side.right (pop_run Side.right cs)) (option_map (λ (c : ℕ). opened F c cs) (continuing F (pop_run Side.right cs)))
       (beside-kept Side.right (pop_run Side.right cs) f) (continued-kept (pop_run Side.right cs) cs f e)
 
   pub standing-kept : (cs : Cells) → Each (Fits P) cs → P (standing F cs)
@@ -150,7 +150,7 @@ module _ (F : Facts) (P : ℕ → Type 0) (h : Closed F P) where
   unfolding follow beside
   follow-kept s cs e =
       let t = pop_run s cs in let f = pop_kept s cs e in
-      else-kept P (map (λ (x : Node). opened F x.0 x.1) (beside_top F s t)) (ended F s t)
+      else-kept P (option_map (λ (x : Node). opened F x.0 x.1) (beside_top F s t)) (ended F s t)
       (map-kept P (λ (x : Node). opened F x.0 x.1) (λ x k. opened-kept x.0 x.1 k.0 k.1) (beside_top F s t) (beside-kept s t f))
       (ended-kept s t f)
 
@@ -179,8 +179,8 @@ module _ (F : Facts) (P : ℕ → Type 0) (h : Closed F P) where
 
   sibling-from : (s : Side) (x : Option Node) (cs : Cells) → Kept P x → Each (Fits P) cs → Kept P (sibling_from F s x cs)
   unfolding Kept sibling_from under
-  sibling-from s none cs k e = follow-kept s (under cs) (tail-kept (pop_run Side.left cs) (pop_kept Side.left cs e))
-  sibling-from s (some x) cs k e = hole-kept s (F.rule x.0) x.1 (h.names x.0 k.0) k.1
+  sibling-from s None cs k e = follow-kept s (under cs) (tail-kept (pop_run Side.left cs) (pop_kept Side.left cs e))
+  sibling-from s (Some x) cs k e = hole-kept s (F.rule x.0) x.1 (h.names x.0 k.0) k.1
 
   pub sibling-kept : (s : Side) (x : Node) → node_has P x → Kept P (sibling F s x)
   sibling-kept s x e = rw sibling-stages (sibling-from s (outward F x.1) x.1 (outward-kept x.1 e.1) e.1)

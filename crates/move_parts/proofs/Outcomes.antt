@@ -5,9 +5,10 @@ use native.Mathlib.Omega.{arith}
 use mathlib.Core.Path.{◌≡◌, refl, sym, ap, subst, ◌∙◌}
 use mathlib.Core.Bool.{true, false, not, ◌&&◌}
 use mathlib.Core.List.{List, ◌∷◌}
-use mathlib.Core.Option.{Option, none, some, map}
+use Rattle.std.specs.Prelude.{Option, None, Some, option_map}
 use lib.Dec.{eqb}
 use borrow.Author.Tests.{eq-eqb, ne_eqb}
+use Rattle.std.specs.Prelude.{Some}
 use Rattle.forest.proofs.Cases.{by_bool}
 use Rattle.forest.specs.Place.{Cells, Side, cell_row, cell_spine, cell_run}
 use Rattle.forest.specs.Sides.{other}
@@ -30,15 +31,15 @@ use Rattle.place_cells.proofs.Stack.{cells-none, cells-top, add-some, run-begins
 
 -- what an answer of the code says
 module _ {t s : List ℕ} {j : ℕ} {r : Reach} {y : Option Node} (h : Reached t s j r y) where
-  pub found_turn : {k v : ℕ} → r ≡ Reach.Turn k v → (y ≡ some (turned_at (facts_in t) Side.left v (cells_in s k))) × Turning t s k Side.left v × (k ≤ j)
+  pub found_turn : {k v : ℕ} → r ≡ Reach.Turn k v → (y ≡ Some (turned_at (facts_in t) Side.left v (cells_in s k))) × Turning t s k Side.left v × (k ≤ j)
   unfolding reached Turned ReachedOf
   found_turn q = (sym h.node ∙ ap (λ (z : Reach). reached (facts_in t) z s) q, subst (Turned t s) q h.turned, subst (ReachedOf j) q h.keeps)
 
-  pub found-kept : {k a : ℕ} → r ≡ Reach.Kept k a → (y ≡ some (a, cells_in s k)) × (k ≤ j)
+  pub found-kept : {k a : ℕ} → r ≡ Reach.Kept k a → (y ≡ Some (a, cells_in s k)) × (k ≤ j)
   unfolding reached ReachedOf
   found-kept q = (sym h.node ∙ ap (λ (z : Reach). reached (facts_in t) z s) q, subst (ReachedOf j) q h.keeps)
 
-  pub found_none : r ≡ Reach.Off → y ≡ none
+  pub found_none : r ≡ Reach.Off → y ≡ None
   unfolding reached
   found_none q = sym h.node ∙ ap (λ (z : Reach). reached (facts_in t) z s) q
 
@@ -50,20 +51,20 @@ reached-more b e (Reach.Turn i v) h = record { node = h.node ∙ e; turned = h.t
 reached-more b e (Reach.Kept i a) h = record { node = h.node ∙ e; turned = h.turned; keeps = let c = h.keeps in omega arith }
 
 module _ {t s : List ℕ} {k : ℕ} {l : Letter} {r : Outcome} {y : Option Node} (h : Decided t s k l r y) where
-  pub took : {x : Change} → r ≡ Outcome.Node x → (y ≡ some (change_node (facts_in t) l x s)) × Able t s l x × (keep_of x ≤ k)
+  pub took : {x : Change} → r ≡ Outcome.Node x → (y ≡ Some (change_node (facts_in t) l x s)) × Able t s l x × (keep_of x ≤ k)
   unfolding outcome AbleTo KeepsFew
   took q = (sym h.node ∙ ap (λ (z : Outcome). outcome (facts_in t) l z s) q, subst (AbleTo t s l) q h.able, subst (KeepsFew k) q h.keeps)
 
-  pub took-none : r ≡ Outcome.Nowhere → y ≡ none
+  pub took-none : r ≡ Outcome.Nowhere → y ≡ None
   unfolding outcome
   took-none q = sym h.node ∙ ap (λ (z : Outcome). outcome (facts_in t) l z s) q
 
 -- a decision to a node, and to nowhere
-pub decided : {t s : List ℕ} {k : ℕ} {l : Letter} (x : Change) {y : Option Node} → some (change_node (facts_in t) l x s) ≡ y → Able t s l x → keep_of x ≤ k → Decided t s k l (Outcome.Node x) y
+pub decided : {t s : List ℕ} {k : ℕ} {l : Letter} (x : Change) {y : Option Node} → Some (change_node (facts_in t) l x s) ≡ y → Able t s l x → keep_of x ≤ k → Decided t s k l (Outcome.Node x) y
 unfolding outcome AbleTo KeepsFew
 decided x e a b = record { node = e; able = a; keeps = b }
 
-pub decided-none : {t s : List ℕ} {k : ℕ} {l : Letter} {y : Option Node} → none ≡ y → Decided t s k l Outcome.Nowhere y
+pub decided-none : {t s : List ℕ} {k : ℕ} {l : Letter} {y : Option Node} → None ≡ y → Decided t s k l Outcome.Nowhere y
 unfolding outcome AbleTo KeepsFew
 decided-none e = record { node = e; able = tt; keeps = tt }
 
@@ -88,11 +89,11 @@ down-beside d (Outcome.Node (Change.Row k n o)) h = record { node = h.node; able
 down-beside d (Outcome.Node (Change.Spine k a)) h = record { node = h.node; able = h.able; keeps = h.keeps }
 
 -- one of two answers
-pub else-some : {x : Option Node} {y : Node} (z : Option Node) → x ≡ some y → or_else x z ≡ some y
+pub else-some : {x : Option Node} {y : Node} (z : Option Node) → x ≡ Some y → or_else x z ≡ Some y
 unfolding or_else
 else-some z e = rw e
 
-pub else-none : {x : Option Node} (z : Option Node) → x ≡ none → or_else x z ≡ z
+pub else-none : {x : Option Node} (z : Option Node) → x ≡ None → or_else x z ≡ z
 unfolding or_else
 else-none z e = rw e
 
@@ -121,67 +122,67 @@ unfolding tail is_nil number_of
 end-number s k d h = rw (cells-top s k (omega arith), cells-top s (k - 1) (omega arith))
 
 module _ (F : Facts) where
-  pub opened-cells : (a : ℕ) (cs : Cells) → ◌≡◌ {A = Node} (F.last Side.left (outer F a), add (run_cell F Side.left (outer F a)) (add (cell (cell_spine, a, 0, 0)) cs)) (opened F a cs)
+  pub opened-cells : (a : ℕ) (cs : Cells) → ◌≡◌ {A = Node} (F.last Side.left (outer F a), add (run_cell F Side.left (outer F a)) (add (Some (cell (cell_spine, a, 0, 0))) cs)) (opened F a cs)
   unfolding opened top_kind
   opened-cells a cs =
       ap (λ (l : Cells). let n : Node = (F.last Side.left (outer F a), l) in n)
-      (ap (add (run_cell F Side.left (outer F a))) (add-some (cell (cell_spine, a, 0, 0)) cs refl)
+      (ap (add (run_cell F Side.left (outer F a))) (add-some (cell (cell_spine, a, 0, 0)) cs)
       ∙ run-begins F Side.left (outer F a) ((cell_spine, a, 0, 0) ∷ cs) (spine-no-run Side.left))
 
   -- the run across a row that is opened
-  pub row-run : (s : Side) (d v : ℕ) (cs : Cells) → add (run_cell F s v) (add (cell (cell_row, d, v, 0)) cs) ≡ run F s v ((cell_row, d, v, 0) ∷ cs)
+  pub row-run : (s : Side) (d v : ℕ) (cs : Cells) → add (run_cell F s v) (add (Some (cell (cell_row, d, v, 0))) cs) ≡ run F s v ((cell_row, d, v, 0) ∷ cs)
   unfolding top_kind
-  row-run s d v cs = ap (add (run_cell F s v)) (add-some (cell (cell_row, d, v, 0)) cs refl) ∙ run-begins F s v ((cell_row, d, v, 0) ∷ cs) (row-no-run s)
+  row-run s d v cs = ap (add (run_cell F s v)) (add-some (cell (cell_row, d, v, 0)) cs) ∙ run-begins F s v ((cell_row, d, v, 0) ∷ cs) (row-no-run s)
 
   module _ (s : Side) (d a : ℕ) (cs : Cells) where
-    pub enter-empty : F.is_empty a ≡ true → enter F s d a cs ≡ none
+    pub enter-empty : F.is_empty a ≡ true → enter F s d a cs ≡ None
     unfolding enter
     enter-empty e = rw e
 
-    pub enter-some : F.is_empty a ≡ false → enter F s d a cs ≡ some (entered F s d (F.representative a) cs)
+    pub enter-some : F.is_empty a ≡ false → enter F s d a cs ≡ Some (entered F s d (F.representative a) cs)
     unfolding enter entered
     enter-some e = rw e
 
-  pub inward-part : (cs : Cells) {x : Node} → beside_top F Side.right (pop_run Side.right cs) ≡ some x → inward F cs ≡ some x
+  pub inward-part : (cs : Cells) {x : Node} → beside_top F Side.right (pop_run Side.right cs) ≡ Some x → inward F cs ≡ Some x
   unfolding inward beside or_else
   inward-part cs e = rw e
 
-  pub inward-off : (cs : Cells) → beside_top F Side.right (pop_run Side.right cs) ≡ none
-      → inward F cs ≡ map (λ (c : ℕ). opened F c cs) (continuing F (pop_run Side.right cs))
+  pub inward-off : (cs : Cells) → beside_top F Side.right (pop_run Side.right cs) ≡ None
+      → inward F cs ≡ option_map (λ (c : ℕ). opened F c cs) (continuing F (pop_run Side.right cs))
   unfolding inward beside or_else
   inward-off cs e = rw e
 
-  pub part_none : (cs : Cells) → is_part (F.rule (standing F cs)) ≡ false → part_at F cs ≡ none
+  pub part_none : (cs : Cells) → is_part (F.rule (standing F cs)) ≡ false → part_at F cs ≡ None
   unfolding part_at
   part_none cs e = rw e
 
-  pub part-here : (cs : Cells) → is_part (F.rule (standing F cs)) ≡ true → part_at F cs ≡ some (standing F cs, cs)
+  pub part-here : (cs : Cells) → is_part (F.rule (standing F cs)) ≡ true → part_at F cs ≡ Some (standing F cs, cs)
   unfolding part_at
   part-here cs e = rw e
 
-  pub outward-part : (cs : Cells) {x : Node} → beside_top F Side.left (pop_run Side.left cs) ≡ some x → outward F cs ≡ some x
+  pub outward-part : (cs : Cells) {x : Node} → beside_top F Side.left (pop_run Side.left cs) ≡ Some x → outward F cs ≡ Some x
   unfolding outward beside under or_else
   outward-part cs e = rw e
 
-  pub outward-off : (cs : Cells) → beside_top F Side.left (pop_run Side.left cs) ≡ none → outward F cs ≡ part_at F (tail (pop_run Side.left cs))
+  pub outward-off : (cs : Cells) → beside_top F Side.left (pop_run Side.left cs) ≡ None → outward F cs ≡ part_at F (tail (pop_run Side.left cs))
   unfolding outward beside under or_else
   outward-off cs e = rw e
 
-  pub parent-part : (p : ℕ) (cs : Cells) {x : Node} → outward F cs ≡ some x → parent F (p, cs) ≡ some x
+  pub parent-part : (p : ℕ) (cs : Cells) {x : Node} → outward F cs ≡ Some x → parent F (p, cs) ≡ Some x
   unfolding parent or_else
   parent-part p cs e = rw e
 
-  pub parent-off : (p : ℕ) (cs : Cells) → outward F cs ≡ none → parent F (p, cs) ≡ node_at F (below_row (under cs))
+  pub parent-off : (p : ℕ) (cs : Cells) → outward F cs ≡ None → parent F (p, cs) ≡ node_at F (below_row (under cs))
   unfolding parent or_else
   parent-off p cs e = rw e
 
   -- read off the top of cells 1 to k
   module _ (s : List ℕ) (k : ℕ) where
-    pub continuing-none : k ≡ 0 → continuing F (cells_in s k) ≡ none
+    pub continuing-none : k ≡ 0 → continuing F (cells_in s k) ≡ None
     unfolding continuing
     continuing-none e = rw (cells-none s k e)
 
-    pub continuing-other : 0 < k → ((cell_at s k).0 ≡ cell_spine → ⊥) → continuing F (cells_in s k) ≡ none
+    pub continuing-other : 0 < k → ((cell_at s k).0 ≡ cell_spine → ⊥) → continuing F (cells_in s k) ≡ None
     unfolding continuing
     continuing-other h e = rw (cells-top s k h, ne_eqb _ _ e)
 
@@ -189,11 +190,11 @@ module _ (F : Facts) where
     unfolding continuing
     continuing-spine h e = rw (cells-top s k h, eq-eqb _ _ e)
 
-    pub node-none : k ≡ 0 → node_at F (cells_in s k) ≡ none
+    pub node-none : k ≡ 0 → node_at F (cells_in s k) ≡ None
     unfolding node_at
     node-none e = rw (cells-none s k e)
 
-    pub node-here : 0 < k → node_at F (cells_in s k) ≡ some (standing F (cells_in s k), cells_in s k)
+    pub node-here : 0 < k → node_at F (cells_in s k) ≡ Some (standing F (cells_in s k), cells_in s k)
     unfolding node_at
     node-here h = rw (cells-top s k h)
 

@@ -5,8 +5,9 @@ use Prim.Native.Nat.{ℕ, suc, ◌+◌, ◌-◌, ◌≤◌, ◌<◌}
 use native.Mathlib.Omega.{arith}
 use mathlib.Core.Path.{◌≡◌, sym, ap, ◌∙◌}
 use mathlib.Core.List.{List, ◌∷◌}
-use mathlib.Core.Option.{none, some as some'}
+use Rattle.std.specs.Prelude.{None, Some as some'}
 use borrow.Author.Tests.{eq-eqb, ne_eqb, le-leb, lt-leb}
+use Rattle.std.specs.Prelude.{Some}
 use Rattle.forest.specs.Place.{Cell, Cells, Side, cell_spine, cell_run, step}
 use Rattle.forest.specs.Sides.{other}
 use Rattle.forest.specs.Walk.{cell_at, cells_in}
@@ -18,7 +19,7 @@ use Rattle.place_cells.specs.Cells.{cell, run_cell}
 use Rattle.place_cells.specs.Changes.{add}
 use Rattle.move_parts.specs.Moves.{above_top, Turning}
 use Rattle.move_parts.specs.Change.{turned_at}
-use Rattle.place_cells.proofs.Stack.{cells-none, cells-top, add-some, add-run, run-some, apart-back, step-kind, run-begins, above_first}
+use Rattle.place_cells.proofs.Stack.{cells-none, cells-top, add-some, add-run, apart-back, step-kind, run-begins, above_first}
 
 -- the rule that cells 1 to k stand at
 module _ (s : List ℕ) (k : ℕ) (F : Facts) where
@@ -48,14 +49,14 @@ module _ (t s : List ℕ) (k : ℕ) (d : Side) (some : 0 < k) where
 
   pub steps-short : (above to : ℕ) → above ≡ above_top t s k d → (cell_at s k).0 ≡ cell_run (other d)
       → (facts_in t).depth (other d) (cell_at s k).2 + 1 < (facts_in t).depth (other d) (cell_at s k).1
-      → add (cell (cell_run d, above, to, 0)) (add (cell ((cell_at s k).0, (cell_at s k).1, above, (cell_at s k).3)) (cells_in s (k - 1)))
+      → add (Some (cell (cell_run d, above, to, 0))) (add (Some (cell ((cell_at s k).0, (cell_at s k).1, above, (cell_at s k).3))) (cells_in s (k - 1)))
       ≡ step d above to (shrunk (facts_in t) (other d) (cells_in s k))
   unfolding shrunk top_kind
   steps-short above to q e h =
       let F = facts_in t in let c = cell_at s k in
       let shorter : Cell = (c.0, c.1, above, c.3) in
       let kept : suc (F.depth (other d) c.2) < F.depth (other d) c.1 = omega arith in
-      ap (add (cell (cell_run d, above, to, 0))) (add-some (cell shorter) (cells_in s (k - 1)) (rw e (run-some (other d))))
+      ap (add (Some (cell (cell_run d, above, to, 0)))) (add-some (cell shorter) (cells_in s (k - 1)))
       ∙ add-run d above to (shorter ∷ cells_in s (k - 1))
       ∙ sym (step-begins d above to (shorter ∷ cells_in s (k - 1)) (rw e (apart-back d)))
       ∙ ap (step d above to) (sym (rw (cells-top s k some, lt-leb _ _ kept) (ap (λ (v : ℕ). (c.0, c.1, v, c.3) ∷ cells_in s (k - 1)) (sym q))))
@@ -66,11 +67,11 @@ module _ (t s : List ℕ) (k : ℕ) (d : Side) (some : 0 < k) where
   unfolding beside_top
   beside-turns e = rw (cells-top s k some, eq-eqb _ _ e)
 
-  pub beside-other : ((cell_at s k).0 ≡ cell_run (other d) → ⊥) → beside_top (facts_in t) d (cells_in s k) ≡ none
+  pub beside-other : ((cell_at s k).0 ≡ cell_run (other d) → ⊥) → beside_top (facts_in t) d (cells_in s k) ≡ None
   unfolding beside_top
   beside-other e = rw (cells-top s k some, ne_eqb _ _ e)
 
-pub beside_none : (F : Facts) (s : List ℕ) (k : ℕ) (d : Side) → k ≡ 0 → beside_top F d (cells_in s k) ≡ none
+pub beside_none : (F : Facts) (s : List ℕ) (k : ℕ) (d : Side) → k ≡ 0 → beside_top F d (cells_in s k) ≡ None
 unfolding beside_top
 beside_none F s k d e = rw (cells-none s k e)
 

@@ -1,6 +1,6 @@
 -- What a letter changes of a place: the cells that it keeps, and the few numbers that the others are made of.
 use Rattle.std.specs.Prelude.{ℕ, ◌≤◌, ◌≡◌, cond, List, ◌∷◌}
-use Rattle.std.proofs.Math.Option.{Option, none, some}
+use Rattle.std.specs.Prelude.{Option, None, Some}
 use Rattle.forest.specs.Place.{Cells, Side, cell_row}
 use Rattle.forest.specs.Sides.{other}
 use Rattle.forest.specs.Letter.{Letter}
@@ -56,8 +56,8 @@ change_node F l (Change.Row k n o) s = entered F (entry_side l) n o (cells_in s 
 change_node F l (Change.Spine k a) s = opened F a (cells_in s k)
 
 unfoldable pub outcome : Facts → Letter → Outcome → List ℕ → Option Node
-outcome F l (Outcome.Node x) s = some (change_node F l x s)
-outcome F l Outcome.Nowhere s = none
+outcome F l (Outcome.Node x) s = Some (change_node F l x s)
+outcome F l Outcome.Nowhere s = None
 
 -- what the writing of a change asks, by the letter, of the cases that it has: a run that turns at that rule, rules that have rows
 unfoldable pub AbleRoot : List ℕ → Change → Type 0
@@ -136,9 +136,9 @@ row_outcome F k n a = cond (F.is_empty a) Outcome.Nowhere (Outcome.Node (Change.
 
 -- the part that is reached in a spine: by a turn to the left, or on cells that are kept
 unfoldable pub reached : Facts → Reach → List ℕ → Option Node
-reached F (Reach.Turn k v) s = some (turned_at F Side.left v (cells_in s k))
-reached F (Reach.Kept k r) s = some (r, cells_in s k)
-reached F Reach.Off s = none
+reached F (Reach.Turn k v) s = Some (turned_at F Side.left v (cells_in s k))
+reached F (Reach.Kept k r) s = Some (r, cells_in s k)
+reached F Reach.Off s = None
 
 unfoldable pub Turned : List ℕ → List ℕ → Reach → Type 0
 Turned t s (Reach.Turn k v) = Turning t s k Side.left v

@@ -1,6 +1,6 @@
 -- What a move decides, and what it asks of the table and the cursor.
 use Rattle.std.specs.Prelude.{ℕ, ◌<◌, ◌≡◌, List, [], ◌∷◌}
-use Rattle.std.proofs.Math.Option.{Option, none, some}
+use Rattle.std.specs.Prelude.{Option, None, Some}
 use Rattle.forest.specs.Place.{Cell, Cells, Side, cell_row, cell_run}
 use Rattle.forest.specs.Sides.{other}
 use Rattle.forest.specs.Walk.{cell_at, cells_in}
@@ -8,7 +8,6 @@ use Rattle.model.specs.Model.{Node, one_above, beside_top}
 use Rattle.facts.specs.Facts.{In, facts_in, Climbs}
 use Rattle.facts.specs.Closes.{Closes}
 use Rattle.place_cells.specs.Cells.{Lies}
-use Rattle.move_parts.specs.declared.Above.{Above}
 
 -- P holds of every cell
 unfoldable pub Each : (Cell → Type 0) → Cells → Type 0
@@ -26,8 +25,8 @@ node_has P x = P x.0 × Each (Fits P) x.1
 
 -- of a node, if there is one
 unfoldable pub Kept : (ℕ → Type 0) → Option Node → Type 0
-Kept P none = Unit {0}
-Kept P (some x) = node_has P x
+Kept P None = Unit {0}
+Kept P (Some x) = node_has P x
 
 -- the table closes and can be climbed, and cells 1 to k lie in the cursor and name only rules that have rows
 pub record Held (t s : List ℕ) (k : ℕ) : Type 0 where
@@ -51,6 +50,6 @@ abbrev pub Turning : List ℕ → List ℕ → ℕ → Side → ℕ → Type 0
 Turning t s k side v = Turns t s k side × (v ≡ above_top t s k side)
 
 -- what lies beside on a side, where no run to that side is on top: the run on top turns at the rule above its last, or nothing does
-pub record Turnable (t s : List ℕ) (k : ℕ) (side : Side) (r : Above) : Type 0 where
-  pub turns : (v : ℕ) → r ≡ Above.Rule v → Turning t s k side v
-  pub off : r ≡ Above.Off → beside_top (facts_in t) side (cells_in s k) ≡ none
+pub record Turnable (t s : List ℕ) (k : ℕ) (side : Side) (r : Option ℕ) : Type 0 where
+  pub turns : (v : ℕ) → r ≡ Some v → Turning t s k side v
+  pub off : r ≡ None → beside_top (facts_in t) side (cells_in s k) ≡ None

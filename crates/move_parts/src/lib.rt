@@ -2,7 +2,7 @@
 #![tactic(auto)]
 
 ghost use Rattle.std.specs.Prelude.{◌≡◌, ℕ, List};
-ghost use Rattle.std.proofs.Math.Option.{map};
+ghost use Rattle.std.specs.Prelude.{option_map};
 ghost use Rattle.forest.specs.Place as place;
 ghost use Rattle.forest.specs.Letter.{Letter};
 ghost use Rattle.forest.specs.Walk.{cells_in};
@@ -16,13 +16,6 @@ ghost use Rattle.move_parts.specs.Change.{Decided, Reached, row_outcome};
 use place_cells::Cell;
 use rule::Rule;
 use side::Side;
-
-// The rule above the last of a run that turns, if one does.
-#[derive(Clone, Copy)]
-pub enum Above {
-    Rule(u16),
-    Off,
-}
 
 // The part in whose hole a node stands, if it stands in one: a run that turns, or cells that are kept, and its rule.
 #[derive(Clone, Copy)]
@@ -73,15 +66,15 @@ pub enum Outcome {
     Nowhere,
 }
 
-// The longest run from a rule to a side, no cell if it has no step.
-pub fn run_from(work: &[u8], side: Side, a: u16) -> Cell
+// The longest run from a rule to a side, none if it has no step.
+pub fn run_from(work: &[u8], side: Side, a: u16) -> Option<Cell>
     requires { In work.now a }
     ensures { result ≡ run_cell (facts_in work.now) (side_of side) a }
 {
     if facts::depth_at(work, side, a) == 0 {
-        return Cell::none();
+        return None;
     }
-    Cell::run(side, a, facts::last_at(work, side, a))
+    Some(Cell::run(side, a, facts::last_at(work, side, a)))
 }
 
 // The rule that a place stands at.
@@ -99,20 +92,20 @@ pub fn standing(work: &[u8], cursor: &[u8], k: usize) -> u16
     top.two
 }
 
-// The rule at which the run on top turns to a side, where no run to that side is on top.
-pub fn above_top(work: &[u8], cursor: &[u8], k: usize, side: Side) -> Above
+// The rule at which the run on top turns to a side, where no run to that side is on top: the rule above its last, if it turns.
+pub fn above_top(work: &[u8], cursor: &[u8], k: usize, side: Side) -> Option<u16>
     requires { Held work.now cursor.now k }
     ensures { Turnable work.now cursor.now k (side_of side) result }
 {
     if k == 0 {
-        return Above::Off;
+        return None;
     }
     let top = Cell::read(cursor, k);
     let back = side.other();
     if top.kind == Cell::run_kind(back) {
-        return Above::Rule(facts::one_above(work, back, top.one, top.two));
+        return Some(facts::one_above(work, back, top.one, top.two));
     }
-    Above::Off
+    None
 }
 
 // The root of the tree that the spine opened on top of j cells continues in, opened on k cells.
@@ -120,7 +113,7 @@ fn continued(work: &[u8], cursor: &[u8], j: usize, k: usize) -> Outcome
     requires { Held work.now cursor.now j }
     ensures { let cursor = cursor.entry.now in
         let work = work.entry.now in
-        ((d : place.Side) → Decided work cursor k (Letter.child d) result (map (λ (c : ℕ). opened (facts_in work) c (cells_in cursor k))
+        ((d : place.Side) → Decided work cursor k (Letter.child d) result (option_map (λ (c : ℕ). opened (facts_in work) c (cells_in cursor k))
         (continuing (facts_in work) (cells_in cursor j)))) }
 {
     if j == 0 {
@@ -147,7 +140,7 @@ pub fn inward(work: &[u8], cursor: &[u8], k: usize) -> Outcome
         ((d : place.Side) → Decided work cursor k (Letter.child d) result (inward (facts_in work) (cells_in cursor k))) }
 {
     let j = place_cells::pop_run(cursor, k, Side::Right);
-    if let Above::Rule(above) = above_top(work, cursor, j, Side::Right) {
+    if let Some(above) = above_top(work, cursor, j, Side::Right) {
         return Outcome::Node(Change::Turn { keep: j, above });
     }
     continued(work, cursor, j, k)
@@ -175,7 +168,7 @@ pub fn outward(work: &[u8], cursor: &[u8], k: usize) -> Reach
         Reached work cursor k result (outward (facts_in work) (cells_in cursor k)) }
 {
     let j = place_cells::pop_run(cursor, k, Side::Left);
-    if let Above::Rule(above) = above_top(work, cursor, j, Side::Left) {
+    if let Some(above) = above_top(work, cursor, j, Side::Left) {
         return Reach::Turn { keep: j, above };
     }
     part_at(work, cursor, place_cells::tail(j))

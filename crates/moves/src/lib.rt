@@ -2,7 +2,7 @@
 #![tactic(auto)]
 
 ghost use Rattle.std.specs.Prelude.{◌≡◌, ℕ, List, not, ◌&&◌, eqb};
-ghost use Rattle.std.proofs.Math.Option.{some};
+ghost use Rattle.std.specs.Prelude.{Some};
 ghost use Rattle.forest.specs.Place as place;
 ghost use Rattle.forest.specs.Sides as sides;
 ghost use Rattle.forest.specs.Letter.{Letter};
@@ -21,17 +21,10 @@ ghost use Rattle.move_parts.specs.declared.Outcome.{Outcome};
 ghost use Rattle.move_parts.specs.Change.{Decided};
 ghost use Rattle.moves.specs.Arms.{arm_over, ArmUp};
 
-use move_parts::{Above, Change, Outcome, Reach};
+use move_parts::{Change, Outcome, Reach};
 use place_cells::Cell;
 use rule::Rule;
 use side::Side;
-
-// An L or R: over its representative, if it has a tree.
-#[derive(Clone, Copy)]
-enum Arm {
-    Over(u16),
-    Empty,
-}
 
 // Where ↑(v) = u, the L or R of u: it has a tree, with what leads there, or it is empty. Off where ↑(v) = ⊥.
 #[derive(Clone, Copy)]
@@ -86,7 +79,7 @@ pub fn sibling(work: &[u8], cursor: &[u8], k: usize, p: u16, side: Side) -> Outc
         UpArm::Off => {}
     }
     let j = place_cells::pop_run(cursor, place_cells::under(cursor, k), side);
-    if let Above::Rule(above) = move_parts::above_top(work, cursor, j, side) {
+    if let Some(above) = move_parts::above_top(work, cursor, j, side) {
         // 3. ↑(v) = ⊥, →(h) = h' ≠ ⊥ and z(h') = D: w((d, h'), Δ(D))
         return Outcome::Node(Change::Tree { keep: j, above });
     }
@@ -111,7 +104,7 @@ fn up_arm(work: &[u8], cursor: &[u8], k: usize, side: Side) -> UpArm
             let to = facts::toward_at(work, Side::Left, above);
             let rule = facts::last_at(work, Side::Right, to);
             match arm_of(work, rule, side) {
-                Arm::Over(over) => {
+                Some(over) => {
                     let number = Cell::part_row(side);
                     UpArm::HasTree(Change::Beside {
                         keep,
@@ -120,34 +113,34 @@ fn up_arm(work: &[u8], cursor: &[u8], k: usize, side: Side) -> UpArm
                         over,
                     })
                 }
-                Arm::Empty => UpArm::IsEmpty,
+                None => UpArm::IsEmpty,
             }
         }
         Reach::Kept { keep, rule } => match arm_of(work, rule, side) {
-            Arm::Over(over) => {
+            Some(over) => {
                 let number = Cell::part_row(side);
                 UpArm::HasTree(Change::Row { keep, number, over })
             }
-            Arm::Empty => UpArm::IsEmpty,
+            None => UpArm::IsEmpty,
         },
         Reach::Off => UpArm::Off,
     }
 }
 
-// The L or R, on a side, of a part with a rule; empty, where the rule is no part's.
-fn arm_of(work: &[u8], rule: u16, side: Side) -> Arm
+// The representative of the L or R, on a side, of a part with a rule; none, where it has no tree, or the rule is no part's.
+fn arm_of(work: &[u8], rule: u16, side: Side) -> Option<u16>
     requires { Closes work.now × In work.now rule }
     ensures { let F = facts_in work.now in
         result ≡ arm_over F (arm_of (side_of side) (F.rule rule)) }
 {
     let Rule::Part { left, right, .. } = facts::rule_at(work, rule) else {
-        return Arm::Empty;
+        return None;
     };
     let arm = side.pick(left, right);
     if facts::is_empty_at(work, arm) {
-        return Arm::Empty;
+        return None;
     }
-    Arm::Over(facts::representative_at(work, arm))
+    Some(facts::representative_at(work, arm))
 }
 
 // Does the row whose opening, with what lies below, is j cells end at a part's hole on a side: w ≠ ε and d = ℓ?
@@ -208,7 +201,7 @@ pub fn root(work: &[u8], r: u16) -> Outcome
 // The node with rule p that k cells lead to, itself.
 pub fn stay(k: usize, p: u16) -> Outcome
     ensures { (result ≡ Outcome.Node (Change.Kept k p))
-        × ((t s : List ℕ) → Decided t s k Letter.stay result (some (p, cells_in s k))) }
+        × ((t s : List ℕ) → Decided t s k Letter.stay result (Some (p, cells_in s k))) }
 {
     Outcome::Node(Change::Kept { keep: k, rule: p })
 }

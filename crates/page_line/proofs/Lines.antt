@@ -1,37 +1,35 @@
 -- A line has 41 bytes, since each text that is right set fills its columns; the lines of letters are that of the first and those of the rest.
 -- Assumes nothing.
-use Prim.Native.Nat.{ℕ, zero, suc, ◌+◌, ◌-◌, ◌*◌, ◌/◌, ◌<◌, ◌≤◌}
+use Prim.Native.Nat.{ℕ, zero, suc, ◌+◌, ◌-◌, ◌*◌, ◌<◌, ◌≤◌}
 use native.Mathlib.Omega.{arith}
 use native.Mathlib.Nat.{sub-zero}
 use native.Mathlib.Numerals.{add-one}
-use mathlib.Core.Path.{◌≡◌, refl, sym, ap, ◌∙◌}
+use mathlib.Core.Path.{◌≡◌, refl, sym, ap}
 use mathlib.Core.List.{List, [], ◌∷◌, ◌++◌}
-use mathlib.Core.Option.{Option}
+use Rattle.std.specs.Prelude.{Option}
 use lib.ListN.{length, get_or, take, drop, replicate, length-append, length-replicate}
 use lib.Seq.{drop-cons, drop-length}
 use Rattle.words.specs.Number.{number}
 use Rattle.forest.specs.Walk.{answer_length, nowhere}
 use Rattle.demand.specs.Demand.{answer_words}
-use Rattle.decimal.specs.Decimal.{digit, decimal, decimal-one, decimal-more}
-use Rattle.decimal.specs.Put.{Put}
+use Rattle.decimal.specs.Decimal.{decimal}
+use Rattle.decimal.specs.Text.{Pushed}
+use Rattle.decimal.specs.declared.Text.{Text}
 use Rattle.decimal.proofs.Decimals.{decimal-length}
 use Rattle.stroll_line.specs.Lines.{line_end, shown}
 use Rattle.stroll_line.specs.Said.{answer_of, answers_from}
 use Rattle.stroll_line.proofs.Shown.{shown-nowhere, answers-more}
 use Rattle.page_line.specs.Page.{right_set, page_line, line_bytes, numbered, blank_line, blank_lines, most_number, Short, Shorts}
 
--- what a writer ensures: the text, and where it ends
-pub put-so : {text s t : List ℕ} {at end : ℕ} (k : ℕ) → length text ≡ k → Put text at s t end → Put text at s t end × (end ≡ at + k)
-put-so k e P = (P, omega arith)
+-- what a writer ensures: the bytes, and how many
+pub pushed-so : {bytes : List ℕ} {s t : Text} (k : ℕ) → length bytes ≡ k → Pushed bytes s t → Pushed bytes s t × (t.len ≡ s.len + k)
+pushed-so k e P = (P, omega (arith, P.put.ends))
 
 -- ---- blanks
 pub blanks-taken : (n m x : ℕ) → n ≤ m → take n (replicate m x) ≡ replicate n x
 blanks-taken zero m x h = refl
 blanks-taken (suc n) zero x h = absurd (omega arith)
 blanks-taken (suc n) (suc m) x h = ap (λ (l : List ℕ). x ∷ l) (blanks-taken n m x (omega arith))
-
-pub taken-long : (n m x : ℕ) → n ≤ m → length (take n (replicate m x)) ≡ n
-taken-long n m x h = ap length (blanks-taken n m x h) ∙ length-replicate n x
 
 pub right-long : (width : ℕ) (text : List ℕ) → length text ≤ width → length (right_set width text) ≡ width
 unfolding right_set
@@ -58,12 +56,6 @@ unfolding blank_lines
 blanks-none m i h = let e : m - i ≡ 0 = omega arith in rw e
 
 -- ---- digits
-pub digits-one : (v : ℕ) → v < 10 → length (decimal v) ≡ 1
-digits-one v h = ap length (decimal-one v h)
-
-pub digits_more : (v : ℕ) → 10 ≤ v → length (decimal v) ≡ length (decimal (v / 10)) + 1
-digits_more v h = ap length (decimal-more v h) ∙ length-append (decimal (v / 10)) (digit v ∷ [])
-
 pub number_short : (i : ℕ) → i ≤ most_number → length (decimal i) ≤ 6
 number_short i h = decimal-length 5 i (omega arith)
 

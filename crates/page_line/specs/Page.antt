@@ -1,6 +1,6 @@
 -- The lines of a page (document 02, Note 13).
 use Rattle.std.specs.Prelude.{ℕ, zero, suc, ◌-◌, ◌≤◌, List, [], ◌∷◌, ◌++◌, length, replicate}
-use Rattle.std.proofs.Math.Option.{Option}
+use Rattle.std.specs.Prelude.{Option}
 use Rattle.decimal.specs.Decimal.{decimal}
 use Rattle.stroll_line.specs.Lines.{line_end, shown}
 

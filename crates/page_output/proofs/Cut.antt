@@ -5,7 +5,7 @@ use Prim.Native.Nat.{ℕ, suc, ◌+◌, ◌-◌, ◌*◌, ◌%◌, ◌≤◌}
 use native.Mathlib.Omega.{arith}
 use mathlib.Core.Path.{◌≡◌, refl, sym, ap, ap₂, ◌∙◌}
 use mathlib.Core.List.{List, [], ◌∷◌, ◌++◌, append_assoc, append-nil}
-use mathlib.Core.Option.{Option, none, some}
+use Rattle.std.specs.Prelude.{Option, None, Some}
 use lib.ListN.{length, take, drop, replicate, length-append, length-drop, take-append-drop, drop_of_length-le}
 use lib.Seq.{length-take-le, drop-drop}
 use lib.Dec.{ltb}
@@ -29,18 +29,18 @@ use Rattle.page_output.proofs.Walks.{plan-short, walking-begins}
 
 -- ---- letters in parts
 -- from where others are counted changes nothing
-others-at : (x : Option Letter) (i j : ℕ) (later : Option ℕ) {later' : Option ℕ} → later' ≡ none → other_at x i later ≡ none → other_at x j later' ≡ none
+others-at : (x : Option Letter) (i j : ℕ) (later : Option ℕ) {later' : Option ℕ} → later' ≡ None → other_at x i later ≡ None → other_at x j later' ≡ None
 unfolding other_at
-others-at none i j later q h = let z : ◌≡◌ {A = ℕ} 0 1 = cc in absurd (omega arith)
-others-at (some c) i j later q h = q
+others-at None i j later q h = let z : ◌≡◌ {A = ℕ} 0 1 = cc in absurd (omega arith)
+others-at (Some c) i j later q h = q
 
 -- a part of letters has letters alone
-others-front : (a b : List ℕ) (i j : ℕ) → first_other (a ++ b) i ≡ none → first_other a j ≡ none
+others-front : (a b : List ℕ) (i j : ℕ) → first_other (a ++ b) i ≡ None → first_other a j ≡ None
 unfolding first_other
 others-front [] b i j e = refl
 others-front (x ∷ a) b i j e = others-at (letter_of x) i j _ (others-front a b (suc i) (suc j) (letters-more (letter_of x) i e)) e
 
-others-back : (a b : List ℕ) (i : ℕ) → first_other (a ++ b) i ≡ none → first_other b 0 ≡ none
+others-back : (a b : List ℕ) (i : ℕ) → first_other (a ++ b) i ≡ None → first_other b 0 ≡ None
 unfolding first_other
 others-back [] b i e = others-front b [] i 0 (ap (λ (l : List ℕ). first_other l i) (append-nil b) ∙ e)
 others-back (x ∷ a) b i e = others-back a b (suc i) (letters-more (letter_of x) i e)
@@ -95,7 +95,7 @@ module _ (i : ℕ) (a b : List ℕ) (xs ys : List (Option ℕ)) (same : length x
 
 -- ---- a page
 module _ {plan log : List ℕ} {n start : ℕ} {cursor : List ℕ} {at done : ℕ} (K : Page plan log n start cursor at done)
-    (few : length log ≤ most_logged) (every : first_other log 0 ≡ none) {end : ℕ} (E : Ends (length log) at end) where
+    (few : length log ≤ most_logged) (every : first_other log 0 ≡ None) {end : ℕ} (E : Ends (length log) at end) where
   abbrev g : Forest ℕ
   g = forest (rules_of plan) start
 
@@ -117,9 +117,9 @@ module _ {plan log : List ℕ} {n start : ℕ} {cursor : List ℕ} {at done : �
   part-few : length part ≤ page_lines
   part-few = omega (arith, part-long, E.few)
 
-  part-letters : first_other part 0 ≡ none
+  part-letters : first_other part 0 ≡ None
   part-letters =
-      let whole : first_other (take at log ++ drop at log) 0 ≡ none = rw (take-append-drop at log) every in
+      let whole : first_other (take at log ++ drop at log) 0 ≡ None = rw (take-append-drop at log) every in
       others-front part later 0 0 (ap (λ (l : List ℕ). first_other l 0) (sym split) ∙ others-back (take at log) (drop at log) 0 whole)
 
   part-numbers : at + 1 + length part ≤ most_number + 1

@@ -5,11 +5,10 @@ use native.Mathlib.Omega.{arith}
 use mathlib.Core.Path.{◌≡◌, refl, sym, ap, ◌∙◌, subst}
 use mathlib.Core.Bool.{true, false}
 use mathlib.Core.List.{List, [], ◌∷◌, ◌++◌, map}
-use mathlib.Core.Option.{Option, none}
+use Rattle.std.specs.Prelude.{Option, None, Ok}
 use lib.ListN.{length, replicate, length-replicate}
 use borrow.Author.Tests.{le-leb}
 use Rattle.words.specs.Number.{word_count}
-use Rattle.plan.specs.declared.Checked.{Checked}
 use Rattle.plan.specs.Check.{checked, checked_up_to, most_rules, rules_of}
 use Rattle.plan.proofs.Sound.{accepted-plan, accepted-more}
 use Rattle.forest.specs.Forest.{Forest, forest}
@@ -39,7 +38,7 @@ pub record Went (plan : List ℕ) (n start : ℕ) (letters : List ℕ) (path : P
   pub walking : Walking plan n start cursor (path_after (forest (rules_of plan) start) (letters_of letters) path)
 
 module _ {plan : List ℕ} {n start : ℕ} {cursor : List ℕ} {path : Path} (W : Walking plan n start cursor path) (letters : List ℕ)
-    (few : length letters ≤ page_lines) (every : first_other letters 0 ≡ none) where
+    (few : length letters ≤ page_lines) (every : first_other letters 0 ≡ None) where
   abbrev zeros : List ℕ
   zeros = replicate most_cursor 0
 
@@ -49,7 +48,7 @@ module _ {plan : List ℕ} {n start : ℕ} {cursor : List ℕ} {path : Path} (W 
   abbrev g : Forest ℕ
   g = forest (rules_of plan) start
 
-  all : checked plan ≡ Checked.Accepted n start
+  all : checked plan ≡ Ok (record { n = n; start = start })
   unfolding checked
   all = accepted-more most_strolled most_rules plan n start (omega arith) W.accepted
 
@@ -118,7 +117,7 @@ module _ {plan : List ℕ} {n start : ℕ} {cursor : List ℕ} {path : Path} (W 
       })
 
 -- before the first letter
-pub walking-begins : {plan : List ℕ} {n start : ℕ} → checked_up_to most_strolled plan ≡ Checked.Accepted n start → Walking plan n start (replicate most_cursor 0) []
+pub walking-begins : {plan : List ℕ} {n start : ℕ} → checked_up_to most_strolled plan ≡ Ok (record { n = n; start = start }) → Walking plan n start (replicate most_cursor 0) []
 unfolding cursor_after_calls finger_path
 walking-begins e = record { accepted = e; calls = []; left = refl; there = refl }
 

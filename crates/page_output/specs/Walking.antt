@@ -1,7 +1,6 @@
 -- What the functions of pages ask and ensure.
-use Rattle.std.specs.Prelude.{ℕ, ◌+◌, ◌<◌, ◌≤◌, ◌≡◌, List, [], length, drop, replicate}
-use Rattle.std.proofs.Math.Option.{none}
-use Rattle.plan.specs.declared.Checked.{Checked}
+use Rattle.std.specs.Prelude.{ℕ, ◌+◌, ◌<◌, ◌≤◌, ◌≡◌, List, [], length, drop, replicate, Ok}
+use Rattle.std.specs.Prelude.{None}
 use Rattle.plan.specs.Check.{checked_up_to, rules_of}
 use Rattle.forest.specs.Forest.{forest}
 use Rattle.forest.specs.Reference.{Path, answers}
@@ -28,7 +27,7 @@ part_left plan cursor letters given = walk_of (lends plan (replicate most_work 0
 
 -- a cursor that some calls left, the first of them on a cursor of zeros, and the path of the reference walker then
 pub record Walking (plan : List ℕ) (n start : ℕ) (cursor : List ℕ) (path : Path) : Type 0 where
-  pub accepted : checked_up_to most_strolled plan ≡ Checked.Accepted n start
+  pub accepted : checked_up_to most_strolled plan ≡ Ok (record { n = n; start = start })
   pub calls : List Call
   pub left : cursor ≡ cursor_after_calls walk_of plan (replicate most_cursor 0) calls
   pub there : path ≡ finger_path (forest (rules_of plan) start) (turned_down n (replicate most_cursor 0)) calls []
@@ -40,16 +39,16 @@ pub record Ready (plan cursor : List ℕ) (first : ℕ) (letters : List ℕ) : T
   pub path : Path
   pub walking : Walking plan n start cursor path
   pub few : length letters ≤ page_lines
-  pub every_letter : first_other letters 0 ≡ none
+  pub every_letter : first_other letters 0 ≡ None
   pub numbers : first + length letters ≤ most_number + 1
 
 -- a plan and a log that are not refused, and what is printed then
 pub record Printable (plan log : List ℕ) : Type 0 where
   pub n : ℕ
   pub start : ℕ
-  pub accepted : checked_up_to most_strolled plan ≡ Checked.Accepted n start
+  pub accepted : checked_up_to most_strolled plan ≡ Ok (record { n = n; start = start })
   pub few : length log ≤ most_logged
-  pub every_letter : first_other log 0 ≡ none
+  pub every_letter : first_other log 0 ≡ None
   pub prints : pages_output plan log ≡ pages_from 1 log (answers (forest (rules_of plan) start) (letters_of log) [])
 
 -- where a page ends that begins at a letter: after fifty letters, or with the log

@@ -11,13 +11,10 @@ ghost use Rattle.page_line.specs.Page.{line_bytes, page_lines, page_text};
 ghost use Rattle.page_output.specs.Pages.{log_judged, pages_judged};
 ghost use Rattle.page_output.specs.Walking.{part_left, Walking, Ready};
 
-use forest::Walked;
 use letter::Letter;
 use page_line::PAGE_LINES;
-use plan::Checked;
 use refusal::Refusal;
 use stroll_output::{MOST_PLAN, MOST_STROLLED, MOST_WORK};
-use walk_lent::Found;
 
 // Letters of a log, at most.
 pub const MOST_LOGGED: usize = 999999;
@@ -26,29 +23,27 @@ pub const MOST_LOGGED: usize = 999999;
 const PAGE_ANSWERS: usize = Letter::ANSWER_LENGTH * PAGE_LINES;
 
 // The log, on an accepted plan.
-fn judge_log(log: &[u8]) -> Walked
+fn judge_log(log: &[u8]) -> Result<(), Refusal>
     ensures { result ≡ log_judged log.now }
 {
     if MOST_LOGGED < log.len() {
-        return Walked::Refused(Refusal::Lent);
+        return Err(Refusal::Lent);
     }
     match walk_lent::first_other(log) {
-        Found::At(i) => Walked::Refused(Refusal::Letter(i)),
-        Found::Nothing => Walked::Accepted,
+        Some(i) => Err(Refusal::Letter(i)),
+        None => Ok(()),
     }
 }
 
 // The plan and the log, judged before anything is printed.
-pub fn judge(plan: &[u8], log: &[u8]) -> Walked
+pub fn judge(plan: &[u8], log: &[u8]) -> Result<(), Refusal>
     ensures { result ≡ pages_judged plan.now log.now }
 {
     if MOST_PLAN < plan.len() {
-        return Walked::Refused(Refusal::Lent);
+        return Err(Refusal::Lent);
     }
-    match plan::check_up_to(plan, MOST_STROLLED) {
-        Checked::Accepted { .. } => judge_log(log),
-        Checked::Refused(why) => Walked::Refused(why),
-    }
+    plan::check_up_to(plan, MOST_STROLLED)?;
+    judge_log(log)
 }
 
 // The walk by a part of the log, in a work of its own.
@@ -56,7 +51,7 @@ fn walk_part(plan: &[u8], cursor: &mut [u8], letters: &[u8], given: &mut [u8])
     ensures { (cursor.new ≡ (part_left plan.now cursor.old letters.now given.old).cursor) × (given.new ≡ (part_left plan.now cursor.old letters.now given.old).answers) }
 {
     let mut work = [0u8; MOST_WORK];
-    walk::walk(plan, &mut work, cursor, letters, given);
+    let _ = walk::walk(plan, &mut work, cursor, letters, given);
 }
 
 // The page of at most fifty letters, walked from where the cursor stands, at the front of the output; the cursor then stands behind them.

@@ -2,115 +2,66 @@
 // on pages. What it prints is page_output's `pages_output`; here it is read, and written page by page.
 #![tactic(auto)]
 
-ghost use Rattle.std.specs.Prelude.{◌≡◌, [], ◌+◌, ◌<◌, ◌≤◌, length, take, drop};
+ghost use Rattle.std.specs.Prelude.{◌≡◌, [], ◌+◌, ◌≤◌, length, drop};
 ghost use Rattle.decimal.specs.Put.{Next};
+ghost use Rattle.stroll_line.specs.Lines.{refused_line};
 ghost use Rattle.page_output.specs.Pages.{pages_output};
-ghost use Rattle.page_output.specs.Walking.{Printable, Ends};
+ghost use Rattle.page_output.specs.Walking.{Printable};
 
-use forest::Walked;
 use page_line::{PAGE_BYTES, PAGE_LINES};
 use page_output::MOST_LOGGED;
-use std::io::{Read, Write};
-use std::rt::{Files, Stdout};
-use std::{fs, io};
+use program_io::Printer;
+use refusal::Refusal;
+use std::io;
+use std::rt::Stdout;
 use stroll_output::{MOST_CURSOR, MOST_PLAN};
 
 // Bytes of a refusal's line, at most.
 const REFUSAL: usize = 43;
 
-// Standard output, and how writing to it has gone.
-#[derive(Drop)]
-struct Printer {
-    stdout: Stdout,
-    gone: io::Result<()>,
-}
-
-// Bytes printed: those that come next in the program's output, of which so many were printed before; gives how many are printed then.
-// Nothing else here writes. After a write that failed none is tried, and main ends with its error.
-fn emit(printer: &mut Printer, plan: &[u8], log: &[u8], done: usize, bytes: &[u8]) -> usize
-    requires { Next (pages_output plan.now log.now) done bytes.now × (done + length bytes.now ≤ 2050000000) }
-    ensures { result ≡ done + length bytes.now }
+// Bytes printed: those that come next in the program's output. Nothing else here writes.
+fn emit(printer: &mut Printer<Stdout>, plan: &[u8], log: &[u8], bytes: &[u8])
+    requires { Next (pages_output plan.now log.now) printer.old.printed bytes.now × (printer.old.printed + length bytes.now ≤ 2050000000) }
+    ensures { printer.new.printed ≡ printer.old.printed + length bytes.now }
 {
-    if printer.gone.is_ok() {
-        printer.gone = Write::write_all(&mut printer.stdout, bytes);
-    }
-    done + bytes.len()
+    printer.print(bytes);
 }
 
-// Where the page ends that begins at a letter of the log.
-fn page_end(log: &[u8], at: usize) -> usize
-    requires { at < length log.now }
-    ensures { Ends (length log.now) at result }
-{
-    if log.len() - at < PAGE_LINES {
-        return log.len();
-    }
-    at + PAGE_LINES
-}
-
-// The pages of a log that is not refused; gives how many bytes were printed, after which nothing is left.
-fn print_pages(printer: &mut Printer, plan: &[u8], log: &[u8]) -> usize
+// The pages of a log that is not refused; gives the printer that printed them, after which nothing is left.
+fn print_pages(output: Stdout, plan: &[u8], log: &[u8]) -> Printer<Stdout>
     requires { Printable plan.now log.now }
-    ensures { drop result (pages_output plan.now log.now) ≡ [] }
+    ensures { drop result.printed (pages_output plan.now log.now) ≡ [] }
 {
+    let mut printer = Printer::new(output);
     let mut cursor = [0u8; MOST_CURSOR];
     let mut out = [0u8; PAGE_BYTES];
-    let mut at = 0;
-    let mut done = 0;
-    while at < log.len() {
-        let end = page_end(log, at);
-        page_output::page(plan, &mut cursor, at as u64 + 1, &log[at..end], &mut out);
-        done = emit(printer, plan, log, done, &out);
-        at = end;
+    for (i, letters) in log.chunks(PAGE_LINES).enumerate() {
+        let first = PAGE_LINES * i + 1;
+        page_output::page(plan, &mut cursor, first as u64, letters, &mut out);
+        emit(&mut printer, plan, log, &out);
     }
-    done
+    printer
 }
 
-// The line of a refusal, or the pages.
-fn print(printer: &mut Printer, plan: &[u8], log: &[u8]) -> usize
-    ensures { drop result (pages_output plan.now log.now) ≡ [] }
+// The line of a refusal; gives the printer that printed it.
+fn print_refusal(output: Stdout, plan: &[u8], log: &[u8], why: Refusal) -> Printer<Stdout>
+    requires { pages_output plan.now log.now ≡ refused_line why }
+    ensures { drop result.printed (pages_output plan.now log.now) ≡ [] }
+{
+    let mut printer = Printer::new(output);
+    let mut out = [0u8; REFUSAL];
+    let length = stroll_line::put_refusal(&mut out, why);
+    emit(&mut printer, plan, log, &out[..length]);
+    printer
+}
+
+// The line of a refusal, or the pages; gives the printer that printed them, after which nothing is left.
+fn print(output: Stdout, plan: &[u8], log: &[u8]) -> Printer<Stdout>
+    ensures { drop result.printed (pages_output plan.now log.now) ≡ [] }
 {
     match page_output::judge(plan, log) {
-        Walked::Accepted => print_pages(printer, plan, log),
-        Walked::Refused(why) => {
-            let mut out = [0u8; REFUSAL];
-            let length = stroll_line::put_refusal(&mut out, why);
-            emit(printer, plan, log, 0, &out[..length])
-        }
-    }
-}
-
-// Reads until the bytes are full, the input ends or a read fails; gives how many it put at the front of them.
-fn read_full(input: &mut impl Read, bytes: &mut [u8]) -> usize
-    ensures within { result ≤ length bytes.new }
-    ensures front { result ≡ length (take result bytes.new) }
-{
-    let mut done = 0;
-    while done < bytes.len() {
-        match input.read(&mut bytes[done..]) {
-            Ok(n) => {
-                if n == 0 {
-                    break;
-                }
-                done += n;
-            }
-            Err(_) => break,
-        }
-    }
-    done
-}
-
-// Reads a file and gives how many bytes it put at the front of what is lent. An absent file counts as empty.
-fn read(rt: &impl Files, name: &str, bytes: &mut [u8]) -> usize
-    ensures within { result ≤ length bytes.new }
-    ensures front { result ≡ length (take result bytes.new) }
-{
-    match fs::open(rt, name) {
-        Ok(file) => {
-            let mut file = file;
-            read_full(&mut file, bytes)
-        }
-        Err(_) => 0,
+        Ok(()) => print_pages(output, plan, log),
+        Err(why) => print_refusal(output, plan, log, why),
     }
 }
 
@@ -118,12 +69,7 @@ fn read(rt: &impl Files, name: &str, bytes: &mut [u8]) -> usize
 fn main(rt: HostRuntime) -> io::Result<()> {
     let mut plan = [0u8; MOST_PLAN + 1];
     let mut log = [0u8; MOST_LOGGED + 1];
-    let plan_length = read(&rt, "plan.bin", &mut plan);
-    let log_length = read(&rt, "keys.log", &mut log);
-    let mut printer = Printer {
-        stdout: rt.stdout(),
-        gone: Ok(()),
-    };
-    print(&mut printer, &plan[..plan_length], &log[..log_length]);
-    printer.gone
+    let plan_length = program_io::read_file(&rt, "plan.bin", &mut plan);
+    let log_length = program_io::read_file(&rt, "keys.log", &mut log);
+    print(rt.stdout(), &plan[..plan_length], &log[..log_length]).gone
 }

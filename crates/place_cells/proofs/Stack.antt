@@ -9,15 +9,16 @@ use mathlib.Core.Bool.{true, false}
 use mathlib.Core.List.{List, [], ◌∷◌}
 use lib.Dec.{eqb}
 use borrow.Author.Tests.{eq-eqb, ne_eqb}
+use Rattle.std.specs.Prelude.{Some, None}
 use Rattle.forest.specs.Place.{Cell, Cells, Side, cell_row, cell_run, step}
 use Rattle.forest.specs.Sides.{other}
 use Rattle.forest.specs.Walk.{cell_at, cells_in}
 use Rattle.model.specs.Facts.{Facts}
-use Rattle.model.specs.Model.{along, one_above, run}
+use Rattle.model.specs.Model.{tail, along, one_above, run}
 use Rattle.forest.proofs.Cases.{by_bool}
 use Rattle.model.proofs.Cells.{top_kind, top_kind-step, step-begins}
 use Rattle.place_cells.specs.declared.Cell.{Cell as Words}
-use Rattle.place_cells.specs.Cells.{words, cell, no_cell, run_cell}
+use Rattle.place_cells.specs.Cells.{words, cell, run_cell}
 use Rattle.place_cells.specs.Changes.{add}
 
 -- cells 1 to k from the top
@@ -31,6 +32,12 @@ unfolding cells_in
 cells-top s zero h = absurd (omega arith)
 cells-top s (suc k) h = let e : k ≡ suc k - 1 = omega arith in ap (λ (j : ℕ). cell_at s (suc k) ∷ cells_in s j) e
 
+-- without the top
+pub tail-cells : (s : List ℕ) (k : ℕ) → tail (cells_in s k) ≡ cells_in s (k - 1)
+unfolding tail cells_in
+tail-cells s zero = refl
+tail-cells s (suc k) = let e : k ≡ suc k - 1 = omega arith in ap (cells_in s) e
+
 -- a cell's words, from the cell
 pub top-kind : {x : Words} {c : Cell} → x ≡ cell c → x.kind ≡ c.0
 top-kind e = ap (λ (y : Words). y.kind) e
@@ -41,12 +48,12 @@ top_one e = ap (λ (y : Words). y.one) e
 pub top-two : {x : Words} {c : Cell} → x ≡ cell c → x.two ≡ c.2
 top-two e = ap (λ (y : Words). y.two) e
 
--- a cell that is one, and one that is none
-pub add-some : (c : Words) (cs : Cells) → eqb c.kind 0 ≡ false → add c cs ≡ words c ∷ cs
+-- a cell more, and none
+pub add-some : (c : Words) (cs : Cells) → add (Some c) cs ≡ words c ∷ cs
 unfolding add
-add-some c cs e = rw e
+add-some c cs = refl
 
-pub add_none : (cs : Cells) → add no_cell cs ≡ cs
+pub add_none : (cs : Cells) → add None cs ≡ cs
 unfolding add
 add_none cs = refl
 
@@ -55,13 +62,8 @@ unfolding cell_run
 run-no-row Side.left e = omega arith
 run-no-row Side.right e = omega arith
 
-pub run-some : (s : Side) → eqb (cell_run s) 0 ≡ false
-unfolding cell_run
-run-some Side.left = refl
-run-some Side.right = refl
-
-pub add-run : (s : Side) (a b : ℕ) (cs : Cells) → add (cell (cell_run s, a, b, 0)) cs ≡ (cell_run s, a, b, 0) ∷ cs
-add-run s a b cs = add-some (cell (cell_run s, a, b, 0)) cs (run-some s)
+pub add-run : (s : Side) (a b : ℕ) (cs : Cells) → add (Some (cell (cell_run s, a, b, 0))) cs ≡ (cell_run s, a, b, 0) ∷ cs
+add-run s a b cs = add-some (cell (cell_run s, a, b, 0)) cs
 
 -- runs to the two sides differ
 pub apart : (s : Side) → eqb (cell_run s) (cell_run (other s)) ≡ false
@@ -100,24 +102,24 @@ above_first F s a b h =
 
 -- a step onto cells 1 to k
 module _ (s : List ℕ) (k : ℕ) where
-  begins-none : (d : Side) (a b : ℕ) → k ≡ 0 → add (cell (cell_run d, a, b, 0)) (cells_in s k) ≡ step d a b (cells_in s k)
+  begins-none : (d : Side) (a b : ℕ) → k ≡ 0 → add (Some (cell (cell_run d, a, b, 0))) (cells_in s k) ≡ step d a b (cells_in s k)
   unfolding top_kind step
   begins-none d a b e = rw (cells-none s k e) (add-run d a b [])
 
-  begins-other : (d : Side) (a b : ℕ) → 0 < k → ((cell_at s k).0 ≡ cell_run d → ⊥) → add (cell (cell_run d, a, b, 0)) (cells_in s k) ≡ step d a b (cells_in s k)
+  begins-other : (d : Side) (a b : ℕ) → 0 < k → ((cell_at s k).0 ≡ cell_run d → ⊥) → add (Some (cell (cell_run d, a, b, 0))) (cells_in s k) ≡ step d a b (cells_in s k)
   unfolding top_kind
   begins-other d a b h e =
       rw (cells-top s k h) (add-run d a b (cell_at s k ∷ cells_in s (k - 1)) ∙ sym (step-begins d a b (cell_at s k ∷ cells_in s (k - 1)) (ne_eqb _ _ e)))
 
-  pub begins : (d : Side) (a b : ℕ) → (0 < k → (cell_at s k).0 ≡ cell_run d → ⊥) → add (cell (cell_run d, a, b, 0)) (cells_in s k) ≡ step d a b (cells_in s k)
+  pub begins : (d : Side) (a b : ℕ) → (0 < k → (cell_at s k).0 ≡ cell_run d → ⊥) → add (Some (cell (cell_run d, a, b, 0))) (cells_in s k) ≡ step d a b (cells_in s k)
   begins d a b e =
-      elim (dec_lt 0 k) as (λ (z : Dec (0 < k)). add (cell (cell_run d, a, b, 0)) (cells_in s k) ≡ step d a b (cells_in s k)) [
+      elim (dec_lt 0 k) as (λ (z : Dec (0 < k)). add (Some (cell (cell_run d, a, b, 0))) (cells_in s k) ≡ step d a b (cells_in s k)) [
         | yes more ↦ begins-other d a b more (e more)
         | no none ↦ begins-none d a b (omega arith)
       ]
 
   pub grows-top : (d : Side) (a b : ℕ) → 0 < k → (cell_at s k).0 ≡ cell_run d
-      → add (cell ((cell_at s k).0, (cell_at s k).1, b, (cell_at s k).3)) (cells_in s (k - 1)) ≡ step d a b (cells_in s k)
+      → add (Some (cell ((cell_at s k).0, (cell_at s k).1, b, (cell_at s k).3))) (cells_in s (k - 1)) ≡ step d a b (cells_in s k)
   grows-top d a b h e =
-      add-some (cell ((cell_at s k).0, (cell_at s k).1, b, (cell_at s k).3)) (cells_in s (k - 1)) (rw e (run-some d))
+      add-some (cell ((cell_at s k).0, (cell_at s k).1, b, (cell_at s k).3)) (cells_in s (k - 1))
       ∙ sym (rw (cells-top s k h) (step-grows d a b (cell_at s k) (cells_in s (k - 1)) (eq-eqb _ _ e)))

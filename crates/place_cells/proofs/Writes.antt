@@ -4,20 +4,17 @@
 use Prim.Native.Nat.{ℕ, zero, suc, ◌+◌, ◌-◌, ◌*◌, ◌^◌, ◌≤◌, ◌<◌}
 use native.Mathlib.Omega.{arith}
 use mathlib.Core.Path.{◌≡◌, refl, sym, ap, subst, ◌∙◌}
-use mathlib.Core.Bool.{false}
 use mathlib.Core.List.{List, ◌∷◌}
 use lib.ListN.{length}
-use lib.Dec.{eqb}
-use borrow.Author.Tests.{eq-eqb, ne_eqb}
 use Rattle.words.specs.Number.{base, number}
 use Rattle.words.specs.Put.{put}
 use Rattle.words.proofs.Laws.{number-take, length-put, put_same, put_other, put-take, put-drop}
 use Rattle.record.specs.Record.{word_length}
 use Rattle.work_rows.specs.Rows.{Within}
 use Rattle.work_rows.proofs.Rows.{within_none, within_both, within_wider}
+use Rattle.std.specs.Prelude.{Option, Some, None}
 use Rattle.forest.specs.Place.{Cells}
 use Rattle.forest.specs.Walk.{cell_length, cell_at, cells_in}
-use Rattle.forest.proofs.Cases.{by_bool}
 use Rattle.place_cells.specs.declared.Cell.{Cell as Words}
 use Rattle.place_cells.specs.Cells.{words, put_cell}
 use Rattle.place_cells.specs.Changes.{add, Wrote, Put, high}
@@ -114,30 +111,20 @@ unfolding cells_in
 length-cells s zero = refl
 length-cells s (suc k) = ap suc (length-cells s k)
 
-pub length-add : (c : Words) (cs : Cells) → length (add c cs) ≡ high c (length cs)
+pub length-add : (c : Option Words) (cs : Cells) → length (add c cs) ≡ high c (length cs)
 unfolding add high
-length-add c cs = by_bool (eqb c.kind 0) (λ u. rw u) (λ u. rw u (omega arith))
+length-add None cs = refl
+length-add (Some c) cs = omega arith
 
--- no cell, and one
-pub high-none : (c : Words) (k : ℕ) → c.kind ≡ 0 → high c k ≡ k
+pub high-grows : (c : Option Words) (k : ℕ) → k ≤ high c k
 unfolding high
-high-none c k e = rw (eq-eqb _ _ e)
+high-grows None k = omega arith
+high-grows (Some c) k = omega arith
 
-pub high-some : (c : Words) (k : ℕ) → (c.kind ≡ 0 → ⊥) → high c k ≡ k + 1
+pub high-most : (c : Option Words) (k : ℕ) → high c k ≤ k + 1
 unfolding high
-high-some c k e = rw (ne_eqb _ _ e)
-
-pub add_nothing : (c : Words) (cs : Cells) → c.kind ≡ 0 → add c cs ≡ cs
-unfolding add
-add_nothing c cs e = rw (eq-eqb _ _ e)
-
-pub high-grows : (c : Words) (k : ℕ) → k ≤ high c k
-unfolding high
-high-grows c k = by_bool (eqb c.kind 0) (λ u. rw u (omega arith)) (λ u. rw u (omega arith))
-
-pub high-most : (c : Words) (k : ℕ) → high c k ≤ k + 1
-unfolding high
-high-most c k = by_bool (eqb c.kind 0) (λ u. rw u (omega arith)) (λ u. rw u (omega arith))
+high-most None k = omega arith
+high-most (Some c) k = omega arith
 
 -- cells that stand already, one cell more, and one cell more after others
 pub wrote_none : (s : List ℕ) (k : ℕ) → Wrote (cells_in s k) s s
@@ -154,7 +141,7 @@ wrote_one s k c fits small =
       within = within_wider cell_length (cell_length * (suc (length (cells_in s k)) + 1)) (omega arith) (omega arith) (cell-within s (k + 1) c);
     }
 
-pub wrote_then : (c : Words) {cs : Cells} {k : ℕ} {s t u : List ℕ} → Wrote cs s t → k ≡ length cs → Wrote (add c (cells_in t k)) t u → Wrote (add c cs) s u
+pub wrote_then : (c : Option Words) {cs : Cells} {k : ℕ} {s t u : List ℕ} → Wrote cs s t → k ≡ length cs → Wrote (add c (cells_in t k)) t u → Wrote (add c cs) s u
 wrote_then c {cs} {k} {s} {t} {u} p e q =
     let facts_in : cells_in t k ≡ cs = ap (cells_in t) e ∙ p.cells in
     let r : Wrote (add c cs) t u = rw facts_in at q in
@@ -165,18 +152,18 @@ wrote_then c {cs} {k} {s} {t} {u} p e q =
     }
 
 -- the cell on top written over
-pub put-top : (s : List ℕ) (k : ℕ) (c : Words) → 0 < k → cell_length * (k + 1) ≤ length s → Small c → eqb c.kind 0 ≡ false
-    → Put (add c (cells_in s (k - 1))) s (put_cell s k c) k
-put-top s k c some fits small is =
+pub put-top : (s : List ℕ) (k : ℕ) (c : Words) → 0 < k → cell_length * (k + 1) ≤ length s → Small c
+    → Put (add (Some c) (cells_in s (k - 1))) s (put_cell s k c) k
+put-top s k c some fits small =
     let e : k - 1 + 1 ≡ k = omega arith in
     let w : Wrote (words c ∷ cells_in s (k - 1)) s (put_cell s k c) = rw e at (wrote_one s (k - 1) c (omega arith) small) in
     let n : length (cells_in s (k - 1)) ≡ k - 1 = length-cells s (k - 1) in
-    rw (add-some c (cells_in s (k - 1)) is) (omega arith, w)
+    rw (add-some c (cells_in s (k - 1))) (omega arith, w)
 
 pub put-none : (s : List ℕ) (k : ℕ) → Put (cells_in s k) s s k
 put-none s k = (sym (length-cells s k), wrote_none s k)
 
-pub put-more : (c : Words) {cs : Cells} {k r : ℕ} {s t u : List ℕ} → Put cs s t k → (r ≡ high c k) × Wrote (add c (cells_in t k)) t u → Put (add c cs) s u r
+pub put-more : (c : Option Words) {cs : Cells} {k r : ℕ} {s t u : List ℕ} → Put cs s t k → (r ≡ high c k) × Wrote (add c (cells_in t k)) t u → Put (add c cs) s u r
 put-more c {cs} p q = (q.0 ∙ ap (high c) p.0 ∙ sym (length-add c cs), wrote_then c p.1 p.0 q.1)
 
 pub put_as : {cs cs' : Cells} {s t : List ℕ} {k : ℕ} → cs ≡ cs' → Put cs s t k → Put cs' s t k

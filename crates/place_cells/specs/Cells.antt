@@ -1,5 +1,5 @@
 -- The code's cells as the definitions write them, and what the cursor holds of them.
-use Rattle.std.specs.Prelude.{ℕ, ◌+◌, ◌*◌, ◌≤◌, cond, List, length, eqb}
+use Rattle.std.specs.Prelude.{ℕ, ◌+◌, ◌*◌, ◌≤◌, cond, List, length, eqb, Option, Some, None}
 use Rattle.words.specs.Put.{put}
 use Rattle.record.specs.Record.{word_length}
 use Rattle.forest.specs.Place.{Side, Cell, cell_run}
@@ -25,13 +25,9 @@ put_cell s i c =
     (cell_length * i + 2 * word_length) c.two)
     (cell_length * i + 3 * word_length) c.three
 
--- no cell: its kind is none of the forms'
-abbrev pub no_cell : Words
-no_cell = cell (0, 0, 0, 0)
-
--- the longest run from a rule, as a cell of its own
-unfoldable pub run_cell : Facts → Side → ℕ → Words
-run_cell F s a = cond (eqb (F.depth s a) 0) no_cell (cell (cell_run s, a, F.last s a, 0))
+-- the longest run from a rule, as a cell of its own; none, if it has no step
+unfoldable pub run_cell : Facts → Side → ℕ → Option Words
+run_cell F s a = cond (eqb (F.depth s a) 0) None (Some (cell (cell_run s, a, F.last s a, 0)))
 
 -- cells 1 to k lie in the cursor
 abbrev pub Lies : List ℕ → ℕ → Type 0

@@ -8,7 +8,7 @@ ghost use Rattle.forest.specs.Place.{cell_row, cell_spine, cell_run, row_of_part
 ghost use Rattle.forest.specs.Walk.{cell_length, cell_at, cells_in};
 ghost use Rattle.model.specs.Model.{tail, pop_run, under};
 ghost use Rattle.side.specs.Side.{side_of};
-ghost use Rattle.place_cells.specs.Cells.{cell, put_cell, no_cell, Lies};
+ghost use Rattle.place_cells.specs.Cells.{cell, put_cell, Lies};
 ghost use Rattle.place_cells.specs.Changes.{add, high, Wrote};
 
 use side::Side;
@@ -31,9 +31,6 @@ impl Cell {
     pub const LEFT: u16 = 3;
 
     pub const RIGHT: u16 = 4;
-
-    // No cell: a kind that no cell has.
-    const NONE: u16 = 0;
 
     // Words of a cell, bytes of a cell, and where its later words begin.
     pub const WORDS: usize = 4;
@@ -100,18 +97,6 @@ impl Cell {
         words::write16(s, at + Cell::ONE, self.one);
         words::write16(s, at + Cell::TWO, self.two);
         write_changed(s, at + Cell::THREE, self.three);
-    }
-
-    // No cell.
-    pub fn none() -> Cell
-        ensures { result ≡ no_cell }
-    {
-        Cell {
-            kind: Cell::NONE,
-            one: 0,
-            two: 0,
-            three: 0,
-        }
     }
 
     // The opening of a row with a number over a representative.
@@ -191,10 +176,7 @@ fn write_changed(s: &mut [u8], at: usize, v: u16)
 pub fn tail(k: usize) -> usize
     ensures { (result ≤ k) × ((s : List ℕ) → cells_in s result ≡ tail (cells_in s k)) }
 {
-    if k == 0 {
-        return k;
-    }
-    k - 1
+    k.saturating_sub(1)
 }
 
 // The number of cells without a run to a side on top.
@@ -221,17 +203,17 @@ pub fn under(cursor: &[u8], k: usize) -> usize
     tail(pop_run(cursor, k, Side::Left))
 }
 
-// A cell on top of k cells, if it is one; gives their number.
-pub fn push(cursor: &mut [u8], k: usize, cell: Cell) -> usize
+// A cell on top of k cells, if there is one; gives their number.
+pub fn push(cursor: &mut [u8], k: usize, cell: Option<Cell>) -> usize
     requires { Lies cursor.old (high cell k) }
     ensures { let cursor' = cursor.exit.now in
         let cursor = cursor.entry.now in
         (result ≡ high cell k)
         × Wrote (add cell (cells_in cursor k)) cursor cursor' }
 {
-    if cell.kind == Cell::NONE {
+    let Some(cell) = cell else {
         return k;
-    }
+    };
     let top = k + 1;
     cell.write(cursor, top);
     top

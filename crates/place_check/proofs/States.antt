@@ -4,8 +4,8 @@
 use Prim.Native.Nat.{ℕ, ◌-◌}
 use mathlib.Core.Path.{◌≡◌, refl}
 use mathlib.Core.Bool.{Bool, true, false, false≢true, cond, not, ◌&&◌, and-eq-true_iff}
-use mathlib.Core.List.{List, [], ◌∷◌}
-use mathlib.Core.Option.{Option, none, some}
+use mathlib.Core.List.{[], ◌∷◌}
+use Rattle.std.specs.Prelude.{Option, None, Some}
 use lib.Dec.{eqb, ltb}
 use borrow.Author.Tests.{eqb-true, eq-eqb, ne_eqb}
 use Rattle.rule.specs.declared.Rule.{Rule}
@@ -15,9 +15,8 @@ use Rattle.model.specs.Model.{along, outer, inner_of}
 use Rattle.model.specs.Stored.{Form, State, form_of, row_under, row_in, after_row, is_that, spine_at, spine_in, reaches, kept_by, after_run, next, state_after, ends_well}
 use Rattle.forest.proofs.Cases.{by_bool}
 use Rattle.facts.specs.Closes.{Names, Closed}
-use Rattle.place_check.specs.declared.Found.{Found}
 use Rattle.place_check.specs.declared.State.{State as CodeState}
-use Rattle.place_check.specs.States.{maybe, state_of, MaybeHas, StateHas, after_spine}
+use Rattle.place_check.specs.States.{state_of, MaybeHas, StateHas, after_spine}
 use Rattle.facts.proofs.Closes.{along-has, outer-has}
 
 -- a test that fails with one of its parts
@@ -27,7 +26,7 @@ and-false false q e = refl
 
 -- P of the rule that a test has found
 module _ (P : ℕ → Type 0) where
-  chosen : (b : Bool) (c : ℕ) → P c → MaybeHas P (cond b (some c) none)
+  chosen : (b : Bool) (c : ℕ) → P c → MaybeHas P (cond b (Some c) None)
   unfolding MaybeHas
   chosen true c p = p
   chosen false c p = tt
@@ -52,8 +51,8 @@ module _ (P : ℕ → Type 0) where
 
   that-has : (o : Option ℕ) (a : ℕ) → MaybeHas P o → is_that o a ≡ true → P a
   unfolding MaybeHas is_that
-  that-has none a m e = absurd (false≢true e)
-  that-has (some c) a m e = rw (eqb-true c a e) at m
+  that-has None a m e = absurd (false≢true e)
+  that-has (Some c) a m e = rw (eqb-true c a e) at m
 
   same-has : (p a : ℕ) (b : Bool) → P p → b && eqb p a ≡ true → P a
   same-has p a b h e = rw (eqb-true p a ((and-eq-true_iff b (eqb p a)).0 e).1) at h
@@ -77,8 +76,8 @@ module _ (F : Facts) (P : ℕ → Type 0) (h : Closed F P) where
 
   after-row-has : (o : Option ℕ) (v : ℕ) → MaybeHas P o → StateHas P (after_row F o v)
   unfolding MaybeHas StateHas after_row
-  after-row-has none v m = tt
-  after-row-has (some x) v m =
+  after-row-has None v m = tt
+  after-row-has (Some x) v m =
       by_bool (eqb v (F.representative x)) (λ u. rw u (rw (eqb-true v (F.representative x) u) (h.represents x m), tt)) (λ u. rw u tt)
 
   opens-has : (st : State) (a : ℕ) → StateHas P st → spine_in F st a ≡ true → P a
@@ -189,7 +188,7 @@ module _ (c : Cell) where
 
 -- a state that is no rule's leads on to none
 abbrev pub NotAt : CodeState → Type 0
-NotAt x = (p k : ℕ) (o : Found) → x ≡ CodeState.At p k o → ⊥
+NotAt x = (p k : ℕ) (o : Option ℕ) → x ≡ CodeState.At p k o → ⊥
 
 pub other-after-spine : (F : Facts) (x : CodeState) (a : ℕ) → NotAt x → after_spine F (state_of x) a ≡ State.wrong
 unfolding after_spine spine_in
@@ -210,6 +209,6 @@ other-end F (CodeState.At p k o) h = absurd (h p k o refl)
 other-end F CodeState.Wrong h = refl
 
 -- P of the rules of a code's state
-pub at_has : (P : ℕ → Type 0) {x : CodeState} {p k : ℕ} {o : Found} → x ≡ CodeState.At p k o → StateHas P (state_of x) → P p × MaybeHas P (maybe o)
+pub at_has : (P : ℕ → Type 0) {x : CodeState} {p k : ℕ} {o : Option ℕ} → x ≡ CodeState.At p k o → StateHas P (state_of x) → P p × MaybeHas P o
 unfolding StateHas
 at_has P e h = rw e at h

@@ -9,119 +9,115 @@ ghost use Rattle.side.specs.Side.{side_of};
 ghost use Rattle.facts.specs.Facts.{facts_in, In, Climbs};
 ghost use Rattle.facts.specs.Closes.{Closes};
 ghost use Rattle.place_cells.specs.Cells.{words, Lies};
-ghost use Rattle.place_check.specs.States.{maybe, state_of, MaybeHas, StateHas, after_spine};
+ghost use Rattle.place_check.specs.States.{state_of, MaybeHas, StateHas, after_spine};
 
 use place_cells::Cell;
 use rule::Rule;
 use side::Side;
 use work_rows::Row;
 
-// A rule, or nothing.
-#[derive(Clone, Copy)]
-enum Found {
-    Rule(u16),
-    Nothing,
-}
-
 // What the cells so far lead to: above the forest; or a rule, the kind of the last cell, and the tree that the spine opens if the
 // rule is its last part; or wrong.
 #[derive(Clone, Copy)]
 enum State {
     Above,
-    At { rule: u16, kind: u16, inner: Found },
+    At {
+        rule: u16,
+        kind: u16,
+        inner: Option<u16>,
+    },
     Wrong,
 }
 
 // The rule whose row a number opens under a node, with the kind of the last cell.
-fn row_under(rule: Rule, kind: u16, number: u16) -> Found
-    ensures { maybe result ≡ row_under rule kind number }
+fn row_under(rule: Rule, kind: u16, number: u16) -> Option<u16>
+    ensures { result ≡ row_under rule kind number }
 {
     match rule {
         Rule::Node { under, .. } => {
             if (kind == Cell::SPINE) & (number == Cell::NODE_ROW) {
-                return Found::Rule(under);
+                return Some(under);
             }
-            Found::Nothing
+            None
         }
         Rule::Part { left, right, .. } => {
             if number == Cell::LEFT_ROW {
-                return Found::Rule(left);
+                return Some(left);
             }
             if number == Cell::RIGHT_ROW {
-                return Found::Rule(right);
+                return Some(right);
             }
-            Found::Nothing
+            None
         }
-        _ => Found::Nothing,
+        _ => None,
     }
 }
 
 // The same in a state; r is the walked rule.
-fn row_in(work: &[u8], r: u16, state: State, number: u16) -> Found
+fn row_in(work: &[u8], r: u16, state: State, number: u16) -> Option<u16>
     requires { StateHas (In work.now) (state_of state) }
-    ensures { maybe result ≡ row_in (facts_in work.now) r (state_of state) number }
+    ensures { result ≡ row_in (facts_in work.now) r (state_of state) number }
 {
     match state {
         State::Above => {
             if number == Cell::NODE_ROW {
-                return Found::Rule(r);
+                return Some(r);
             }
-            Found::Nothing
+            None
         }
         State::At { rule: p, kind, .. } => row_under(facts::rule_at(work, p), kind, number),
-        State::Wrong => Found::Nothing,
+        State::Wrong => None,
     }
 }
 
 // After the opening of a row over rule v, where the row is that of a rule.
-fn after_row(work: &[u8], row: Found, v: u16) -> State
-    requires { MaybeHas (In work.now) (maybe row) }
-    ensures { state_of result ≡ after_row (facts_in work.now) (maybe row) v }
+fn after_row(work: &[u8], row: Option<u16>, v: u16) -> State
+    requires { MaybeHas (In work.now) row }
+    ensures { state_of result ≡ after_row (facts_in work.now) row v }
 {
-    let Found::Rule(x) = row else {
+    let Some(x) = row else {
         return State::Wrong;
     };
     if v == facts::representative_at(work, x) {
         return State::At {
             rule: v,
             kind: Cell::ROW,
-            inner: Found::Nothing,
+            inner: None,
         };
     }
     State::Wrong
 }
 
 // Whether a tree is the one that may open.
-fn is_that(inner: Found, a: u16) -> bool
-    ensures { result ≡ is_that (maybe inner) a }
+fn is_that(inner: Option<u16>, a: u16) -> bool
+    ensures { result ≡ is_that inner a }
 {
-    let Found::Rule(c) = inner else {
+    let Some(c) = inner else {
         return false;
     };
     c == a
 }
 
 // Whether the spine of tree a may open at rule p.
-fn spine_at(rule: Rule, p: u16, kind: u16, inner: Found, a: u16) -> bool
-    ensures { result ≡ spine_at rule p kind (maybe inner) a }
+fn spine_at(rule: Rule, p: u16, kind: u16, inner: Option<u16>, a: u16) -> bool
+    ensures { result ≡ spine_at rule p kind inner a }
 {
     match rule {
-        Rule::Node { .. } => (kind != Cell::SPINE) & (p == a),
-        Rule::Fill { .. } => (kind != Cell::SPINE) & (p == a),
+        Rule::Node { .. } | Rule::Fill { .. } => (kind != Cell::SPINE) & (p == a),
         Rule::Part { .. } => is_that(inner, a),
         _ => false,
     }
 }
 
 // The C that a fill's last hole continues in.
-fn inner_of(work: &[u8], a: u16) -> Found
+fn inner_of(work: &[u8], a: u16) -> Option<u16>
     requires { In work.now a }
-    ensures { maybe result ≡ inner_of ((facts_in work.now).rule a) }
+    ensures { result ≡ inner_of ((facts_in work.now).rule a) }
 {
     let Rule::Fill { inner, .. } = facts::rule_at(work, a) else {
-        return Found::Nothing;
+        return None;
     };
-    Found::Rule(inner)
+    Some(inner)
 }
 
 // After the opening of the spine of tree a.
@@ -148,11 +144,11 @@ fn after_spine(work: &[u8], state: State, a: u16) -> State
 }
 
 // What a run to a side leaves of the tree that may open.
-fn kept_by(side: Side, inner: Found) -> Found
-    ensures { maybe result ≡ kept_by (side_of side) (maybe inner) }
+fn kept_by(side: Side, inner: Option<u16>) -> Option<u16>
+    ensures { result ≡ kept_by (side_of side) inner }
 {
     match side {
-        Side::Left => Found::Nothing,
+        Side::Left => None,
         Side::Right => inner,
     }
 }
@@ -243,10 +239,8 @@ pub fn accepts(work: &[u8], cursor: &[u8], k: usize, r: u16) -> bool
     ensures { result ≡ accepts (facts_in work.now) r (cells_in cursor.now k) }
 {
     let mut state = State::Above;
-    let mut i: usize = 0;
-    while i < k {
-        i += 1;
-        state = next(work, r, state, Cell::read(cursor, i));
+    for i in 0..k {
+        state = next(work, r, state, Cell::read(cursor, i + 1));
     }
     ends_well(work, state)
 }

@@ -5,7 +5,7 @@ use native.Mathlib.Omega.{arith}
 use mathlib.Core.Path.{◌≡◌, refl}
 use mathlib.Core.Bool.{Bool, true, false, cond}
 use mathlib.Core.List.{[], ◌∷◌, cons≢nil}
-use mathlib.Core.Option.{Option, none}
+use Rattle.std.specs.Prelude.{Option, None}
 use lib.Dec.{eqb}
 use Rattle.forest.specs.Expression.{Expression, rule_number}
 use Rattle.forest.specs.Place.{Cells, Side, cell_run, step, representative}
@@ -35,10 +35,10 @@ cells-some (Position.fill_spine r b c z) q = cons≢nil q
 cells-some (Position.join_side s r b c z) q = step-some s r (rule_number (pick s b c)) (cells z) q
 
 -- the same place, above the forest or not
-pub same_above : {w : Expression} (x : Option Located) (m : Node) → Same w x m → m.1 ≡ [] → x ≡ none
+pub same_above : {w : Expression} (x : Option Located) (m : Node) → Same w x m → m.1 ≡ [] → x ≡ None
 same_above x m Same.above q = refl
 same_above x m (Same.at {z = z} h) q = absurd (cells-some z q)
 
-pub equal_cells : {w : Expression} (x : Option Located) (m : Node) → Same w x m → x ≡ none → m.1 ≡ []
+pub equal_cells : {w : Expression} (x : Option Located) (m : Node) → Same w x m → x ≡ None → m.1 ≡ []
 equal_cells x m Same.above q = refl
 equal_cells x m (Same.at h) q = absurd (let z : ◌≡◌ {A = ℕ} 0 1 = cc in omega arith)

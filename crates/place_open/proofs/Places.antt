@@ -1,4 +1,5 @@
 -- A stored place on the rows of a plan's rules: turned down, or a place of the walked rule's forest. Assumes nothing.
+use Rattle.std.specs.Prelude.{Result, Ok, Err}
 use Prim.Native.Nat.{ℕ, zero, suc, ◌+◌, ◌-◌, ◌*◌, ◌≤◌, ◌<◌}
 use native.Mathlib.Omega.{arith}
 use mathlib.Core.Path.{◌≡◌, sym, ap, subst, ◌∙◌}
@@ -19,7 +20,7 @@ use Rattle.model.specs.Model.{standing}
 use Rattle.model.specs.Stored.{accepts}
 use Rattle.work_rows.proofs.Kept.{first-length}
 use Rattle.facts.specs.Facts.{row_count, facts_in}
-use Rattle.place_cells.specs.Cells.{Lies, cursor_length}
+use Rattle.place_cells.specs.Cells.{Lies}
 use Rattle.place_cells.proofs.Stack.{cells-none, cells-top}
 use Rattle.place_store.specs.declared.Head.{Head}
 use Rattle.place_store.specs.Head.{head_of}
@@ -74,15 +75,15 @@ module _ (s : List ℕ) {x : Head} (e : x ≡ head_of (cell_at s 0)) where
 
 -- the two answers
 module _ (t s : List ℕ) (n start : ℕ) where
-  at-answer : Opened → Type 0
-  at-answer (Opened.At r h) = OpensAt t n start s r h
-  at-answer (Opened.Refused w) = Unit {0}
+  at-answer : Result Opened Refusal → Type 0
+  at-answer (Ok x) = OpensAt t n start s x.walked x.at
+  at-answer (Err w) = Unit {0}
 
-  opens_not : {why : Refusal} → place_judged (rules_kept t) n start s ≡ Begun.refused why → Opens t n start s (Opened.Refused why)
+  opens_not : {why : Refusal} → place_judged (rules_kept t) n start s ≡ Begun.refused why → Opens t n start s (Err why)
   unfolding at-answer
   opens_not e = record { at = λ r h q. subst at-answer q tt; refused = λ w q. e ∙ ap Begun.refused cc }
 
-  opens_at : {r : ℕ} {h : Standing} → OpensAt t n start s r h → Opens t n start s (Opened.At r h)
+  opens_at : {r : ℕ} {h : Standing} → OpensAt t n start s r h → Opens t n start s (Ok (record { walked = r; at = h }))
   unfolding at-answer
   opens_at o = record { at = λ r' h' q. subst at-answer q o; refused = λ w q. cc }
 
@@ -102,7 +103,7 @@ module _ {start n : ℕ} {t s : List ℕ} (J : Openable start n t s) {r : ℕ} (
   judged-in = ap (λ (x : ℕ). place_in R n x s) (sym named)
 
   -- a rule that can't be walked, or a cell 0 that isn't in order
-  pub not-headed : (closed_in (facts_in t) n r && headed n s) ≡ false → Opens t n start s (Opened.Refused Refusal.Place)
+  pub not-headed : (closed_in (facts_in t) n r && headed n s) ≡ false → Opens t n start s (Err Refusal.Place)
   unfolding place_in
   not-headed h =
       let e : is_closed R r && headed n s ≡ false = ap (λ (b : Bool). b && headed n s) (sym closed_same) ∙ h in
@@ -130,7 +131,7 @@ module _ {start n : ℕ} {t s : List ℕ} (J : Openable start n t s) {r : ℕ} (
           let few : 4 * (used_cells s + 1) ≤ 16 * (n + 1) = leb-true _ _ ((and-eq-true_iff (eqb (cell_at s 0).3 0) _).0 past_two).1 in
           omega arith
 
-      pub not-placed : placed (facts_in t) r (cells_in s k) ≡ false → Opens t n start s (Opened.Refused Refusal.Place)
+      pub not-placed : placed (facts_in t) r (cells_in s k) ≡ false → Opens t n start s (Err Refusal.Place)
       not-placed q =
           opens_not t s n start (judged-in ∙ begins-not J.rows.sound can_walk n s k in_order u (rw J.rows.facts_are at q))
 
@@ -150,5 +151,5 @@ module _ {start n : ℕ} {t s : List ℕ} (J : Openable start n t s) {r : ℕ} (
             let many = J.count in
             record { rows = walked-rows; room = omega arith; valid = stood-valid J.rows.sound can_walk found.0 (p, cells_in s k) here }
 
-        pub opened : Opens t n start s (Opened.At r (record { used = k; rule = p }))
+        pub opened : Opens t n start s (Ok (record { walked = r; at = (record { used = k; rule = p }) }))
         opened = opens_at t s n start (record { place = placed-here; path = found.0; stood = here; begun = judged-in ∙ found.2 })

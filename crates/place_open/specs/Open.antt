@@ -1,5 +1,5 @@
 -- A stored place opened: what is asked of the rows and the cursor, and what the answer says of the place.
-use Rattle.std.specs.Prelude.{ℕ, ◌≤◌, ◌≡◌, Bool, true, ◌&&◌, List, [], ◌∷◌, length, ltb}
+use Rattle.std.specs.Prelude.{ℕ, ◌≤◌, ◌≡◌, Bool, true, ◌&&◌, List, [], ◌∷◌, length, ltb, Result, Ok, Err}
 use Rattle.rule.specs.declared.Rule.{Rule}
 use Rattle.rule.specs.Rule.{encode, closed}
 use Rattle.refusal.specs.declared.Refusal.{Refusal}
@@ -46,6 +46,6 @@ pub record OpensAt (t : List ℕ) (n start : ℕ) (s : List ℕ) (r : ℕ) (h : 
   pub begun : place_judged (rules_kept t) n start s ≡ Begun.at n r path
 
 -- what the answer says
-pub record Opens (t : List ℕ) (n start : ℕ) (s : List ℕ) (x : Opened) : Type 0 where
-  pub at : (r : ℕ) (h : Standing) → x ≡ Opened.At r h → OpensAt t n start s r h
-  pub refused : (why : Refusal) → x ≡ Opened.Refused why → place_judged (rules_kept t) n start s ≡ Begun.refused why
+pub record Opens (t : List ℕ) (n start : ℕ) (s : List ℕ) (x : Result Opened Refusal) : Type 0 where
+  pub at : (r : ℕ) (h : Standing) → x ≡ Ok (record { walked = r; at = h }) → OpensAt t n start s r h
+  pub refused : (why : Refusal) → x ≡ Err why → place_judged (rules_kept t) n start s ≡ Begun.refused why

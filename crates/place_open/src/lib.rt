@@ -11,14 +11,15 @@ ghost use Rattle.place_open.specs.Open.{placed, closed_in, Openable, Opens};
 
 use letter_arrival::Standing;
 use place_store::Head;
+use plan::Checked;
 use refusal::Refusal;
 use rule::Rule;
 
-// What a stored place comes to: the rule whose forest is walked and where the walk stands in it, or the refusal.
+// What a stored place comes to: the rule whose forest is walked and where the walk stands in it.
 #[derive(Clone, Copy)]
-pub enum Opened {
-    At { walked: u16, at: Standing },
-    Refused(Refusal),
+pub struct Opened {
+    pub walked: u16,
+    pub at: Standing,
 }
 
 // The rule that word 1 of cell 0 names (document 02, Note 10): "0 for the start rule, or a rule number plus one".
@@ -67,21 +68,21 @@ fn placed(rows: &[u8], cursor: &[u8], k: usize, r: u16) -> bool
     place_check::accepts(rows, cursor, k, r)
 }
 
-// The place that a cursor holds, on the rows of a plan of n rules: a place that is none is turned down.
-pub fn open(rows: &[u8], cursor: &[u8], n: u16, start: u16) -> Opened
-    requires { Openable start n rows.now cursor.now }
-    ensures { Opens rows.now n start cursor.now result }
+// The place that a cursor holds, on the rows of an accepted plan's rules: a place that is none is turned down.
+pub fn open(rows: &[u8], cursor: &[u8], accepted: Checked) -> Result<Opened, Refusal>
+    requires { Openable accepted.start accepted.n rows.now cursor.now }
+    ensures { Opens rows.now accepted.n accepted.start cursor.now result }
 {
     let head = Head::read(cursor);
-    let walked = rule_named(head.word, start);
-    if !(can_walk(rows, n, walked) & place_store::headed(cursor, n)) {
-        return Opened::Refused(Refusal::Place);
+    let walked = rule_named(head.word, accepted.start);
+    if !(can_walk(rows, accepted.n, walked) & place_store::headed(cursor, accepted.n)) {
+        return Err(Refusal::Place);
     }
     let k = head.used as usize;
     if !placed(rows, cursor, k, walked) {
-        return Opened::Refused(Refusal::Place);
+        return Err(Refusal::Place);
     }
     let rule = move_parts::standing(rows, cursor, k);
     let at = Standing { used: k, rule };
-    Opened::At { walked, at }
+    Ok(Opened { walked, at })
 }

@@ -2,6 +2,7 @@
 -- checked as document 01 has it, by the mark 6D 70, a distance of 8 × n and its table of kinds, and its rules are those of that table;
 -- forests and places are functions of the rules. What Notes 1 and 3 changed, the order of the rules and the limit, is as it is for all
 -- plans. Assumes nothing.
+use Rattle.std.specs.Prelude.{Result, Err}
 use Prim.Native.Nat.{ℕ, ◌+◌, ◌*◌}
 use mathlib.Core.Path.{◌≡◌, refl, ap}
 use mathlib.Core.Bool.{Bool, true, false, cond, ◌&&◌, or-false}
@@ -13,7 +14,6 @@ use Rattle.record.specs.declared.Format.{Format}
 use Rattle.record.specs.declared.Record.{Record}
 use Rattle.record.specs.Format.{high_length}
 use Rattle.record.specs.Records.{records_from}
-use Rattle.judge.specs.declared.Judged.{Judged}
 use Rattle.judge.proofs.Narrow.{rules_narrow, narrow-rules, judged_narrow, narrow-judged}
 use Rattle.plan.specs.declared.Checked.{Checked}
 use Rattle.plan.specs.Check.{trailer_length, at_mark, magic, trailer_at, count_of, start_of, distance_of, same, marked_as, marked, format_of, first_at, rules_of, accepted, in_limits, checked_up_to}
@@ -23,17 +23,17 @@ abbrev pub narrow_records : List ℕ → List Record
 narrow_records s = records_from Format.Narrow s (first_at s) (count_of s)
 
 -- the tests of the trailer as document 01 has them, and then what is judged of the rules; the largest n is a parameter
-trailer_narrow : ℕ → List ℕ → Judged → Checked
+trailer_narrow : ℕ → List ℕ → Result Unit Refusal → Result Checked Refusal
 trailer_narrow most s rules =
     cond (leb trailer_length (length s) && same (drop (trailer_at s + at_mark) s) (0x6d ∷ 0x70 ∷ []))
     (cond (in_limits most (count_of s))
     (cond (eqb (distance_of s) (8 * count_of s) && leb (distance_of s) (trailer_at s))
     (accepted (count_of s) (start_of s) rules)
-    (Checked.Refused Refusal.Distance))
-    (Checked.Refused Refusal.Count))
-    (Checked.Refused Refusal.Magic)
+    (Err Refusal.Distance))
+    (Err Refusal.Count))
+    (Err Refusal.Magic)
 
-pub checked_narrow : ℕ → List ℕ → Checked
+pub checked_narrow : ℕ → List ℕ → Result Checked Refusal
 checked_narrow most s = trailer_narrow most s (judged_narrow (narrow_records s) (start_of s))
 
 module _ (s : List ℕ) (narrow : format_of s ≡ Format.Narrow) where

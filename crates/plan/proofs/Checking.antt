@@ -1,5 +1,6 @@
 -- Laws of check's answer, each for one step of the code: the mark, the distance, and what is left of the answer once the trailer is
 -- read. Each holds by the clauses of the definition that it is about. Assumes nothing.
+use Rattle.std.specs.Prelude.{Result, Err}
 use Prim.Native.Nat.{ℕ, suc, ◌+◌, ◌-◌, ◌*◌, ◌≤◌, ◌<◌}
 use mathlib.Core.Path.{◌≡◌, refl, sym, ap, ◌∙◌}
 use mathlib.Core.Bool.{Bool, true, false, cond, ◌&&◌, ◌||◌, and-true, or-true, or-false}
@@ -51,23 +52,23 @@ reached f distance n end passed =
     (eqb→eq distance (length_of_record f * n) both.0, leb→le distance end both.1)
 
 -- the answer once the trailer is read: the number of rules in range, the distance right, then the rules
-abbrev pub trailer_judged : ℕ → Format → List ℕ → ℕ → ℕ → ℕ → Checked
+abbrev pub trailer_judged : ℕ → Format → List ℕ → ℕ → ℕ → ℕ → Result Checked Refusal
 trailer_judged most f s n start distance =
     cond (in_limits most n)
     (cond (eqb distance (length_of_record f * n) && leb distance (length s - trailer_length))
     (accepted n start (judged f (records_from f s (length s - trailer_length - distance) n) start))
-    (Checked.Refused Refusal.Distance))
-    (Checked.Refused Refusal.Count)
+    (Err Refusal.Distance))
+    (Err Refusal.Count)
 
 check-cases : (most : ℕ) (s : List ℕ)
-    → checked_up_to most s ≡ cond (leb trailer_length (length s) && marked s) (trailer_judged most (format_of s) s (count_of s) (start_of s) (distance_of s)) (Checked.Refused Refusal.Magic)
+    → checked_up_to most s ≡ cond (leb trailer_length (length s) && marked s) (trailer_judged most (format_of s) s (count_of s) (start_of s) (distance_of s)) (Err Refusal.Magic)
 unfolding checked_up_to records_of first_at trailer_at
 check-cases most s = refl
 
-pub check-short : (most : ℕ) (s : List ℕ) → length s < trailer_length → checked_up_to most s ≡ Checked.Refused Refusal.Magic
+pub check-short : (most : ℕ) (s : List ℕ) → length s < trailer_length → checked_up_to most s ≡ Err Refusal.Magic
 check-short most s short = check-cases most s ∙ rw (lt-leb trailer_length (length s) short)
 
-pub check-unmarked : (most : ℕ) (s : List ℕ) → trailer_length ≤ length s → marked_as (format_of s) s ≡ false → checked_up_to most s ≡ Checked.Refused Refusal.Magic
+pub check-unmarked : (most : ℕ) (s : List ℕ) → trailer_length ≤ length s → marked_as (format_of s) s ≡ false → checked_up_to most s ≡ Err Refusal.Magic
 check-unmarked most s long mark = check-cases most s ∙ rw (le-leb trailer_length (length s) long, marked-format s ∙ mark)
 
 pub check-trailer : (most : ℕ) (f : Format) (s : List ℕ) (n start distance : ℕ) → trailer_length ≤ length s → f ≡ format_of s → marked_as f s ≡ true

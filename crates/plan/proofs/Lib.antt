@@ -1,3 +1,4 @@
+pub mod Parts
 pub mod Checking
 pub mod TrailerBytes
 pub mod Sound

@@ -1,5 +1,6 @@
 -- Bytes before a plan change nothing (prefix is document 01's cover). The trailer is found from the end, and the rules from
 -- the trailer, so every offset moves by the prefix's length and reads the same bytes. Assumes nothing.
+use Rattle.std.specs.Prelude.{Ok, Err}
 use Prim.Native.Nat.{ℕ, ◌+◌, ◌-◌, ◌*◌, ◌≤◌}
 use mathlib.Core.Bool.{Bool, true, false, ◌&&◌, and-eq-true_iff}
 use mathlib.Core.List.{List, ◌++◌}
@@ -14,7 +15,6 @@ use borrow.Author.Tests.{le-leb, leb-true}
 use Rattle.words.specs.Number.{number}
 use Rattle.words.proofs.Laws.{number-after}
 use Rattle.refusal.specs.declared.Refusal.{Refusal}
-use Rattle.plan.specs.declared.Checked.{Checked}
 use Rattle.record.specs.declared.Format.{Format}
 use Rattle.record.specs.Format.{length_of_record}
 use Rattle.record.specs.Records.{records_from}
@@ -88,7 +88,7 @@ is_true : (b : Bool) → (b ≡ false → ⊥) → b ≡ true
 is_true true h = refl
 is_true false h = absurd (h refl)
 
-module _ (p s : List ℕ) (most : ℕ) (magical : checked_up_to most s ≡ Checked.Refused Refusal.Magic → ⊥) (near : checked_up_to most s ≡ Checked.Refused Refusal.Distance → ⊥) where
+module _ (p s : List ℕ) (most : ℕ) (magical : checked_up_to most s ≡ Err Refusal.Magic → ⊥) (near : checked_up_to most s ≡ Err Refusal.Distance → ⊥) where
   trailer-passed : (leb trailer_length (length s) && marked s) ≡ true
   unfolding answer
   trailer-passed = is_true (leb trailer_length (length s) && marked s) (λ e. magical (checked-answer most s ∙ rw e))
@@ -111,8 +111,8 @@ module _ (p s : List ℕ) (most : ℕ) (magical : checked_up_to most s ≡ Check
       rw (checked-answer most (p ++ s), checked-answer most s, prefix-count p s long, prefix-marked p s long, a, t.0, t.1, c))
 
 -- an accepted plan is accepted with any prefix, with the same numbers and rules
-module _ (p s : List ℕ) (most n start : ℕ) (h : checked_up_to most s ≡ Checked.Accepted n start) where
-  pub prefix-accepted : checked_up_to most (p ++ s) ≡ Checked.Accepted n start
+module _ (p s : List ℕ) (most n start : ℕ) (h : checked_up_to most s ≡ Ok (record { n = n; start = start })) where
+  pub prefix-accepted : checked_up_to most (p ++ s) ≡ Ok (record { n = n; start = start })
   prefix-accepted = let q = accepted-plan most s n start h in prefix-checked p s q.trailer q.within most ∙ h
 
   pub prefix-accepted-rules : rules_of (p ++ s) ≡ rules_of s

@@ -1,6 +1,6 @@
 -- The trailer that is written is the one that check reads: each of its numbers is read back from the bytes written, and a
 -- trailer's bytes are those of the numbers that it holds. Assumes nothing.
-use Prim.Native.Nat.{ℕ, suc, ◌+◌, ◌-◌, ◌*◌, ◌^◌, ◌≤◌, ◌<◌}
+use Prim.Native.Nat.{ℕ, ◌+◌, ◌-◌, ◌*◌, ◌^◌, ◌≤◌, ◌<◌}
 use mathlib.Core.Bool.{true, cond, ◌||◌, and-eq-true_iff}
 use mathlib.Core.List.{List, [], ◌∷◌, ◌++◌, append_assoc}
 use mathlib.Core.Path.{◌≡◌, refl, sym, ap, ap₂, ◌∙◌}
@@ -8,7 +8,7 @@ use native.Mathlib.Nat.{add-zero}
 use native.Mathlib.Numerals.{add-two, add-four, add_eight}
 use native.Mathlib.Omega.{arith}
 use lib.Dec.{leb, eqb}
-use lib.ListN.{length, get_or, set, take, drop, length-append, length-drop}
+use lib.ListN.{length, take, drop, length-append, length-drop}
 use lib.Seq.{sets, sets-eq, drop-append-add, take-append_seam, take_all}
 use borrow.Author.Tests.{le-leb, eq-eqb, eqb-true}
 use Rattle.words.specs.Number.{number, bytes, base}
@@ -28,11 +28,6 @@ pub length-magic : (f : Format) → length (magic f) ≡ 2
 unfolding magic
 length-magic Format.Narrow = refl
 length-magic Format.Wide = refl
-
-pub sets-magic : (f : Format) (s : List ℕ) (at : ℕ) → set (set s at (get_or (magic f) 0 0)) (suc at) (get_or (magic f) 1 0) ≡ sets s at (magic f)
-unfolding magic
-sets-magic Format.Narrow s at = refl
-sets-magic Format.Wide s at = refl
 
 pub length-trailer_bytes : (f : Format) (n start : ℕ) → length (trailer_bytes f n start) ≡ trailer_length
 unfolding trailer_bytes bytes

@@ -1,11 +1,10 @@
 -- Document 01, "A plan's bytes" (the trailer) and "Check"; document 02, Note 2 (wide plans).
-use Rattle.std.specs.Prelude.{ℕ, ◌+◌, ◌-◌, ◌*◌, Bool, true, false, cond, ◌&&◌, ◌||◌, List, [], ◌∷◌, ◌++◌, length, drop, leb, eqb}
+use Rattle.std.specs.Prelude.{ℕ, ◌+◌, ◌-◌, ◌*◌, Bool, true, false, cond, ◌&&◌, ◌||◌, List, [], ◌∷◌, ◌++◌, length, drop, leb, eqb, Result, Ok, Err}
 use Rattle.words.specs.Number.{number, bytes}
 use Rattle.record.specs.declared.Format.{Format}
 use Rattle.record.specs.declared.Record.{Record}
 use Rattle.rule.specs.declared.Rule.{Rule}
 use Rattle.refusal.specs.declared.Refusal.{Refusal}
-use Rattle.judge.specs.declared.Judged.{Judged}
 use Rattle.plan.specs.declared.Checked.{Checked}
 use Rattle.record.specs.Format.{length_of_record}
 use Rattle.record.specs.Records.{records_from, records_bytes}
@@ -94,26 +93,26 @@ unfolding records_of format_of rules_in
 rules_of s = rules_in (format_of s) (records_of s)
 
 -- n and start, if the rules are fine
-unfoldable pub accepted : ℕ → ℕ → Judged → Checked
-accepted n start Judged.Fine = Checked.Accepted n start
-accepted n start (Judged.Refused r) = Checked.Refused r
+unfoldable pub accepted : ℕ → ℕ → Result Unit Refusal → Result Checked Refusal
+accepted n start (Ok _) = Ok (record { n = n; start = start })
+accepted n start (Err r) = Err r
 
 -- "n is 1 to 1,024": the largest n is a parameter
 unfoldable pub in_limits : ℕ → ℕ → Bool
 in_limits most n = leb 1 n && leb n most
 
 -- Check, with the largest n as a parameter
-unfoldable pub checked_up_to : ℕ → List ℕ → Checked
+unfoldable pub checked_up_to : ℕ → List ℕ → Result Checked Refusal
 unfolding marked format_of in_limits distance_of count_of start_of records_of judged accepted trailer_at
 checked_up_to most s =
     cond (leb trailer_length (length s) && marked s)
     (cond (in_limits most (count_of s))
     (cond (eqb (distance_of s) (length_of_record (format_of s) * count_of s) && leb (distance_of s) (trailer_at s))
     (accepted (count_of s) (start_of s) (judged (format_of s) (records_of s) (start_of s)))
-    (Checked.Refused Refusal.Distance))
-    (Checked.Refused Refusal.Count))
-    (Checked.Refused Refusal.Magic)
+    (Err Refusal.Distance))
+    (Err Refusal.Count))
+    (Err Refusal.Magic)
 
-unfoldable pub checked : List ℕ → Checked
+unfoldable pub checked : List ℕ → Result Checked Refusal
 unfolding checked_up_to
 checked s = checked_up_to most_rules s

@@ -4,28 +4,18 @@
 ghost use Rattle.std.specs.Prelude.{◌≡◌, ◌++◌, ◌+◌, ◌-◌, ◌*◌, ◌≤◌, length, take, drop, ◌&&◌, leb, eqb};
 ghost use Rattle.std.proofs.lemmas.List.Edits.{sets};
 ghost use Rattle.record.specs.Format.{length_of_record};
-ghost use Rattle.record.specs.Records.{records_from};
-ghost use Rattle.judge.specs.Judge.{judged};
-ghost use Rattle.judge.specs.Tested.{most_searched};
 ghost use Rattle.plan.specs.Check.{trailer_length, magic, trailer_bytes, most_rules, count_of, start_of, distance_of};
-ghost use Rattle.plan.specs.Check.{marked_as, format_of, in_limits, accepted, checked_up_to, checked};
+ghost use Rattle.plan.specs.Check.{marked_as, format_of, in_limits, checked_up_to, checked};
 
-use judge::{Judged, judge_few, judge_many};
-use record::Format;
+use judge::judge_rules;
+use record::{Format, RuleRecords};
 use refusal::Refusal;
 
-// What check answers: document 01's n and start, or the refusal.
+// What check answers of an accepted plan: document 01's n and start.
 #[derive(Clone, Copy)]
-pub enum Checked {
-    Accepted { n: u16, start: u16 },
-    Refused(Refusal),
-}
-
-// What an operation answers that writes bytes: how many it wrote, or the refusal.
-#[derive(Clone, Copy)]
-pub enum Written {
-    Length(usize),
-    Refused(Refusal),
+pub struct Checked {
+    pub n: u16,
+    pub start: u16,
 }
 
 // The last bytes of a plan: how many rules, the start rule, and how far back the first rule is.
@@ -147,62 +137,42 @@ impl Trailer {
     }
 }
 
-impl Checked {
-    // n and start, if the rules are fine.
-    fn accepted(n: u16, start: u16, verdict: Judged) -> Checked
-        ensures { result ≡ accepted n start verdict }
-    {
-        match verdict {
-            Judged::Fine => Checked::Accepted { n, start },
-            Judged::Refused(refusal) => Checked::Refused(refusal),
-        }
-    }
-}
-
-// Refusals 4 to 7 and 12 of a plan's rules, with the room that they need.
-fn judge_rules(plan: &[u8], format: Format, first: usize, n: u16, start: u16) -> Judged
-    requires { (first + length_of_record format * n ≤ length plan.now) × (n ≤ most_searched) }
-    ensures { result ≡ judged format (records_from format plan.now first n) start }
-{
-    if n <= judge::FEW_SEARCHED {
-        return judge_few(plan, format, first, n, start);
-    }
-    judge_many(plan, format, first, n, start)
-}
-
 // Check a plan: document 01's n and start, or why it is turned down.
-pub fn check(plan: &[u8]) -> Checked
+pub fn check(plan: &[u8]) -> Result<Checked, Refusal>
     ensures { result ≡ checked plan.now }
 {
     check_up_to(plan, Trailer::MOST_RULES)
 }
 
 // Check with a limit of its own on the number of rules.
-pub fn check_up_to(plan: &[u8], most: u16) -> Checked
+pub fn check_up_to(plan: &[u8], most: u16) -> Result<Checked, Refusal>
     requires { most ≤ most_rules }
     ensures { result ≡ checked_up_to most plan.now }
 {
     if plan.len() < Trailer::LENGTH {
-        return Checked::Refused(Refusal::Magic);
+        return Err(Refusal::Magic);
     }
     let format = Trailer::format(plan);
     if !Trailer::marked(plan, format) {
-        return Checked::Refused(Refusal::Magic);
+        return Err(Refusal::Magic);
     }
     let trailer = Trailer::read(plan);
     let n = trailer.n;
     let start = trailer.start;
     if !Trailer::in_limits(most, n) {
-        return Checked::Refused(Refusal::Count);
+        return Err(Refusal::Count);
     }
     let end = plan.len() - Trailer::LENGTH;
     let distance = trailer.distance as usize;
     if !Trailer::reaches(format, n, distance, end) {
-        return Checked::Refused(Refusal::Distance);
+        return Err(Refusal::Distance);
     }
-    Checked::accepted(
+    let rules = RuleRecords {
+        bytes: plan,
+        format,
+        first: end - distance,
         n,
-        start,
-        judge_rules(plan, format, end - distance, n, start),
-    )
+    };
+    judge_rules(&rules, start)?;
+    Ok(Checked { n, start })
 }

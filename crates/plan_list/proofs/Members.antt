@@ -1,5 +1,6 @@
 -- The list has the plans of Small and no others. Those that it has were tested, each (Counted). A plan of Small is its records and its
 -- trailer; its rules have numbers, by which it is a candidate, and check accepts it, so it is kept. Assumes nothing.
+use Rattle.std.specs.Prelude.{Ok}
 use Prim.Native.Nat.{ℕ, zero, suc, ◌+◌, ◌-◌, ◌*◌, ◌/◌, ◌%◌, ◌≤◌, ◌<◌}
 use native.Mathlib.Omega.{arith}
 use native.Mathlib.Nat.{zero-add}
@@ -23,7 +24,6 @@ use Rattle.rule.specs.declared.Rule.{Rule}
 use Rattle.rule.specs.Rule.{encode, labelled_to}
 use Rattle.rule.specs.Sound.{rule, Lower}
 use Rattle.rule.proofs.Decode.{encode-decode}
-use Rattle.plan.specs.declared.Checked.{Checked}
 use Rattle.plan.specs.Check.{magic, trailer_bytes, most_rules, first_at, format_of, records_of, rules_of, checked}
 use Rattle.plan.proofs.Sound.{Plan, checked-plan, plan-records, plan-decodes}
 use Rattle.unseal.proofs.RoundTrip.{alone-trailer, alone-words}
@@ -57,7 +57,7 @@ record Candidate (s : List ℕ) : Type 0 where
   same : candidate place ≡ s
   labels : (wordless (place_of place / 3 / 48) && plain (place_of place / 3 % 48)) ≡ true
 
-listed_in : {s : List ℕ} {n start : ℕ} → Candidate s → checked s ≡ Checked.Accepted n start → Memᴰ s listed
+listed_in : {s : List ℕ} {n start : ℕ} → Candidate s → checked s ≡ Ok (record { n = n; start = start }) → Memᴰ s listed
 unfolding listed is_listed is_accepted
 listed_in {s} C e =
     let q : checked (candidate C.place) ≡ _ = ap checked C.same ∙ e in

@@ -1,5 +1,7 @@
 -- A plan of document 02's Note 14 told by a test that computes. Each part of the test is one field of Small; what is asked of every rule
 -- is tested rule by rule, and what is asked of every byte byte by byte. Assumes nothing.
+use Rattle.std.specs.Prelude.{Result, Ok, Err}
+use Rattle.refusal.specs.declared.Refusal.{Refusal}
 use Prim.Native.Nat.{ℕ, zero, suc, ◌+◌, ◌*◌, ◌<◌}
 use native.Mathlib.Omega.{arith}
 use native.Mathlib.Nat.{zero-add}
@@ -32,11 +34,11 @@ unfoldable pub rules_from : ℕ → List Rule → Bool
 rules_from i [] = true
 rules_from i (x ∷ xs) = (labelled_to 0 x && every (λ k. ltb k i) x) && rules_from (suc i) xs
 
-unfoldable pub small_as : List ℕ → Checked → Bool
-small_as s (Checked.Accepted n start) =
-    (leb n most_listed && is_narrow (format_of s))
-    && ((eqb (length s) (length_of_record (format_of s) * n + trailer_length) && all_bytes s) && rules_from 0 (rules_of s))
-small_as s (Checked.Refused r) = false
+unfoldable pub small_as : List ℕ → Result Checked Refusal → Bool
+small_as s (Ok x) =
+    (leb x.n most_listed && is_narrow (format_of s))
+    && ((eqb (length s) (length_of_record (format_of s) * x.n + trailer_length) && all_bytes s) && rules_from 0 (rules_of s))
+small_as s (Err r) = false
 
 abbrev pub is_small : List ℕ → Bool
 is_small s = small_as s (checked s)
@@ -68,22 +70,22 @@ each-rule i (x ∷ xs) t (suc r) h =
     let e : i + suc r ≡ suc i + r = omega arith in
     rw e (each-rule (suc i) xs (T-right (labelled_to 0 x && every (λ k. ltb k i) x) (rules_from (suc i) xs) t) r (omega arith))
 
-small-as : (s : List ℕ) (x : Checked) → checked s ≡ x → T (small_as s x) → Small s
+small-as : (s : List ℕ) (x : Result Checked Refusal) → checked s ≡ x → T (small_as s x) → Small s
 unfolding small_as
-small-as s (Checked.Refused r) e t = absurd t
-small-as s (Checked.Accepted n start) e t =
-    let kind = T-left (leb n most_listed && is_narrow (format_of s)) _ t in
-    let rest = T-right (leb n most_listed && is_narrow (format_of s)) _ t in
-    let long = eqb (length s) (length_of_record (format_of s) * n + trailer_length) in
+small-as s (Err r) e t = absurd t
+small-as s (Ok x) e t =
+    let kind = T-left (leb x.n most_listed && is_narrow (format_of s)) _ t in
+    let rest = T-right (leb x.n most_listed && is_narrow (format_of s)) _ t in
+    let long = eqb (length s) (length_of_record (format_of s) * x.n + trailer_length) in
     let bytes = T-left (long && all_bytes s) (rules_from 0 (rules_of s)) rest in
     let rules = T-right (long && all_bytes s) (rules_from 0 (rules_of s)) rest in
     record {
-      n = n;
-      start = start;
+      n = x.n;
+      start = x.start;
       bytes = each-byte s (T-right long (all_bytes s) bytes);
       accepted = e;
-      few = leb→le n most_listed (T-left (leb n most_listed) (is_narrow (format_of s)) kind);
-      byte_label = narrow (format_of s) (T-right (leb n most_listed) (is_narrow (format_of s)) kind);
+      few = leb→le x.n most_listed (T-left (leb x.n most_listed) (is_narrow (format_of s)) kind);
+      byte_label = narrow (format_of s) (T-right (leb x.n most_listed) (is_narrow (format_of s)) kind);
       no_prefix = eqb→eq _ _ (T-left long (all_bytes s) bytes);
       zero_labels = λ r h. (each-rule 0 (rules_of s) rules r h).0;
       lower = λ r h. rw (zero-add r) at (each-rule 0 (rules_of s) rules r h).1;

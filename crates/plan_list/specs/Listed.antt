@@ -1,6 +1,7 @@
 -- The list of document 02's Note 14: candidates by number, and those of them that are kept. That these are the plans of Small, each once and
 -- in order, is proved (members, listed-once, in-order).
-use Rattle.std.specs.Prelude.{ℕ, zero, suc, ◌-◌, ◌*◌, ◌/◌, ◌%◌, Bool, true, false, cond, not, ◌&&◌, ◌||◌, List, [], ◌∷◌, ◌++◌, drop, ltb, eqb}
+use Rattle.std.specs.Prelude.{ℕ, zero, suc, ◌-◌, ◌*◌, ◌/◌, ◌%◌, Bool, true, false, cond, not, ◌&&◌, ◌||◌, List, [], ◌∷◌, ◌++◌, drop, ltb, eqb, Result, Ok, Err}
+use Rattle.refusal.specs.declared.Refusal.{Refusal}
 use Rattle.plan.specs.declared.Checked.{Checked}
 use Rattle.plan.specs.Check.{checked}
 
@@ -40,9 +41,9 @@ plain x = not ((eqb (x / 8) 2 || eqb (x / 8) 4) && eqb (x / 4 % 2) 1)
 unfoldable pub wordless : ℕ → Bool
 wordless x = eqb (x % 8) 0
 
-unfoldable pub is_accepted : Checked → Bool
-is_accepted (Checked.Accepted n start) = true
-is_accepted (Checked.Refused r) = false
+unfoldable pub is_accepted : Result Checked Refusal → Bool
+is_accepted (Ok x) = true
+is_accepted (Err r) = false
 
 -- the rest is check's: it refuses a rule that names itself, and a start that is not below n
 unfoldable pub is_listed : ℕ → Bool

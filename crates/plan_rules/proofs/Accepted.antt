@@ -4,7 +4,8 @@ use Prim.Native.Nat.{ℕ, zero, suc, ◌+◌, ◌*◌, ◌^◌, ◌≤◌, ◌<�
 use native.Mathlib.Omega.{arith}
 use mathlib.Core.Bool.{Bool, true, false}
 use mathlib.Core.List.{List, [], map}
-use mathlib.Core.Option.{none}
+use Rattle.std.specs.Prelude.{None, Result, Ok}
+use Rattle.refusal.specs.declared.Refusal.{Refusal}
 use mathlib.Core.Path.{◌≡◌, refl, ap, ap₂, ◌∙◌, fun_ext}
 use lib.Dec.{T, ltb, ltb→lt, lt→ltb}
 use lib.ListN.{length, length-append, length-map, get_or-map}
@@ -25,9 +26,7 @@ use Rattle.reach.specs.Order.{Acyclic}
 use Rattle.reach.proofs.Named.{named-every, names-below}
 use Rattle.reach.proofs.Acyclic.{falls-acyclic}
 use Rattle.reach.proofs.Lowest.{lowest-none}
-use Rattle.judge.specs.declared.Judged.{Judged}
 use Rattle.judge.specs.Judge.{names_judged, rule_judged, and_then, rules_judged, cycle_judged, start_judged, judged}
-use Rattle.plan.specs.declared.Checked.{Checked}
 use Rattle.plan.specs.Check.{trailer_length, most_rules, trailer_bytes, plan_bytes, format_of, rules_of, in_limits, accepted, checked}
 use Rattle.plan.proofs.TrailerBytes.{length-trailer_bytes, written-format, written-records, written-checked}
 use Rattle.plan_rules.proofs.ReadBack.{AllSmall, records-back, encodes-small, rules-back}
@@ -51,12 +50,12 @@ module _ (f : Format) (C : List Rule) {rank : ℕ → ℕ} (S : Sound C rank) (l
   long : length ws ≡ length C
   long = length-map C encode
 
-  rule-fine : (i : ℕ) → i < length C → rule_judged f ws i ≡ Judged.Fine
+  rule-fine : (i : ℕ) → i < length C → rule_judged f ws i ≡ Ok tt
   unfolding rule_judged names_judged
   rule-fine i l =
       rw (record_is i, decode-encode f (rule C i) (labels i l), long, kinds-are, is_true (every (λ x. ltb x (length C)) (rule C i)) (S.in_range i l), is_true (sorts (kind_in C) (rule C i)) (S.sorted i l))
 
-  rules-judged : (last : Judged) (m i : ℕ) → i + m ≤ length C → rules_judged f ws last i m ≡ last
+  rules-judged : (last : Result Unit Refusal) (m i : ℕ) → i + m ≤ length C → rules_judged f ws last i m ≡ last
   unfolding rules_judged and_then
   rules-judged last zero i h = refl
   rules-judged last (suc m) i h = rw (rule-fine i (omega (arith, h))) (rules-judged last m (suc i) (omega (arith, h)))
@@ -65,14 +64,14 @@ module _ (f : Format) (C : List Rule) {rank : ℕ → ℕ} (S : Sound C rank) (l
   acyclic = falls-acyclic C rank (λ r k m. ltb→lt (rank k) (rank r) (every-named (λ x. ltb (rank x) (rank r)) m (S.falls r (names-below C r k m))))
 
   module _ (start : ℕ) (ends : Closed C start) (most : length C ≤ most_rules) where
-    start_fine : start_judged ws start ≡ Judged.Fine
+    start_fine : start_judged ws start ≡ Ok tt
     unfolding start_judged
     start_fine = rw (long, kinds-are, lt-ltb start (length C) ends.below, is_true (closed (kind_in C start)) ends.closed_kind)
 
-    no-cycle : lowest_cycle (rules_in f ws) ≡ none
+    no-cycle : lowest_cycle (rules_in f ws) ≡ None
     no-cycle = ap lowest_cycle (rules-back f C labels) ∙ (lowest-none C S.in_range).1 acyclic
 
-    all-judged : judged f ws start ≡ Judged.Fine
+    all-judged : judged f ws start ≡ Ok tt
     unfolding judged cycle_judged
     all-judged =
         rules-judged (cycle_judged (lowest_cycle (rules_in f ws)) (start_judged ws start)) (length ws) 0 (omega (arith, long))
@@ -110,10 +109,10 @@ module _ (f : Format) (C : List Rule) {rank : ℕ → ℕ} (S : Sound C rank) (l
         ∙ ap (rules_in f) (records-back f all_small_lem)
         ∙ rules-back f C labels
 
-    pub rules-accepted : checked (plan_bytes f ws start) ≡ Checked.Accepted (length C) start
+    pub rules-accepted : checked (plan_bytes f ws start) ≡ Ok (record { n = (length C); start = start })
     unfolding plan_bytes checked accepted
     rules-accepted =
         written-checked f (records_bytes f ws) (length ws) start (length-records_bytes f ws) small most_rules (omega (arith, ends.below, most)) limits
         ∙ ap (λ (rs : List Record). accepted (length ws) start (judged f rs start)) (records-back f all_small_lem)
         ∙ ap (accepted (length ws) start) all-judged
-        ∙ ap (λ (n : ℕ). Checked.Accepted n start) long
+        ∙ ap (λ (n : ℕ). Ok (record { n = n; start = start })) long

@@ -3,7 +3,7 @@
 use Prim.Native.Nat.{ℕ, zero, suc, ◌+◌, ◌<◌}
 use mathlib.Core.List.{List}
 use mathlib.Core.Bool.{Bool, true, false, ◌&&◌, and-eq-true_iff}
-use mathlib.Core.Option.{none}
+use Rattle.std.specs.Prelude.{None}
 use mathlib.Core.Path.{◌≡◌, refl, ap, ◌∙◌}
 use native.Mathlib.Decide.{dec_lt}
 use native.Mathlib.Omega.{arith}
@@ -28,7 +28,7 @@ module _ {R : List Rule} {o : List ℕ} (O : Orders R o) where
   pub orders-falls : (r : ℕ) → r < length R → T (every (λ x. ltb (O.place x) (O.place r)) (rule R r))
   orders-falls r l = named-every (λ x. ltb (O.place x) (O.place r)) (rule R r) (λ x m. lt→ltb (O.place x) (O.place r) (O.after r x l m))
 
-  pub orders-none : Ranged R → lowest_cycle R ≡ none
+  pub orders-none : Ranged R → lowest_cycle R ≡ None
   orders-none ok = (lowest-none R ok).1 orders-acyclic
 
 -- numbers in a row
@@ -68,7 +68,7 @@ module _ (R : List Rule) (lower : Lower R) where
   pub lower-acyclic : Acyclic R
   lower-acyclic = falls-acyclic R (λ r. r) lower-named
 
-  pub lower-none : lowest_cycle R ≡ none
+  pub lower-none : lowest_cycle R ≡ None
   lower-none = (lowest-none R lower-ranged).1 lower-acyclic
 
 holds : {b : Bool} → b ≡ true → T b

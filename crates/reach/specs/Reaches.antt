@@ -1,6 +1,6 @@
 -- Which rules a rule reaches (document 02, Note 1: "some rule reaches itself through the rules it names").
 use Rattle.std.specs.Prelude.{ℕ, zero, suc, Bool, false, cond, ◌||◌, List, length, eqb}
-use Rattle.std.proofs.Math.Option.{Option, none, some}
+use Rattle.std.specs.Prelude.{Option, None, Some}
 use Rattle.rule.specs.declared.Rule.{Rule}
 use Rattle.rule.specs.Names.{Names}
 use Rattle.rule.specs.Sound.{rule}
@@ -30,8 +30,8 @@ reaches R a b = within R (length R) a b
 
 -- "position the lowest such rule": the first of m rules from i on that reaches itself, and the lowest of all
 unfoldable pub cycle_from : List Rule → ℕ → ℕ → Option ℕ
-cycle_from R i zero = none
-cycle_from R i (suc m) = cond (reaches R i i) (some i) (cycle_from R (suc i) m)
+cycle_from R i zero = None
+cycle_from R i (suc m) = cond (reaches R i i) (Some i) (cycle_from R (suc i) m)
 
 unfoldable pub lowest_cycle : List Rule → Option ℕ
 lowest_cycle R = cycle_from R 0 (length R)

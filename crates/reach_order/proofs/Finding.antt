@@ -1,21 +1,21 @@
 -- The rules that the code finds are those that the rule names. Assumes nothing.
-use Prim.Native.Nat.{ℕ, ◌+◌, ◌*◌, ◌<◌}
+use Prim.Native.Nat.{ℕ, ◌<◌}
+use Rattle.std.specs.Prelude.{None, Some, Option}
 use mathlib.Core.Path.{◌≡◌, refl, sym, ap, ◌∙◌}
-use mathlib.Core.List.{List}
 use Rattle.record.specs.declared.Record.{Record}
-use Rattle.record.specs.declared.Format.{Format}
-use Rattle.record.specs.Record.{length_of_record, record_at}
-use Rattle.rule.specs.declared.Decoded.{Decoded}
+use Rattle.record.specs.declared.RuleRecords.{RuleRecords}
+use Rattle.record.specs.Records.{record_in}
+use Rattle.record.specs.RuleRecords.{records_lent}
+use Rattle.record.proofs.Records.{records-at}
 use Rattle.rule.specs.Rule.{decode, rule_of}
 use Rattle.rule.specs.Sound.{rule}
 use Rattle.rule.proofs.Rules.{rule-recorded}
-use Rattle.reach_order.specs.Room.{rules_at}
+use Rattle.reach_order.specs.Room.{rules_lent}
 use mathlib.Core.Logic.{◌↔◌, inl, inr, ⊎_elim}
 use Rattle.rule.specs.declared.Rule.{Rule}
 use Rattle.rule.specs.Names.{Names, pair_one, pair_two, node_one, fill_one, fill_two, part_one, part_two, join_one, join_two}
-use Rattle.reach_order.specs.declared.Named.{Named}
 use Rattle.reach_order.specs.declared.Next.{Next}
-use Rattle.reach_order.specs.Named.{names_of, In}
+use Rattle.reach_order.specs.Named.{Named, names_of, In}
 use Rattle.reach_order.specs.Search.{unseen, opened, Chosen}
 
 names_in : {x : Rule} {k : ℕ} → Names x k → In (names_of x) k
@@ -47,17 +47,21 @@ in-names (Rule.Join b c) k (inr e) = rw e join_two
 pub names-exact : (x : Rule) (k : ℕ) → Names x k ↔ In (names_of x) k
 names-exact x k = (names_in, in-names x k)
 
+-- neither of two is none
+pub no-names : {d : Named} → ((p : ℕ × ℕ) → d ≡ Some p → ⊥) → d ≡ None
+no-names {d} h = elim d as (λ (d : Named). ((p : ℕ × ℕ) → d ≡ Some p → ⊥) → d ≡ None) [ None ↦ λ h. refl | Some p ↦ λ h. absurd (h p refl) ] h
+
 -- what the marks of the named rules ask for
-pub in_one : {d : Named} {a b : ℕ} → d ≡ Named.Two a b → In d a
+pub in_one : {d : Named} {a b : ℕ} → d ≡ Some (a, b) → In d a
 unfolding In
 in_one e = rw e (inl refl)
 
-pub in_two : {d : Named} {a b : ℕ} → d ≡ Named.Two a b → In d b
+pub in_two : {d : Named} {a b : ℕ} → d ≡ Some (a, b) → In d b
 unfolding In
 in_two e = rw e (inr refl)
 
 module _ (mark : ℕ → ℕ) (d : Named) where
-  pub close-none : d ≡ Named.None → Chosen mark d Next.Close
+  pub close-none : d ≡ None → Chosen mark d Next.Close
   unfolding Chosen In
   close-none e = rw e (λ k i. absurd i)
 
@@ -69,20 +73,22 @@ module _ (mark : ℕ → ℕ) (d : Named) where
   unfolding Chosen
   stop-named k i e = (k, i, e)
 
-  pub close-two : {a b : ℕ} → d ≡ Named.Two a b → (mark a ≡ unseen → ⊥) × (mark a ≡ opened → ⊥) → (mark b ≡ unseen → ⊥) × (mark b ≡ opened → ⊥)
+  pub close-two : {a b : ℕ} → d ≡ Some (a, b) → (mark a ≡ unseen → ⊥) × (mark a ≡ opened → ⊥) → (mark b ≡ unseen → ⊥) × (mark b ≡ opened → ⊥)
       → Chosen mark d Next.Close
   unfolding Chosen In
   close-two {a} {b} e p q = rw e (λ k i. ⊎_elim (λ h. rw h p) (λ h. rw h q) i)
 
 -- a rule read from its record
-module _ (format : Format) (s : List ℕ) (first i : ℕ) {w : Record} {d : Decoded} (decoded : d ≡ decode format w) (read : w ≡ record_at format s (first + length_of_record format * i)) where
-  rule-is : (n : ℕ) → i < n → rule (rules_at format s first n) i ≡ rule_of d
-  rule-is n l = rule-recorded format s first n i l ∙ sym (ap rule_of (decoded ∙ ap (decode format) read))
+module _ (r : RuleRecords) (i : ℕ) (below : i < r.n) {w : Record} {d : Option Rule} (read : w ≡ record_in (records_lent r) i) (decoded : d ≡ decode r.format w) where
+  rule-is : rule (rules_lent r) i ≡ rule_of d
+  rule-is =
+      rule-recorded r.format r.bytes.now r.first r.n i below
+      ∙ sym (ap rule_of (decoded ∙ ap (decode r.format) (read ∙ records-at r.format r.bytes.now r.first r.n i below)))
 
-  pub rule-read : {x : Rule} → d ≡ Decoded.Whole x → (n : ℕ) → i < n → x ≡ rule (rules_at format s first n) i
+  pub rule-read : {x : Rule} → d ≡ Some x → x ≡ rule (rules_lent r) i
   unfolding rule_of
-  rule-read e n l = sym (rule-is n l ∙ ap rule_of e)
+  rule-read e = sym (rule-is ∙ ap rule_of e)
 
-  pub rule-none : d ≡ Decoded.Malformed → (n : ℕ) → i < n → rule (rules_at format s first n) i ≡ Rule.Empty
+  pub rule-none : d ≡ None → rule (rules_lent r) i ≡ Rule.Empty
   unfolding rule_of
-  rule-none e n l = rule-is n l ∙ ap rule_of e
+  rule-none e = rule-is ∙ ap rule_of e

@@ -1,12 +1,10 @@
 -- What a write to the room does: a mark and a word are new, all others stay. Assumes nothing.
-use Prim.Native.Nat.{ℕ, ◌+◌, ◌-◌, ◌*◌, ◌^◌, ◌≤◌, ◌<◌}
+use Prim.Native.Nat.{ℕ, ◌+◌, ◌*◌, ◌^◌, ◌≤◌, ◌<◌}
 use native.Mathlib.Omega.{arith}
 use native.Mathlib.Decide.{dec_lt}
 use mathlib.Core.Path.{◌≡◌, ◌∙◌}
 use mathlib.Core.List.{List}
 use lib.ListN.{length}
-use Rattle.record.specs.Format.{length_of_record}
-use Rattle.record.proofs.Formats.{record-lies}
 use Rattle.record.specs.declared.Format.{Format}
 use Rattle.words.specs.Number.{base}
 use Rattle.words.specs.Put.{put}
@@ -37,9 +35,5 @@ module _ (n k v at : ℕ) (t : List ℕ) (below : k < n) (past : 2 * n ≤ at) (
       gap i ne h = apart (2 * k + 2 ≤ 2 * i) i k ne (λ l. absurd (omega arith)) (λ l. omega arith)
 
 -- the room stays as long
--- a record lies in the slice
-pub record-inside : {format : Format} {s : List ℕ} {first n i : ℕ} {t : List ℕ} → Ready format s first n t → i < n → first + length_of_record format * i + length_of_record format ≤ length s
-record-inside {format} a l = let lies = record-lies format l in omega (arith, a.lies)
-
 pub ready-kept : {format : Format} {s : List ℕ} {first n : ℕ} {t u : List ℕ} → Ready format s first n t → Within 0 (4 * n) t u → Ready format s first n u
 ready-kept a w = record { lies = a.lies; few = a.few; ranged = a.ranged; fits = let e = w.same_length in omega (arith, a.fits) }

@@ -1,11 +1,12 @@
 -- The search with a queue. Assumes nothing.
-use Prim.Native.Nat.{ℕ, suc, ◌+◌, ◌-◌, ◌*◌, ◌≤◌, ◌<◌}
+use Rattle.std.specs.Prelude.{None, Some}
+use Prim.Native.Nat.{ℕ, suc, ◌+◌, ◌*◌, ◌≤◌, ◌<◌}
 use native.Mathlib.Omega.{arith}
 use native.Mathlib.Numerals.{add-one}
 use native.Mathlib.Decide.{ℕ_discrete, dec_lt}
 use mathlib.Core.Bool.{Bool, true, false, false≢true}
 use mathlib.Core.Logic.{inl, inr, ⊎_elim}
-use mathlib.Core.Option.{some}
+use Rattle.std.specs.Prelude.{Some}
 use mathlib.Core.Path.{◌≡◌, refl, sym, ap, ◌∙◌}
 use mathlib.Core.List.{List}
 use lib.ListN.{length}
@@ -15,7 +16,7 @@ use Rattle.record.specs.declared.Format.{Format}
 use Rattle.words.specs.Number.{number}
 use Rattle.words.specs.Front.{cleared}
 use Rattle.words.specs.Within.{Within}
-use Rattle.words.proofs.Within.{within_none, within_both, within_wider, within-cleared, cleared-number}
+use Rattle.words.proofs.Within.{within_both, within_wider, within-cleared, cleared-number}
 use Rattle.rule.specs.declared.Rule.{Rule}
 use Rattle.rule.specs.Names.{Names}
 use Rattle.rule.specs.Sound.{rule}
@@ -26,9 +27,8 @@ use Rattle.reach.proofs.Building.{stands_same}
 use Rattle.reach.proofs.Lowest.{NoneBelow, none_more, lowest-some}
 use Rattle.reach.proofs.Named.{names-below}
 use Rattle.reach.proofs.Steps.{reaches-closed, reaches-from, reaches-below, reaches-extend, reaches-exact, named-below}
-use Rattle.reach_order.specs.declared.Named.{Named}
-use Rattle.reach_order.specs.Named.{In}
-use Rattle.reach_order.specs.Room.{rules_at, mark_in, front_in, NamesRead, Ready, Placed}
+use Rattle.reach_order.specs.Named.{Named, names_of, In}
+use Rattle.reach_order.specs.Room.{rules_at, mark_in, front_in, Ready, Placed}
 use Rattle.reach_order.specs.Search.{unseen, opened, seen, Cyclic}
 use Rattle.reach_order.specs.Queue.{Listable, Listed, Following}
 use Rattle.reach_order.proofs.Finding.{names-exact}
@@ -36,27 +36,27 @@ use Rattle.reach_order.proofs.Placing.{ready-kept}
 use Rattle.reach_order.proofs.Turns.{rules-length, grown-none, grown-both, placed-grown}
 
 -- one of two rules
-one_of : {a b k : ℕ} → In (Named.Two a b) k → (P : ℕ → Type 0) → P a → P b → P k
+one_of : {a b k : ℕ} → In (Some (a, b)) k → (P : ℕ → Type 0) → P a → P b → P k
 unfolding In
 one_of i P p q = ⊎_elim (λ e. rw e p) (λ e. rw e q) i
 
-first_of : (a b : ℕ) → In (Named.Two a b) a
+first_of : (a b : ℕ) → In (Some (a, b)) a
 unfolding In
 first_of a b = inl refl
 
-second-of : (a b : ℕ) → In (Named.Two a b) b
+second-of : (a b : ℕ) → In (Some (a, b)) b
 unfolding In
 second-of a b = inr refl
 
 -- one rule
-module _ {n m k : ℕ} {t : List ℕ} (a : Listable (Named.Two k k) n m t) where
+module _ {n m k : ℕ} {t : List ℕ} (a : Listable (Some (k, k)) n m t) where
   pub listed_below : k < n
   listed_below = a.below k (first_of k k)
 
   pub listed-room : mark_in t k ≡ unseen → m < n
   listed-room e = rw a.counted at (count-below n (seen (mark_in t)) k listed_below (λ h. false≢true (sym (ap (λ (v : ℕ). ltb 0 v) e) ∙ h)))
 
-  pub listed-seen : (mark_in t k ≡ unseen → ⊥) → Listed (Named.Two k k) n m m t t
+  pub listed-seen : (mark_in t k ≡ unseen → ⊥) → Listed (Some (k, k)) n m m t t
   listed-seen ne = record {
     grown = grown-none n t;
     more = omega arith;
@@ -67,7 +67,7 @@ module _ {n m k : ℕ} {t : List ℕ} (a : Listable (Named.Two k k) n m t) where
     all = λ r i. one_of i (λ x. mark_in t x ≡ unseen → ⊥) ne ne;
   }
 
-  pub listed-new : mark_in t k ≡ unseen → {u : List ℕ} → Placed n k opened (2 * n + 2 * m) t u → Listed (Named.Two k k) n m (m + 1) t u
+  pub listed-new : mark_in t k ≡ unseen → {u : List ℕ} → Placed n k opened (2 * n + 2 * m) t u → Listed (Some (k, k)) n m (m + 1) t u
   unfolding front_in
   listed-new e {u} p =
       let room : m < n = listed-room e in
@@ -91,21 +91,21 @@ module _ {n m k : ℕ} {t : List ℕ} (a : Listable (Named.Two k k) n m t) where
       }
 
 -- two rules
-pub listable-one : {n m a b : ℕ} {t : List ℕ} {d : Named} → d ≡ Named.Two a b → Listable d n m t → Listable (Named.Two a a) n m t
+pub listable-one : {n m a b : ℕ} {t : List ℕ} {d : Named} → d ≡ Some (a, b) → Listable d n m t → Listable (Some (a, a)) n m t
 listable-one {n} {m} {a} {b} e z = record {
   below = λ k i. let l : a < n = z.below a (rw e (first_of a b)) in one_of i (λ x. x < n) l l;
   fits = z.fits;
   counted = z.counted;
 }
 
-pub listable-two : {n m x a b : ℕ} {t u : List ℕ} {d : Named} → d ≡ Named.Two a b → Listable d n m t → Listed (Named.Two a a) n m x t u → Listable (Named.Two b b) n x u
+pub listable-two : {n m x a b : ℕ} {t u : List ℕ} {d : Named} → d ≡ Some (a, b) → Listable d n m t → Listed (Some (a, a)) n m x t u → Listable (Some (b, b)) n x u
 listable-two {n} {m} {x} {a} {b} e z h = record {
   below = λ k i. let l : b < n = z.below b (rw e (second-of a b)) in one_of i (λ x. x < n) l l;
   fits = let l = h.grown.within.same_length in omega (arith, z.fits);
   counted = h.counted;
 }
 
-pub listed-none : {n m : ℕ} {t : List ℕ} {d : Named} → d ≡ Named.None → Listable d n m t → Listed d n m m t t
+pub listed-none : {n m : ℕ} {t : List ℕ} {d : Named} → d ≡ None → Listable d n m t → Listed d n m m t t
 unfolding In
 listed-none {n} {m} {t} e z = rw e (record {
   grown = grown-none n t;
@@ -118,10 +118,10 @@ listed-none {n} {m} {t} e z = rw e (record {
 })
 
 -- one of the two, where both are the same
-into : (d : Named) (c k : ℕ) → In d c → In (Named.Two c c) k → In d k
+into : (d : Named) (c k : ℕ) → In d c → In (Some (c, c)) k → In d k
 into d c k h i = one_of i (In d) h h
 
-pub listed-both : {n m x y a b : ℕ} {t u v : List ℕ} {d : Named} → d ≡ Named.Two a b → Listable d n m t → Listed (Named.Two a a) n m x t u → Listed (Named.Two b b) n x y u v
+pub listed-both : {n m x y a b : ℕ} {t u v : List ℕ} {d : Named} → d ≡ Some (a, b) → Listable d n m t → Listed (Some (a, a)) n m x t u → Listed (Some (b, b)) n x y u v
     → Listed d n m y t v
 listed-both {n} {m} {x} {y} {a} {b} {t} {u} {v} e c p q = rw e (record {
   grown = grown-both p.grown q.grown;
@@ -130,8 +130,8 @@ listed-both {n} {m} {x} {y} {a} {b} {t} {u} {v} e c p q = rw e (record {
   kept = λ j l. q.kept j (omega (arith, p.more)) ∙ p.kept j l;
   new = λ j g l.
       elim (dec_lt j x) [
-        | yes h ↦ rw (q.kept j h) (into (Named.Two a b) a _ (first_of a b) (p.new j g h))
-        | no h ↦ into (Named.Two a b) b _ (second-of a b) (q.new j (omega arith) l)
+        | yes h ↦ rw (q.kept j h) (into (Some (a, b)) a _ (first_of a b) (p.new j g h))
+        | no h ↦ into (Some (a, b)) b _ (second-of a b) (q.new j (omega arith) l)
       ];
   queued = λ k l ne z.
       elim (ℕ_discrete (mark_in u k) unseen) [
@@ -144,15 +144,15 @@ listed-both {n} {m} {x} {y} {a} {b} {t} {u} {v} e c p q = rw e (record {
 })
 
 -- the rules that rule r names
-module _ {format : Format} {s : List ℕ} {first n r : ℕ} {t : List ℕ} {d : Named} (a : Ready format s first n t) (below : r < n) (found : NamesRead format s first r d) where
+module _ {format : Format} {s : List ℕ} {first n r : ℕ} {t : List ℕ} {d : Named} (a : Ready format s first n t) (below : r < n) (found : d ≡ names_of (rule (rules_at format s first n) r)) where
   abbrev R : List Rule
   R = rules_at format s first n
 
   pub read_names : (k : ℕ) → In d k → Names (rule R r) k
-  read_names k i = (names-exact (rule R r) k).1 (rw (found n below) at i)
+  read_names k i = (names-exact (rule R r) k).1 (rw found at i)
 
   pub read_all : (k : ℕ) → Names (rule R r) k → In d k
-  read_all k h = rw (found n below) ((names-exact (rule R r) k).0 h)
+  read_all k h = rw found ((names-exact (rule R r) k).0 h)
 
   pub read-lists : {m : ℕ} → count (seen (mark_in t)) n ≡ m → Listable d n m t
   read-lists e = record {
@@ -178,13 +178,13 @@ module _ {format : Format} {s : List ℕ} {first n i m taken : ℕ} {t : List �
   pub follow-room : m ≤ n
   follow-room = omega (arith, f.counted, count_most n (seen (mark_in t)))
 
-  module _ {r : ℕ} (some : taken < m) (read : r ≡ number 2 t (2 * n + 2 * taken)) where
+  module _ {r : ℕ} (Some : taken < m) (read : r ≡ number 2 t (2 * n + 2 * taken)) where
     taken_is : front_in n t taken ≡ r
     unfolding front_in
     taken_is = sym read
 
     taken-reached : Reaches (rules_at format s first n) i r
-    taken-reached = rw taken_is at (f.reached taken some)
+    taken-reached = rw taken_is at (f.reached taken Some)
 
     pub taken-below : r < n
     taken-below = omega (arith, reaches-below a.ranged taken-reached, rules-length format s first n)
@@ -194,7 +194,7 @@ module _ {format : Format} {s : List ℕ} {first n i m taken : ℕ} {t : List �
     follow-finds e = sym ((reaches-exact (rules_at format s first n) a.ranged i i).1 (rw e at taken-reached))
 
     -- it isn't
-    pub follow-more : {d : Named} {x : ℕ} {u : List ℕ} → (r ≡ i → ⊥) → NamesRead format s first r d → Listed d n m x t u
+    pub follow-more : {d : Named} {x : ℕ} {u : List ℕ} → (r ≡ i → ⊥) → d ≡ names_of (rule (rules_at format s first n) r) → Listed d n m x t u
         → Following (rules_at format s first n) n i u x (taken + 1)
     follow-more {d} {x} {u} other found h = record {
       far = omega (arith, h.more);
@@ -211,10 +211,10 @@ module _ {format : Format} {s : List ℕ} {first n i m taken : ℕ} {t : List �
           ];
       named = λ k g z. f.named k g (stays i k g z);
       passed = λ j l. up_to taken j (omega arith) (λ y. front_in n u y ≡ i → ⊥) (λ b e. f.passed j b (sym (h.kept j (omega arith)) ∙ e))
-          (λ e. other (sym taken_is ∙ sym (h.kept taken some) ∙ e));
+          (λ e. other (sym taken_is ∙ sym (h.kept taken Some) ∙ e));
       closed = λ j k l. up_to taken j (omega arith) (λ y. Names (rule (rules_at format s first n) (front_in n u y)) k → mark_in u k ≡ unseen → ⊥)
           (λ b g z. f.closed j k b (rw (h.kept j (omega arith)) at g) (stays (front_in n u j) k g z))
-          (λ g. h.all k (read_all a taken-below found k (rw (h.kept taken some, taken_is) at g)));
+          (λ g. h.all k (read_all a taken-below found k (rw (h.kept taken Some, taken_is) at g)));
     }
       where
         stays : (c k : ℕ) → Names (rule (rules_at format s first n) c) k → mark_in u k ≡ unseen → mark_in t k ≡ unseen
@@ -255,43 +255,28 @@ module _ {format : Format} {s : List ℕ} {first n : ℕ} {t u : List ℕ} (a : 
 -- going up from rule 0
 pub record Seeking (format : Format) (s : List ℕ) (first n : ℕ) (t₀ t : List ℕ) (i : ℕ) : Type 0 where
   pub none : NoneBelow (rules_at format s first n) i
-  pub below : i < n
   pub ready : Ready format s first n t
   pub within : Within 0 (4 * n) t₀ t
 
-pub seeking-none : {format : Format} {s : List ℕ} {first n : ℕ} {t : List ℕ} → Ready format s first n t → Cyclic (rules_at format s first n) → Seeking format s first n t t 0
-seeking-none {format} {s} {first} {n} {t} a (r, c) = record {
-  none = λ k l. absurd (omega arith);
-  below = omega (arith, reaches-from c, rules-length format s first n);
-  ready = a;
-  within = within_none 0 (4 * n) t;
-}
-
 module _ {format : Format} {s : List ℕ} {first n : ℕ} {t₀ t u : List ℕ} {i : ℕ} {x : Bool} (v : Seeking format s first n t₀ t i)
     (h : (x ≡ reaches (rules_at format s first n) i i) × Within 0 (4 * n) t u) where
-  -- rule i doesn't reach itself, so there is a higher one that does
-  module _ (some : Cyclic (rules_at format s first n)) (e : x ≡ false) where
-    none_yet : NoneBelow (rules_at format s first n) (suc i)
-    none_yet = none_more (rules_at format s first n) v.ready.ranged i v.none (sym h.0 ∙ e)
-
-    pub seeking-below : i + 1 < n
-    seeking-below =
-        let (r, c) = some in
-        elim (dec_lt r (suc i)) [ yes l ↦ absurd (none_yet r l c) | no l ↦ omega (arith, reaches-from c, rules-length format s first n) ]
-
-    pub seeking-more : Seeking format s first n t₀ u (i + 1)
-    seeking-more = record {
-      none = rw (add-one i) none_yet;
-      below = seeking-below;
-      ready = ready-kept v.ready h.1;
-      within = within_both v.within h.1;
-    }
+  -- rule i doesn't reach itself
+  pub seeking-more : x ≡ false → Seeking format s first n t₀ u (i + 1)
+  seeking-more e = record {
+    none = rw (add-one i) (none_more (rules_at format s first n) v.ready.ranged i v.none (sym h.0 ∙ e));
+    ready = ready-kept v.ready h.1;
+    within = within_both v.within h.1;
+  }
 
   -- and if it does, it is the lowest
-  pub seeking-found : x ≡ true → (lowest_cycle (rules_at format s first n) ≡ some i) × Within 0 (4 * n) t₀ u
-  seeking-found e =
+  pub seeking-found : i < n → x ≡ true → (lowest_cycle (rules_at format s first n) ≡ Some i) × Within 0 (4 * n) t₀ u
+  seeking-found below e =
       let ok = v.ready.ranged in
-      let l : i < length (rules_at format s first n) = rw (rules-length format s first n) v.below in (
+      let l : i < length (rules_at format s first n) = rw (rules-length format s first n) below in (
         (lowest-some (rules_at format s first n) ok i).1 (l, (reaches-exact (rules_at format s first n) ok i i).0 (sym h.0 ∙ e), v.none),
         within_both v.within h.1,
       )
+
+-- some rule does: the search doesn't come to the end
+pub seeking-ends : {format : Format} {s : List ℕ} {first n : ℕ} {t₀ t : List ℕ} {i : ℕ} → Seeking format s first n t₀ t i → n ≤ i → Cyclic (rules_at format s first n) → ⊥
+seeking-ends {format} {s} {first} {n} v past (r, c) = v.none r (omega (arith, reaches-from c, rules-length format s first n)) c

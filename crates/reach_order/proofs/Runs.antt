@@ -1,9 +1,10 @@
 -- Turns one after another, and searches from one rule after another: the loops' invariants. Assumes nothing.
+use Rattle.std.specs.Prelude.{Option, None, Some}
 use Prim.Native.Nat.{ℕ, ◌+◌, ◌-◌, ◌*◌, ◌≤◌, ◌<◌}
 use native.Mathlib.Omega.{arith}
 use mathlib.Core.Bool.{Bool, true, false, false≢true}
-use mathlib.Core.Option.{none}
-use mathlib.Core.Path.{◌≡◌, refl, sym, ap, subst, ◌∙◌}
+use Rattle.std.specs.Prelude.{None}
+use mathlib.Core.Path.{◌≡◌, sym, ap, subst, ◌∙◌}
 use mathlib.Core.List.{List}
 use lib.ListN.{length, get_or}
 use borrow.Table.Steps.{cases}
@@ -14,19 +15,16 @@ use Rattle.words.specs.Words.{words_at}
 use Rattle.words.proofs.Words.{length-words, word_at}
 use Rattle.words.proofs.Within.{within_both, within-cleared, cleared-number}
 use Rattle.rule.specs.declared.Rule.{Rule}
-use Rattle.reach.specs.Reaches.{lowest_cycle}
-use Rattle.reach.specs.Order.{Ranged, Acyclic, Orders}
+use Rattle.reach.specs.Order.{Acyclic, Orders}
 use Rattle.reach.proofs.Counting.{up_to}
 use Rattle.reach.proofs.Steps.{reaches-from}
-use Rattle.reach.proofs.Orders.{orders-none}
 use Rattle.reach.proofs.Building.{begun-same, begun-orders}
 use Rattle.reach_order.specs.declared.Step.{Step}
-use Rattle.reach_order.specs.declared.Searched.{Searched}
 use Rattle.reach_order.specs.Room.{rules_at, mark_in, front_in, back_in, Ready, Placed}
 use Rattle.reach_order.specs.Search.{unseen, opened, Searching, Grown, Made, Turned, Ended, Found, Visited, Answered}
 use Rattle.reach_order.proofs.Placing.{ready-kept}
 use Rattle.reach_order.proofs.Searches.{search-none, search-more, search-open, search-all}
-use Rattle.reach_order.proofs.Turns.{rules-length, grown-none, grown-both, placed-grown}
+use Rattle.reach_order.proofs.Turns.{rules-length, grown-none, grown-both}
 
 -- what a turn made
 module _ {R : List Rule} {n top m : ℕ} {x : Step} {t u : List ℕ} (h : Turned R n top m x t u) where
@@ -38,7 +36,7 @@ module _ {R : List Rule} {n top m : ℕ} {x : Step} {t u : List ℕ} (h : Turned
   unfolding Made
   made-closed e = rw e at h.made
 
-  pub run-cycle : {t₀ : List ℕ} → Grown n t₀ u → x ≡ Step.Cycle → Found R n Searched.Cycle t₀ u
+  pub run-cycle : {t₀ : List ℕ} → Grown n t₀ u → x ≡ Step.Cycle → Found R n None t₀ u
   unfolding Made Ended
   run-cycle g e = record { grown = g; ended = rw e at h.made }
 
@@ -50,12 +48,12 @@ pub run-again : {format : Format} {s : List ℕ} {first n : ℕ} {t₀ t u : Lis
 run-again (a, S, g) h T = (ready-kept a h.within, T, grown-both g h)
 
 -- no rule is open
-pub run-done : {R : List Rule} {n : ℕ} {t u : List ℕ} {top m : ℕ} → Grown n t u → Searching R n u top m → top ≤ 0 → Found R n (Searched.Done m) t u
+pub run-done : {R : List Rule} {n : ℕ} {t u : List ℕ} {top m : ℕ} → Grown n t u → Searching R n u top m → top ≤ 0 → Found R n (Some m) t u
 unfolding Ended
 run-done {R} {n} {u = u} {m = m} g S l = record { grown = g; ended = subst (λ (k : ℕ). Searching R n u k m) (omega arith) S }
 
 -- the search from rule i: it was seen before, or it is the first on the stack
-pub visited-before : {R : List Rule} {n i m : ℕ} {t : List ℕ} → Searching R n t 0 m → (mark_in t i ≡ unseen → ⊥) → Visited R n i (Searched.Done m) t t
+pub visited-before : {R : List Rule} {n i m : ℕ} {t : List ℕ} → Searching R n t 0 m → (mark_in t i ≡ unseen → ⊥) → Visited R n i (Some m) t t
 unfolding Ended
 visited-before {n = n} {t = t} S own = record { found = record { grown = grown-none n t; ended = S }; own = own }
 
@@ -71,34 +69,23 @@ visit-begins {format} {s} {first} {n} {i} {m} {at} {t} {u} a S below fresh q p =
           pushed (λ j h. absurd (omega arith)) (λ j h. p.words (2 * n + 2 * j) (omega arith) (λ w. absurd (omega arith))),
     )
 
-pub visited-run : {R : List Rule} {n i at : ℕ} {x : Searched} {t u v : List ℕ} → i < n → Placed n i opened at t u → Found R n x u v → Visited R n i x t v
-visited-run {i = i} below p f = record {
-  found = record { grown = grown-both (placed-grown p) f.grown; ended = f.ended };
-  own = λ e. let z = f.grown.saw i below e in omega (arith, p.own);
-}
-
 -- searches from the rules below i
 pub record Visiting (format : Format) (s : List ℕ) (first n : ℕ) (t₀ t : List ℕ) (m i : ℕ) : Type 0 where
-  pub far : i ≤ n
   pub running : Running format s first n t₀ t 0 m
   pub all : (k : ℕ) → k < i → mark_in t k ≡ unseen → ⊥
 
-pub visiting-none : {format : Format} {s : List ℕ} {first n : ℕ} {t : List ℕ} → Ready format s first n t → Searching (rules_at format s first n) n t 0 0 → Visiting format s first n t t 0 0
-visiting-none {n = n} {t = t} a S = record { far = omega arith; running = (a, S, grown-none n t); all = λ k l. absurd (omega arith) }
-
-module _ {format : Format} {s : List ℕ} {first n : ℕ} {t₀ t u : List ℕ} {m i : ℕ} {x : Searched} (v : Visiting format s first n t₀ t m i) (h : Visited (rules_at format s first n) n i x t u) where
+module _ {format : Format} {s : List ℕ} {first n : ℕ} {t₀ t u : List ℕ} {m i : ℕ} {x : Option ℕ} (v : Visiting format s first n t₀ t m i) (h : Visited (rules_at format s first n) n i x t u) where
   pub visiting-grown : Grown n t₀ u
   visiting-grown = grown-both v.running.2 h.found.grown
 
-  pub visiting-more : {j : ℕ} → x ≡ Searched.Done j → i < n → Visiting format s first n t₀ u j (i + 1)
+  pub visiting-more : {j : ℕ} → x ≡ Some j → i < n → Visiting format s first n t₀ u j (i + 1)
   unfolding Ended
   visiting-more e l = record {
-    far = omega arith;
     running = run-again v.running h.found.grown (rw e at h.found.ended);
     all = λ k b. up_to i k (omega arith) (λ y. mark_in u y ≡ unseen → ⊥) (λ c z. v.all k c (h.found.grown.saw k (omega arith) z)) h.own;
   }
 
-  pub visiting-cycle : x ≡ Searched.Cycle → Answered (rules_at format s first n) n false t₀ u
+  pub visiting-cycle : x ≡ None → Answered (rules_at format s first n) n false t₀ u
   unfolding Ended
   visiting-cycle e = record {
     within = visiting-grown.within;
@@ -136,10 +123,6 @@ order-answers {n = n} {t = t} a e h = record {
   sorted = h.sorted;
   cyclic = h.cyclic;
 }
-
--- what an answer says of all the rules: there is an order where none reaches itself, and only there
-pub answered-none : {R : List Rule} {n : ℕ} {t u : List ℕ} → Ranged R → Answered R n true t u → lowest_cycle R ≡ none
-answered-none ok h = orders-none (h.sorted refl) ok
 
 pub answered-acyclic : {R : List Rule} {n : ℕ} {x : Bool} {t u : List ℕ} → Acyclic R → Answered R n x t u → x ≡ true
 answered-acyclic {x = x} acyclic h = cases x (λ q. q) (λ q. let (r, c) = h.cyclic q in absurd (acyclic r (reaches-from c) c))

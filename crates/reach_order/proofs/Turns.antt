@@ -16,11 +16,10 @@ use Rattle.rule.specs.Names.{Names}
 use Rattle.rule.specs.Sound.{rule}
 use Rattle.rule.proofs.Rules.{length-rules_in}
 use Rattle.reach.proofs.Steps.{named-below}
-use Rattle.reach_order.specs.declared.Named.{Named}
 use Rattle.reach_order.specs.declared.Next.{Next}
 use Rattle.reach_order.specs.declared.Step.{Step}
-use Rattle.reach_order.specs.Named.{In}
-use Rattle.reach_order.specs.Room.{rules_at, mark_in, front_in, back_in, NamesRead, Marked, Ready, Placed}
+use Rattle.reach_order.specs.Named.{Named, names_of, In}
+use Rattle.reach_order.specs.Room.{rules_at, mark_in, front_in, back_in, Marked, Ready, Placed}
 use Rattle.reach_order.specs.Search.{unseen, opened, done, Searching, Chosen, Grown, Made, Turned}
 use Rattle.reach_order.proofs.Finding.{names-exact}
 use Rattle.reach_order.proofs.Searches.{search-most, search-more, search-cycle, search-open, search-close}
@@ -52,10 +51,15 @@ pub record Top (format : Format) (s : List ℕ) (first n : ℕ) (t : List ℕ) (
   pub search : Searching (rules_at format s first n) n t top m
   pub some : 0 < top
   pub read : r ≡ number 2 t (4 * n - 2 * top)
-  pub found : NamesRead format s first r d
+  pub found : d ≡ names_of (rule (rules_at format s first n) r)
 
 pub top_read : (t : List ℕ) (n top at : ℕ) {r : ℕ} → r ≡ number 2 t at → at ≡ 4 * n - 2 * top → r ≡ number 2 t (4 * n - 2 * top)
 top_read t n top at e q = e ∙ ap (number 2 t) q
+
+pub top-begins : {format : Format} {s : List ℕ} {first n : ℕ} {t : List ℕ} {top m r at : ℕ} {d : Named}
+    → Ready format s first n t × Searching (rules_at format s first n) n t top m × (0 < top) → r ≡ number 2 t at → at ≡ 4 * n - 2 * top
+    → d ≡ names_of (rule (rules_at format s first n) r) → Top format s first n t top m r d
+top-begins p e q found = record { ready = p.0; search = p.1; some = p.2; read = top_read _ _ _ _ e q; found = found }
 
 -- the top, as a rule on the stack
 pub top-word : {format : Format} {s : List ℕ} {first n : ℕ} {t : List ℕ} {top m r : ℕ} → Ready format s first n t → Searching (rules_at format s first n) n t top m → 0 < top → r ≡ number 2 t (4 * n - 2 * top) → back_in n t (top - 1) ≡ r
@@ -79,10 +83,10 @@ module _ {format : Format} {s : List ℕ} {first n : ℕ} {t : List ℕ} {top m 
   long = rules-length format s first n
 
   names : (k : ℕ) → In d k → Names (rule R r) k
-  names k i = (names-exact (rule R r) k).1 (rw (z.found n (top_below z.ready z.search z.some z.read)) at i)
+  names k i = (names-exact (rule R r) k).1 (rw z.found at i)
 
   asks : (k : ℕ) → Names (rule R r) k → In d k
-  asks k h = rw (z.found n (top_below z.ready z.search z.some z.read)) ((names-exact (rule R r) k).0 h)
+  asks k h = rw z.found ((names-exact (rule R r) k).0 h)
 
   small : (k : ℕ) → Names (rule R r) k → k < length R
   small k h = named-below R z.ready.ranged r k h

@@ -7,8 +7,7 @@ use Rattle.rule.specs.Sound.{rule}
 use Rattle.reach.specs.Reaches.{Reaches}
 use Rattle.reach.specs.Order.{count}
 use Rattle.reach.specs.Building.{Stands}
-use Rattle.reach_order.specs.declared.Named.{Named}
-use Rattle.reach_order.specs.Named.{In}
+use Rattle.reach_order.specs.Named.{Named, In}
 use Rattle.reach_order.specs.Room.{mark_in, front_in}
 use Rattle.reach_order.specs.Search.{unseen, seen, Grown}
 

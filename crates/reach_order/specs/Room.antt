@@ -3,18 +3,21 @@ use Rattle.std.specs.Prelude.{ℕ, suc, ◌+◌, ◌-◌, ◌*◌, ◌≤◌, �
 use Rattle.words.specs.Number.{number}
 use Rattle.words.specs.Within.{Within}
 use Rattle.record.specs.declared.Format.{Format}
+use Rattle.record.specs.declared.RuleRecords.{RuleRecords}
 use Rattle.record.specs.Format.{length_of_record}
 use Rattle.record.specs.Records.{records_from}
 use Rattle.rule.specs.declared.Rule.{Rule}
 use Rattle.rule.specs.Rule.{rules_in}
-use Rattle.rule.specs.Sound.{rule}
 use Rattle.reach.specs.Order.{Ranged}
-use Rattle.reach_order.specs.declared.Named.{Named}
-use Rattle.reach_order.specs.Named.{names_of, In}
+use Rattle.reach_order.specs.Named.{Named, In}
 
 -- n rules whose records begin at an offset
 abbrev pub rules_at : Format → List ℕ → ℕ → ℕ → List Rule
 rules_at format s first n = rules_in format (records_from format s first n)
+
+-- those that are lent together
+abbrev pub rules_lent : RuleRecords → List Rule
+rules_lent r = rules_at r.format r.bytes.now r.first r.n
 
 -- the mark of rule i
 unfoldable pub mark_in : List ℕ → ℕ → ℕ
@@ -28,10 +31,6 @@ front_in n t j = number 2 t (2 * n + 2 * j)
 unfoldable pub back_in : ℕ → List ℕ → ℕ → ℕ
 back_in n t j = number 2 t (4 * n - 2 * suc j)
 
--- x are the rules that rule i names, of however many rules it is one
-abbrev pub NamesRead : Format → List ℕ → ℕ → ℕ → Named → Type 0
-NamesRead format s first i x = (n : ℕ) → i < n → x ≡ names_of (rule (rules_at format s first n) i)
-
 -- the named rules have marks
 abbrev pub Marked : Named → List ℕ → Type 0
 Marked d t = (k : ℕ) → In d k → 2 * k + 2 ≤ length t
@@ -42,6 +41,9 @@ pub record Ready (format : Format) (s : List ℕ) (first n : ℕ) (room : List �
   pub few : n ≤ 16384
   pub ranged : Ranged (rules_at format s first n)
   pub fits : 4 * n ≤ length room
+
+abbrev pub ReadyFor : RuleRecords → List ℕ → Type 0
+ReadyFor r room = Ready r.format r.bytes.now r.first r.n room
 
 -- rule k has the mark v, the word at an offset is k, and no other mark or word has changed
 pub record Placed (n k v at : ℕ) (t u : List ℕ) : Type 0 where

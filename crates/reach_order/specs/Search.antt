@@ -1,18 +1,16 @@
 -- A depth-first search over the rules. Rules that are open stand on a stack, each named by the one below; rules that are done stand in the
 -- order. A turn looks at the top: it opens a named rule that hasn't been seen, ends where a named rule is open, and otherwise moves the top
 -- into the order.
-use Rattle.std.specs.Prelude.{ℕ, ◌+◌, ◌-◌, ◌*◌, ◌<◌, Bool, true, false, ◌≡◌, List, length, ltb}
+use Rattle.std.specs.Prelude.{ℕ, ◌+◌, ◌-◌, ◌*◌, ◌<◌, Bool, true, false, ◌≡◌, List, length, ltb, Option, None, Some}
 use Rattle.words.specs.Within.{Within}
 use Rattle.words.specs.Words.{words_at}
 use Rattle.rule.specs.declared.Rule.{Rule}
 use Rattle.reach.specs.Reaches.{Reaches}
 use Rattle.reach.specs.Order.{count, Orders}
 use Rattle.reach.specs.Building.{Chain, Stands, Begun}
-use Rattle.reach_order.specs.declared.Named.{Named}
 use Rattle.reach_order.specs.declared.Next.{Next}
 use Rattle.reach_order.specs.declared.Step.{Step}
-use Rattle.reach_order.specs.declared.Searched.{Searched}
-use Rattle.reach_order.specs.Named.{In}
+use Rattle.reach_order.specs.Named.{Named, In}
 use Rattle.reach_order.specs.Room.{mark_in, front_in, back_in}
 
 -- the marks
@@ -69,17 +67,17 @@ pub record Turned (R : List Rule) (n top m : ℕ) (x : Step) (t u : List ℕ) : 
   pub grown : Grown n t u
   pub made : Made R n top m u x
 
--- after turns, when no rule is open
-unfoldable pub Ended : List Rule → ℕ → List ℕ → Searched → Type 0
-Ended R n u (Searched.Done m) = Searching R n u 0 m
-Ended R n u Searched.Cycle = Cyclic R
+-- after turns, when no rule is open: so many rules are done, or some rule reaches itself
+unfoldable pub Ended : List Rule → ℕ → List ℕ → Option ℕ → Type 0
+Ended R n u (Some m) = Searching R n u 0 m
+Ended R n u None = Cyclic R
 
-pub record Found (R : List Rule) (n : ℕ) (x : Searched) (t u : List ℕ) : Type 0 where
+pub record Found (R : List Rule) (n : ℕ) (x : Option ℕ) (t u : List ℕ) : Type 0 where
   pub grown : Grown n t u
   pub ended : Ended R n u x
 
 -- after the search from rule i
-pub record Visited (R : List Rule) (n i : ℕ) (x : Searched) (t u : List ℕ) : Type 0 where
+pub record Visited (R : List Rule) (n i : ℕ) (x : Option ℕ) (t u : List ℕ) : Type 0 where
   pub found : Found R n x t u
   pub own : mark_in u i ≡ unseen → ⊥
 

@@ -4,7 +4,8 @@
 use Prim.Native.Nat.{ℕ}
 use mathlib.Core.Path.{◌≡◌, refl, sym, ap, ◌∙◌}
 use mathlib.Core.List.{List, [], ◌∷◌}
-use mathlib.Core.Option.{Option, none, some, map, none-ne-some}
+use Rattle.std.specs.Prelude.{Option, None, Some, option_map, Ok, Err}
+use Rattle.std.proofs.lemmas.Option.{none-some}
 use Rattle.rule.specs.declared.Rule.{Rule}
 use Rattle.refusal.specs.declared.Refusal.{Refusal}
 use Rattle.rule.specs.Sound.{Sound, Closed}
@@ -30,7 +31,6 @@ use Rattle.place_open.specs.Open.{Stood, OpensAt}
 use Rattle.place_open.proofs.Above.{same_above, equal_cells}
 use Rattle.place_open.proofs.Begin.{answers-are}
 use Rattle.reasons.specs.declared.Reason.{Reason}
-use Rattle.reasons.specs.declared.Reasoned.{Reasoned}
 use Rattle.reasons.specs.Reason.{reason_of}
 use Rattle.reasons.specs.Decided.{is_found, decided}
 use Rattle.reasons.specs.Outcome.{reasoned_at}
@@ -38,17 +38,17 @@ use Rattle.reasons.proofs.Explains.{place-named}
 use Rattle.reasons.proofs.Told.{told}
 
 -- no cells, exactly where no node is named
-none_above : (g : Forest Located) (p : Path) (cs : Cells) → Named g p → (cs ≡ [] → label_at g p ≡ none) → (label_at g p ≡ none → cs ≡ []) → is_nil cs ≡ is_above p
+none_above : (g : Forest Located) (p : Path) (cs : Cells) → Named g p → (cs ≡ [] → label_at g p ≡ None) → (label_at g p ≡ None → cs ≡ []) → is_nil cs ≡ is_above p
 unfolding is_nil is_above label_at
 none_above g [] cs N f h = ap is_nil (h refl)
-none_above g (i ∷ p) [] (Named.node e) f h = absurd (none-ne-some _ (sym (f refl) ∙ e))
+none_above g (i ∷ p) [] (Named.node e) f h = absurd (none-some _ (sym (f refl) ∙ e))
 none_above g (i ∷ p) (c ∷ cs) N f h = refl
 
 -- a node's label is there where the node is
-found-label : {A B : Type 0} (f : A → B) (x : Option A) → is_found (map f x) ≡ is_found x
+found-label : {A B : Type 0} (f : A → B) (x : Option A) → is_found (option_map f x) ≡ is_found x
 unfolding is_found
-found-label f none = refl
-found-label f (some a) = refl
+found-label f None = refl
+found-label f (Some a) = refl
 
 module _ {R : List Rule} {rank : ℕ → ℕ} (S : Sound R rank) {r : ℕ} (C : Closed R r) (p : Path) (x : Node) (stood : Stood R r p x) where
   empty-is : (facts_of R).is_empty r ≡ has_none (forest R r)
@@ -81,15 +81,15 @@ module _ {t : List ℕ} {n start : ℕ} {s : List ℕ} {r : ℕ} {h : Standing} 
   decides F c = decided (F.is_empty r) (is_nil (cells_in s h.used)) c (is_found (model.move F r c (h.rule, cells_in s h.used)))
 
   pub opened-reason : (c : Letter) {w : Reason} → w ≡ decides (facts_in t) c
-      → Reasoned.Because w ≡ reasoned_at (rules_kept t) c (place_judged (rules_kept t) n start s)
+      → Ok w ≡ reasoned_at (rules_kept t) c (place_judged (rules_kept t) n start s)
   unfolding reasoned_at
   opened-reason c e =
       let rows = o.place.rows in
       let named = (place-named (rules_kept t) n start s o.begun).1 in
       let is = stood-reason rows.sound rows.closed o.path (h.rule, cells_in s h.used) o.stood named c in
-      rw o.begun (ap Reasoned.Because (e ∙ ap (λ (F : Facts). decides F c) rows.facts_are ∙ is))
+      rw o.begun (ap Ok (e ∙ ap (λ (F : Facts). decides F c) rows.facts_are ∙ is))
 
 -- a place that is none
-pub not_opened : (R : List Rule) (c : Letter) {b : Begun} {why : Refusal} → b ≡ Begun.refused why → Reasoned.Refused why ≡ reasoned_at R c b
+pub not_opened : (R : List Rule) (c : Letter) {b : Begun} {why : Refusal} → b ≡ Begun.refused why → Err why ≡ reasoned_at R c b
 unfolding reasoned_at
 not_opened R c e = rw e

@@ -7,7 +7,8 @@ use mathlib.Core.Path.{◌≡◌, refl, sym, ap, subst, ◌∙◌}
 use mathlib.Core.Logic.{◌↔◌, ◌≢◌}
 use mathlib.Core.Bool.{Bool, true, false, cond, true≢false, false≢true}
 use mathlib.Core.List.{[], ◌∷◌}
-use mathlib.Core.Option.{none, some, none-ne-some}
+use Rattle.std.specs.Prelude.{None, Some}
+use Rattle.std.proofs.lemmas.Option.{none-some}
 use borrow.Author.Tests.{leb-true, le-leb}
 use Rattle.forest.specs.Forest.{Forest, count}
 use Rattle.forest.specs.Place.{Side}
@@ -21,10 +22,10 @@ use Rattle.reasons.specs.Says.{Childless, OnLast, OnFirst, OnRoot, Says}
 use Rattle.reasons.proofs.Reasons.{label_at-none, moves-answer}
 
 -- a tree is numbered up to the number of trees
-later-count : {A : Type 0} {a : A} (i : ℕ) (g : Forest A) → top (later i g) ≡ some a → suc i ≤ count g
+later-count : {A : Type 0} {a : A} (i : ℕ) (g : Forest A) → top (later i g) ≡ Some a → suc i ≤ count g
 unfolding top later count
-later-count zero Forest.none e = absurd (none-ne-some _ e)
-later-count (suc i) Forest.none e = absurd (none-ne-some _ e)
+later-count zero Forest.none e = absurd (none-some _ e)
+later-count (suc i) Forest.none e = absurd (none-some _ e)
 later-count zero (Forest.tree a c f) e = omega arith
 later-count (suc i) (Forest.tree a c f) e = let h = later-count i f e in omega arith
 
@@ -50,7 +51,7 @@ module _ {A : Type 0} where
   tested g c p false w N e h = given-moves g c p N e
 
   -- the last, or the first, of the siblings
-  ended : (g : Forest A) (s : Side) (i : ℕ) (p : Path) {a : A} → label_at g (suc i ∷ p) ≡ some a
+  ended : (g : Forest A) (s : Side) (i : ℕ) (p : Path) {a : A} → label_at g (suc i ∷ p) ≡ Some a
       → at_end s (children_at g p) (suc i) ≡ true → Says g (Letter.sibling s) (suc i ∷ p) (end_reason s)
   unfolding Says at_end end_reason label_at from
   ended g Side.left i p n e =
@@ -71,7 +72,7 @@ module _ {A : Type 0} where
   holds-above a d f Letter.parent = record { trees = tree-some; stands = refl; pressed = refl }
   holds-above a d f Letter.stay = record { trees = tree-some; stands = refl; pressed = refl }
 
-  holds-node : (a : A) (d f : Forest A) (c : Letter) (i : ℕ) (p : Path) {b : A} → label_at (Forest.tree a d f) (suc i ∷ p) ≡ some b
+  holds-node : (a : A) (d f : Forest A) (c : Letter) (i : ℕ) (p : Path) {b : A} → label_at (Forest.tree a d f) (suc i ∷ p) ≡ Some b
       → Says (Forest.tree a d f) c (suc i ∷ p) (reason_at (Forest.tree a d f) c (suc i) p)
   unfolding Says reason_at reason_of
   holds-node a d f (Letter.root s) i p n = given-moves (Forest.tree a d f) (Letter.root s) (suc i ∷ p) (Named.node n) refl
@@ -89,7 +90,7 @@ module _ {A : Type 0} where
   unfolding Says reason_of label_at
   holds Forest.none c p N = refl
   holds (Forest.tree a d f) c [] N = holds-above a d f c
-  holds (Forest.tree a d f) c (zero ∷ p) (Named.node n) = absurd (none-ne-some _ n)
+  holds (Forest.tree a d f) c (zero ∷ p) (Named.node n) = absurd (none-some _ n)
   holds (Forest.tree a d f) c (suc i ∷ p) (Named.node n) = holds-node a d f c i p n
 
   -- and where a sentence holds, its reason is given
@@ -105,7 +106,7 @@ module _ {A : Type 0} where
   -- at a node the forest has trees
   node-given : (g : Forest A) (c : Letter) (i : ℕ) (p : Path) → Named g (i ∷ p) → reason_of g c (i ∷ p) ≡ reason_at g c i p
   unfolding reason_of
-  node-given Forest.none c i p (Named.node n) = absurd (none-ne-some _ (sym (label_at-none (i ∷ p)) ∙ n))
+  node-given Forest.none c i p (Named.node n) = absurd (none-some _ (sym (label_at-none (i ∷ p)) ∙ n))
   node-given (Forest.tree a d f) c i p N = refl
 
   empty-given : (g : Forest A) (c : Letter) (p : Path) → g ≡ Forest.none → reason_of g c p ≡ Reason.NoTrees

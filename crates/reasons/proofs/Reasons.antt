@@ -5,7 +5,8 @@ use mathlib.Core.Path.{◌≡◌, refl, sym, ◌∙◌, ap}
 use mathlib.Core.Logic.{◌↔◌, ◌≢◌}
 use mathlib.Core.Bool.{Bool, true, false, cond, not, ◌&&◌, true≢false}
 use mathlib.Core.List.{[], ◌∷◌}
-use mathlib.Core.Option.{Option, some, none-ne-some, some-ne-none}
+use Rattle.std.specs.Prelude.{Option, Some, None}
+use Rattle.std.proofs.lemmas.Option.{none-some}
 use lib.Dec.{leb, leb-zero, leb-suc-zero, leb-suc-suc}
 use Rattle.forest.specs.Forest.{Forest, count}
 use Rattle.forest.specs.Place.{Side}
@@ -29,13 +30,13 @@ is_moves Reason.Root = false
 
 -- a reason and an answer that say the same
 pub data Agrees (A : Type 0) : Reason → Option A → Type 0 where
-  leads : {r : Reason} {x : Option A} {a : A} → r ≡ Reason.Moves → x ≡ some a → Agrees A r x
-  stops : {r : Reason} {x : Option A} → is_moves r ≡ false → x ≡ Option.none → Agrees A r x
+  leads : {r : Reason} {x : Option A} {a : A} → r ≡ Reason.Moves → x ≡ Some a → Agrees A r x
+  stops : {r : Reason} {x : Option A} → is_moves r ≡ false → x ≡ None → Agrees A r x
 
 module _ {A : Type 0} where
-  agrees-moves : {r : Reason} {x : Option A} → Agrees A r x → (r ≡ Reason.Moves) ↔ (x ≢ Option.none)
+  agrees-moves : {r : Reason} {x : Option A} → Agrees A r x → (r ≡ Reason.Moves) ↔ (x ≢ None)
   unfolding is_moves
-  agrees-moves (leads p q) = (λ m e. some-ne-none _ (sym q ∙ e), λ m. p)
+  agrees-moves (leads p q) = (λ m e. none-some _ (sym e ∙ q), λ m. p)
   agrees-moves (stops p q) = (λ m e. true≢false (sym (ap is_moves m) ∙ p), λ m. absurd (m q))
 
   -- an empty forest has no node
@@ -50,24 +51,24 @@ module _ {A : Type 0} where
   children_at-none [] = refl
   children_at-none (i ∷ p) = ap (λ g. below (from i g)) (children_at-none p) ∙ ap below (from-none i)
 
-  pub label_at-none : (p : Path) → label_at {A = A} Forest.none p ≡ Option.none
+  pub label_at-none : (p : Path) → label_at {A = A} Forest.none p ≡ None
   unfolding label_at
   label_at-none [] = refl
   label_at-none (i ∷ p) = ap (λ g. top (from i g)) (children_at-none p) ∙ ap top (from-none i)
 
-  cond-none : (b : Bool) {x : Option A} → x ≡ Option.none → cond b Option.none x ≡ Option.none
+  cond-none : (b : Bool) {x : Option A} → x ≡ None → cond b None x ≡ None
   cond-none true e = refl
   cond-none false e = e
 
   -- the first or last tree, if there is one
-  edge-some : (s : Side) (a : A) (c f : Forest A) → (b : A) × (edge s (Forest.tree a c f) ≡ some b)
+  edge-some : (s : Side) (a : A) (c f : Forest A) → (b : A) × (edge s (Forest.tree a c f) ≡ Some b)
   unfolding edge or_else
   edge-some Side.left a c f = (a, refl)
   edge-some Side.right a c f = go (edge Side.right f)
     where
-      go : (x : Option A) → (b : A) × (or_else x (some a) ≡ some b)
-      go Option.none = (a, refl)
-      go (some b) = (b, refl)
+      go : (x : Option A) → (b : A) × (or_else x (Some a) ≡ Some b)
+      go None = (a, refl)
+      go (Some b) = (b, refl)
 
   -- the end on the right
   agrees-later : (n : ℕ) (g : Forest A) → Agrees A (cond (leb (count g) n) Reason.LastSibling Reason.Moves) (top (later n g))
@@ -83,14 +84,14 @@ module _ {A : Type 0} where
   agrees-end s (Forest.tree a c f) = leads refl (edge-some s a c f).1
 
   -- the end on a side
-  agrees-sibling : {a : A} (s : Side) (i : ℕ) (g : Forest A) → top (later i g) ≡ some a
+  agrees-sibling : {a : A} (s : Side) (i : ℕ) (g : Forest A) → top (later i g) ≡ Some a
       → Agrees A (cond (at_end s g (suc i)) (end_reason s) Reason.Moves) (top (from (shifted s (suc i)) g))
   unfolding is_moves end_reason at_end from shifted top
   agrees-sibling Side.left zero g e = stops refl refl
   agrees-sibling Side.left (suc i) g e = rw (leb-suc-suc (suc i) 0, leb-suc-zero i) (leads refl (earlier i g e).1)
   agrees-sibling Side.right i g e = agrees-later (suc i) g
 
-  agrees-parent : {a : A} (g : Forest A) (i : ℕ) (p : Path) → label_at g (i ∷ p) ≡ some a → Agrees A (reason_at g Letter.parent i p) (label_at g p)
+  agrees-parent : {a : A} (g : Forest A) (i : ℕ) (p : Path) → label_at g (i ∷ p) ≡ Some a → Agrees A (reason_at g Letter.parent i p) (label_at g p)
   unfolding is_moves reason_at label_at
   agrees-parent g i [] e = stops refl refl
   agrees-parent g i (j ∷ p) e = go (parent-named i (j ∷ p) e)
@@ -109,7 +110,7 @@ module _ {A : Type 0} where
   agrees-above x d f Letter.parent = stops refl refl
   agrees-above x d f Letter.stay = stops refl refl
 
-  agrees-node : {b : A} (x : A) (d f : Forest A) (c : Letter) (i : ℕ) (p : Path) → label_at (Forest.tree x d f) (suc i ∷ p) ≡ some b
+  agrees-node : {b : A} (x : A) (d f : Forest A) (c : Letter) (i : ℕ) (p : Path) → label_at (Forest.tree x d f) (suc i ∷ p) ≡ Some b
       → Agrees A (reason_at (Forest.tree x d f) c (suc i) p) (answer (Forest.tree x d f) c (suc i ∷ p))
   unfolding reason_at answer tried
   agrees-node x d f (Letter.root s) i p e = agrees-root s x d f (suc i ∷ p)
@@ -123,9 +124,9 @@ module _ {A : Type 0} where
   unfolding is_moves reason_of answer label_at
   agrees Forest.none c p n = stops refl (cond-none (is_above p && not (is_root c)) (label_at-none (tried Forest.none c p)))
   agrees (Forest.tree x d f) c [] n = agrees-above x d f c
-  agrees (Forest.tree x d f) c (zero ∷ p) (node e) = absurd (none-ne-some _ e)
+  agrees (Forest.tree x d f) c (zero ∷ p) (node e) = absurd (none-some _ e)
   agrees (Forest.tree x d f) c (suc i ∷ p) (node e) = agrees-node x d f c i p e
 
   -- a letter's reason is that it moves exactly if its answer is a node
-  pub moves-answer : (g : Forest A) (c : Letter) (p : Path) → Named g p → (reason_of g c p ≡ Reason.Moves) ↔ (answer g c p ≢ Option.none)
+  pub moves-answer : (g : Forest A) (c : Letter) (p : Path) → Named g p → (reason_of g c p ≡ Reason.Moves) ↔ (answer g c p ≢ None)
   moves-answer g c p n = agrees-moves (agrees g c p n)

@@ -1,15 +1,15 @@
 -- The reason by what is decided at a place: whether the walked forest is empty, whether the place is above it, and whether the letter leads
 -- to a node.
 use Rattle.std.specs.Prelude.{Bool, true, false, cond}
-use Rattle.std.proofs.Math.Option.{Option, none, some}
+use Rattle.std.specs.Prelude.{Option, None, Some}
 use Rattle.forest.specs.Letter.{Letter}
 use Rattle.reasons.specs.declared.Reason.{Reason}
 use Rattle.reasons.specs.Reason.{end_reason, reason_above}
 
 -- there is such a node
 unfoldable pub is_found : {A : Type 0} → Option A → Bool
-is_found none = false
-is_found (some a) = true
+is_found None = false
+is_found (Some a) = true
 
 -- the reason of a letter that leads nowhere from a node, where it can; a, z and s always lead to one
 unfoldable pub stop_reason : Letter → Reason

@@ -1,47 +1,44 @@
 -- What reason answers and leaves, from what is lent (document 02, Note 11).
-use Rattle.std.specs.Prelude.{ℕ, ◌≡◌, Bool, true, cond, ◌&&◌, List}
-use Rattle.std.proofs.Math.Option.{Option, none, some}
+use Rattle.std.specs.Prelude.{ℕ, ◌≡◌, Bool, true, List, Result, Ok, Err}
+use Rattle.std.specs.Prelude.{Option, None, Some}
 use Rattle.rule.specs.declared.Rule.{Rule}
 use Rattle.refusal.specs.declared.Refusal.{Refusal}
 use Rattle.plan.specs.declared.Checked.{Checked}
 use Rattle.plan.specs.Check.{checked, rules_of}
-use Rattle.forest.specs.declared.Walked.{Walked}
 use Rattle.forest.specs.Forest.{forest}
 use Rattle.forest.specs.Letter.{Letter, letter_of}
 use Rattle.forest.specs.Reference.{Path}
-use Rattle.forest.specs.Outcome.{enough_work, work_after}
-use Rattle.forest.specs.Walk.{Begun, refused, at, enough_cursor, place_judged}
+use Rattle.forest.specs.Outcome.{work_after}
+use Rattle.forest.specs.Walk.{Begun, refused, at, enough_place, lent_judged, place_judged}
 use Rattle.reasons.specs.declared.Reason.{Reason}
-use Rattle.reasons.specs.declared.Reasoned.{Reasoned}
 use Rattle.reasons.specs.Reason.{reason_of}
 use Rattle.reasons.specs.Says.{Says}
 
 -- "All that is lent, work too, is refused as in walk": 8: work or cursor is too short
-unfoldable pub enough_asked : List ℕ → List ℕ → ℕ → Bool
-enough_asked work cursor n = enough_work n work && enough_cursor n cursor
+abbrev pub enough_asked : List ℕ → List ℕ → ℕ → Bool
+enough_asked work cursor n = enough_place work cursor n
 
 -- n and start, or the refusal
-unfoldable pub asked_judged : List ℕ → List ℕ → Checked → Checked
-asked_judged work cursor (Checked.Accepted n start) = cond (enough_asked work cursor n) (Checked.Accepted n start) (Checked.Refused Refusal.Lent)
-asked_judged work cursor (Checked.Refused x) = Checked.Refused x
+abbrev pub asked_judged : List ℕ → List ℕ → Result Checked Refusal → Result Checked Refusal
+asked_judged work cursor x = lent_judged work cursor x
 
 -- "For a plan, a cursor and one letter, say which holds", of the walked rule's forest; .. 10
-unfoldable pub reasoned_at : List Rule → Letter → Begun → Reasoned
-reasoned_at R c (refused x) = Reasoned.Refused x
-reasoned_at R c (at n r p) = Reasoned.Because (reason_of (forest R r) c p)
+unfoldable pub reasoned_at : List Rule → Letter → Begun → Result Reason Refusal
+reasoned_at R c (refused x) = Err x
+reasoned_at R c (at n r p) = Ok (reason_of (forest R r) c p)
 
 -- .. 9, at 0: "the byte's place counted from 0 for 9", before 10
-unfoldable pub reasoned_by : List Rule → Option Letter → Begun → Reasoned
-reasoned_by R none b = Reasoned.Refused (Refusal.Letter 0)
-reasoned_by R (some c) b = reasoned_at R c b
+unfoldable pub reasoned_by : List Rule → Option Letter → Begun → Result Reason Refusal
+reasoned_by R None b = Err (Refusal.Letter 0)
+reasoned_by R (Some c) b = reasoned_at R c b
 
 -- on what was judged before
-unfoldable pub reasoned_from : List Rule → List ℕ → ℕ → Checked → Reasoned
-reasoned_from R cursor letter (Checked.Accepted n start) = reasoned_by R (letter_of letter) (place_judged R n start cursor)
-reasoned_from R cursor letter (Checked.Refused x) = Reasoned.Refused x
+unfoldable pub reasoned_from : List Rule → List ℕ → ℕ → Result Checked Refusal → Result Reason Refusal
+reasoned_from R cursor letter (Ok x) = reasoned_by R (letter_of letter) (place_judged R x.n x.start cursor)
+reasoned_from R cursor letter (Err x) = Err x
 
 -- as check, 8, 9, 10
-unfoldable pub reasoned : List ℕ → List ℕ → List ℕ → ℕ → Reasoned
+unfoldable pub reasoned : List ℕ → List ℕ → List ℕ → ℕ → Result Reason Refusal
 reasoned s work cursor letter = reasoned_from (rules_of s) cursor letter (asked_judged work cursor (checked s))
 
 -- "Past 8 .. the first 32 × n words of work end as zeros" (document 01)
@@ -55,13 +52,13 @@ pub record Explained (s work cursor : List ℕ) (letter : ℕ) (w : Reason) : Ty
   pub walked : ℕ
   pub path : Path
   pub pressed : Letter
-  pub accepted : checked s ≡ Checked.Accepted n start
+  pub accepted : checked s ≡ Ok (record { n = n; start = start })
   pub lent : enough_asked work cursor n ≡ true
-  pub reads : letter_of letter ≡ some pressed
+  pub reads : letter_of letter ≡ Some pressed
   pub place : place_judged (rules_of s) n start cursor ≡ at n walked path
   pub says : Says (forest (rules_of s) walked) pressed path w
 
 -- what a walk answers that is refused where reason is
-unfoldable pub as_walked : Reasoned → Walked
-as_walked (Reasoned.Because w) = Walked.Accepted
-as_walked (Reasoned.Refused x) = Walked.Refused x
+unfoldable pub as_walked : Result Reason Refusal → Result Unit Refusal
+as_walked (Ok w) = Ok tt
+as_walked (Err x) = Err x

@@ -1,6 +1,6 @@
 -- What each reason says of the unfolded forest and a path (document 02, Note 11), each sentence by itself.
 use Rattle.std.specs.Prelude.{ℕ, ◌≡◌, ◌≢◌, false, [], ◌∷◌}
-use Rattle.std.proofs.Math.Option.{none}
+use Rattle.std.specs.Prelude.{None}
 use Rattle.forest.specs.Forest.{Forest, count}
 use Rattle.forest.specs.Place.{Side}
 use Rattle.forest.specs.Letter.{Letter, is_root}
@@ -42,7 +42,7 @@ pub record OnRoot (c : Letter) (p : Path) : Type 0 where
 
 -- "say which holds": the sentence of each; "the letter moves (0)", the finger's answer isn't nowhere; "the forest is empty (2)"
 unfoldable pub Says : {A : Type 0} → Forest A → Letter → Path → Reason → Type 0
-Says g c p Reason.Moves = answer g c p ≢ none
+Says g c p Reason.Moves = answer g c p ≢ None
 Says g c p Reason.Above = AboveTrees g c p
 Says g c p Reason.NoTrees = g ≡ Forest.none
 Says g c p Reason.NoChildren = Childless g c p

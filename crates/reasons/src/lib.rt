@@ -4,10 +4,8 @@
 ghost use Rattle.std.specs.Prelude.{◌≡◌};
 ghost use Rattle.reasons.specs.Reason.{number_of};
 
-use refusal::Refusal;
-
 // Why a letter moves or doesn't; specs/Reason.antt gives the number that document 02 has for each.
-#[derive(Clone, Copy)]
+#[derive(Clone, Copy, Debug, PartialEq, Eq)]
 pub enum Reason {
     Moves,
     Above,
@@ -16,13 +14,6 @@ pub enum Reason {
     LastSibling,
     FirstSibling,
     Root,
-}
-
-// What reason answers: why, or the refusal.
-#[derive(Clone, Copy)]
-pub enum Reasoned {
-    Because(Reason),
-    Refused(Refusal),
 }
 
 impl Reason {

@@ -1,8 +1,7 @@
 -- Laws of the lengths of a format. Above this crate a format is known by them: a record has its words, at most ten bytes, and records one after
 -- another lie apart. Assumes nothing.
-use Prim.Native.Nat.{ℕ, suc, ◌+◌, ◌*◌, ◌≤◌, ◌<◌}
+use Prim.Native.Nat.{ℕ, ◌+◌, ◌*◌, ◌≤◌, ◌<◌}
 use native.Mathlib.Omega.{arith}
-use native.Mathlib.Nat.{mul-le-mul_left}
 use mathlib.Core.Path.{◌≡◌, refl}
 use Rattle.record.specs.declared.Format.{Format}
 use Rattle.record.specs.Format.{word_length, high_length, length_of_record, record_words, largest_label, most_label}

@@ -1,3 +1,4 @@
 pub mod Format
 pub mod Record
 pub mod Records
+pub mod RuleRecords

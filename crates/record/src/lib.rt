@@ -1,13 +1,13 @@
 // A rule's record (document 01, "A plan's bytes", and document 02, Note 2): its words as they stand in the bytes.
 #![tactic(auto)]
 
-ghost use Rattle.std.specs.Prelude.{◌≡◌, ◌++◌, ◌+◌, ◌*◌, ◌≤◌, length, take, drop};
+ghost use Rattle.std.specs.Prelude.{◌≡◌, ◌++◌, ◌+◌, ◌*◌, ◌≤◌, ◌<◌, length, take, drop};
 ghost use Rattle.words.specs.Front.{in_front};
 ghost use Rattle.words.specs.Number.{number};
 ghost use Rattle.words.specs.Put.{put};
 ghost use Rattle.record.specs.Format.{high_length, length_of_record, record_words, most_label};
 ghost use Rattle.record.specs.Record.{record_at, record_bytes};
-ghost use Rattle.record.specs.Records.{records_from, records_bytes};
+ghost use Rattle.record.specs.Records.{records_from, records_bytes, record_in, kind_at};
 
 // The formats of a plan: rules of four words with labels of a byte, or rules of five with labels of three bytes (document 02, Note 2).
 #[derive(Clone, Copy)]
@@ -33,6 +33,7 @@ impl Format {
     pub const WIDE_LABEL: u32 = 16777215;
 
     // The largest label.
+    #[tactic(auto, unfolding(crate::specs::Format::most_label))]
     pub fn most_label(self) -> u32
         ensures { result ≡ most_label self }
     {
@@ -43,6 +44,7 @@ impl Format {
     }
 
     // The bytes of a record.
+    #[tactic(auto, unfolding(crate::specs::Format::high_length))]
     pub fn length(self) -> usize
         ensures { result ≡ length_of_record self }
     {
@@ -53,6 +55,7 @@ impl Format {
     }
 
     // The words of a record.
+    #[tactic(auto, unfolding(crate::specs::Format::record_words))]
     pub fn words(self) -> usize
         ensures { result ≡ record_words self }
     {
@@ -63,6 +66,7 @@ impl Format {
     }
 
     // The fifth word, at an offset; 0 where rules have four.
+    #[tactic(auto, unfolding(crate::specs::Format::high_length, words::specs::Number::number))]
     fn read_high(self, s: &[u8], at: usize) -> u16
         requires { at + high_length self ≤ length s.now }
         ensures { result ≡ number (high_length self) s.now at }
@@ -74,6 +78,7 @@ impl Format {
     }
 
     // The fifth word written, where rules have five.
+    #[tactic(auto, unfolding(crate::specs::Format::high_length, words::specs::Put::put, words::specs::Number::bytes))]
     fn write_high(self, s: &mut [u8], at: usize, high: u16)
         requires { at + high_length self ≤ length s.old }
         ensures { s.new ≡ put (high_length self) s.old at high }
@@ -137,15 +142,52 @@ impl Record {
     }
 }
 
-// The n records of a slice from an offset on, copied to the front of another.
+// The n records of a slice from an offset on, copied to the front of another: record after record, since a copy of bytes in one would need memmove of
+// whoever links the library, which needs memset alone.
 pub fn copy_records(s: &[u8], format: Format, first: usize, n: usize, out: &mut [u8])
     requires { (first + length_of_record format * n ≤ length s.now) × (length_of_record format * n ≤ length out.old) }
     ensures { out.new ≡ in_front (records_bytes format (records_from format s.now first n)) out.old }
 {
     let length = format.length();
-    let mut i = 0;
-    while i < n {
+    for i in 0..n {
         Record::read(s, format, first + length * i).write(out, format, length * i);
-        i += 1;
+    }
+}
+
+// The records of n rules, which lie one after another in the bytes from an offset on.
+#[derive(Clone, Copy)]
+pub struct RuleRecords<'a> {
+    pub bytes: &'a [u8],
+    pub format: Format,
+    pub first: usize,
+    pub n: u16,
+    pub ghost lies: { first + length_of_record format * n ≤ length bytes.now },
+}
+
+impl RuleRecords<'_> {
+    ghost use Rattle.record.specs.RuleRecords.{records_lent};
+
+    // The record of rule i.
+    pub fn record(self, i: u16) -> Record
+        requires { i < self.n }
+        ensures { result ≡ record_in (records_lent self.entry) i }
+    {
+        Record::read(self.bytes, self.format, self.at(i))
+    }
+
+    // Its kind alone.
+    pub fn kind(self, i: u16) -> u16
+        requires { i < self.n }
+        ensures { result ≡ kind_at (records_lent self.entry) i }
+    {
+        words::read16(self.bytes, self.at(i))
+    }
+
+    // Where the record of rule i begins.
+    fn at(self, i: u16) -> usize
+        requires { i < self.n }
+        ensures { result ≡ self.entry.first + length_of_record self.entry.format * i }
+    {
+        self.first + self.format.length() * (i as usize)
     }
 }

@@ -1,5 +1,6 @@
 -- Document 01, "Operations and what they turn down", and document 02 from 12 on: the number and the position of each refusal.
-use Rattle.std.specs.Prelude.{ℕ}
+use Rattle.std.specs.Prelude.{ℕ, List, ◌++◌, codes}
+use Rattle.std.specs.Fmt.{decimal}
 use Rattle.refusal.specs.declared.Refusal.{Refusal}
 
 -- the refusal's number
@@ -43,3 +44,7 @@ position_of (Refusal.Gap i) = i
 position_of (Refusal.Overlap i) = i
 position_of Refusal.TooMany = 0
 position_of Refusal.Far = 0
+
+-- what is printed of a refusal, as "refused 5 at 0" (document 01, "One sample plan")
+abbrev pub refused_text : Refusal → List ℕ
+refused_text why = codes "refused " ++ (decimal (number_of why) ++ (codes " at " ++ decimal (position_of why)))

@@ -1,11 +1,14 @@
 // Why an operation turns its input down (document 01, "Operations and what they turn down"): one type for all of them.
 #![tactic(auto)]
 
-ghost use Rattle.std.specs.Prelude.{◌≡◌};
-ghost use Rattle.refusal.specs.Refusal.{number_of, position_of};
+ghost use Rattle.std.specs.Prelude.{◌≡◌, Some};
+ghost use Rattle.refusal.specs.Refusal.{number_of, position_of, refused_text};
+
+use std::error::Error;
+use std::fmt;
 
 // Why an operation turns its input down; specs/Refusal.antt gives the number and position that documents 01 and 02 have for each.
-#[derive(Clone, Copy)]
+#[derive(Clone, Copy, Debug, PartialEq, Eq)]
 pub enum Refusal {
     Magic,
     Count,
@@ -57,23 +60,32 @@ impl Refusal {
         ensures { result ≡ position_of self }
     {
         match self {
-            Refusal::Malformed(rule) => rule as u64,
-            Refusal::NoRule(rule) => rule as u64,
-            Refusal::WrongSort(rule) => rule as u64,
+            Refusal::Malformed(rule)
+            | Refusal::NoRule(rule)
+            | Refusal::WrongSort(rule)
+            | Refusal::Cycle(rule) => rule as u64,
             Refusal::Letter(at) => at as u64,
-            Refusal::Cycle(rule) => rule as u64,
-            Refusal::Row(row) => row as u64,
-            Refusal::Gap(row) => row as u64,
-            Refusal::Overlap(row) => row as u64,
-            Refusal::Magic => 0,
-            Refusal::Count => 0,
-            Refusal::Distance => 0,
-            Refusal::Start => 0,
-            Refusal::Lent => 0,
-            Refusal::Place => 0,
-            Refusal::Room => 0,
-            Refusal::TooMany => 0,
-            Refusal::Far => 0,
+            Refusal::Row(row) | Refusal::Gap(row) | Refusal::Overlap(row) => row as u64,
+            Refusal::Magic
+            | Refusal::Count
+            | Refusal::Distance
+            | Refusal::Start
+            | Refusal::Lent
+            | Refusal::Place
+            | Refusal::Room
+            | Refusal::TooMany
+            | Refusal::Far => 0,
         }
     }
 }
+
+// As "refused 5 at 0".
+impl fmt::Display for Refusal {
+    ghost output = { λ why. Some (refused_text why) };
+
+    fn fmt<W: fmt::Write>(&self, f: &mut fmt::Formatter<W>) -> fmt::Result {
+        write!(f, "refused {} at {}", self.number(), self.position())
+    }
+}
+
+impl Error for Refusal {}

@@ -106,9 +106,7 @@ pub fn fill(rows: &[u8], cursor: &mut [u8], k: usize)
         × Relinked rows k cursor cursor' }
 {
     write_link(rows, cursor, 0, 0);
-    let mut i: usize = 0;
-    while i < k {
-        i += 1;
-        link_cell(rows, cursor, i);
+    for i in 0..k {
+        link_cell(rows, cursor, i + 1);
     }
 }

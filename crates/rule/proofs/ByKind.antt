@@ -1,4 +1,5 @@
 -- What a record of each kind means, read off the table of kinds. Assumes nothing.
+use Rattle.std.specs.Prelude.{None}
 use Prim.Native.Nat.{ℕ}
 use mathlib.Core.Bool.{◌&&◌}
 use mathlib.Core.Path.{◌≡◌}
@@ -8,7 +9,6 @@ use Rattle.record.specs.declared.Format.{Format}
 use Rattle.record.specs.declared.Record.{Record}
 use Rattle.record.specs.Format.{most_label}
 use Rattle.rule.specs.declared.Rule.{Rule}
-use Rattle.rule.specs.declared.Decoded.{Decoded}
 use Rattle.rule.specs.Rule.{label_in, kind_empty, kind_pair, kind_node, kind_fill, kind_part, kind_join, whole, decode}
 
 module _ (f : Format) (w : Record) where
@@ -36,6 +36,6 @@ module _ (f : Format) (w : Record) where
   unfolding decode
   decode-join e = rw e
 
-  pub decode-none : (w.kind ≡ kind_empty → ⊥) → (w.kind ≡ kind_pair → ⊥) → (w.kind ≡ kind_node → ⊥) → (w.kind ≡ kind_fill → ⊥) → (w.kind ≡ kind_part → ⊥) → (w.kind ≡ kind_join → ⊥) → decode f w ≡ Decoded.Malformed
+  pub decode-none : (w.kind ≡ kind_empty → ⊥) → (w.kind ≡ kind_pair → ⊥) → (w.kind ≡ kind_node → ⊥) → (w.kind ≡ kind_fill → ⊥) → (w.kind ≡ kind_part → ⊥) → (w.kind ≡ kind_join → ⊥) → decode f w ≡ None
   unfolding decode
   decode-none a b c d e g = rw (ne_eqb _ _ a, ne_eqb _ _ b, ne_eqb _ _ c, ne_eqb _ _ d, ne_eqb _ _ e, ne_eqb _ _ g)

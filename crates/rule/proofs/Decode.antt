@@ -1,5 +1,6 @@
 -- A record and the rule that it means determine each other: the table of kinds is read both ways, kind by kind.
 -- A record that means a rule passes its kind's tests, so each word that the rule doesn't hold is 0. All over the format. Assumes nothing.
+use Rattle.std.specs.Prelude.{Option, Some}
 use Prim.Native.Nat.{ℕ, ◌*◌, ◌+◌, ◌/◌, ◌%◌, ◌≤◌, ◌<◌}
 use mathlib.Core.Bool.{Bool, true, false, cond, ◌&&◌, and-eq-true_iff}
 use mathlib.Core.Path.{◌≡◌, refl, sym, ap, subst}
@@ -11,7 +12,6 @@ use Rattle.record.specs.declared.Record.{Record}
 use Rattle.record.specs.Format.{most_label}
 use Rattle.record.proofs.Formats.{label-most}
 use Rattle.rule.specs.declared.Rule.{Rule}
-use Rattle.rule.specs.declared.Decoded.{Decoded}
 use Rattle.rule.specs.Rule.{largest_label, high_part, label_in, kind_empty, kind_pair, kind_node, kind_fill, kind_part, kind_join, whole, decode, encode, labelled_to, labelled}
 
 -- a label from its two words, and its two words from it
@@ -26,7 +26,7 @@ high_word a b l = omega arith
 
 module _ (f : Format) where
   -- the rule of a rule's record is the rule
-  pub decode-encode : (r : Rule) → T (labelled_to (most_label f) r) → decode f (encode r) ≡ Decoded.Whole r
+  pub decode-encode : (r : Rule) → T (labelled_to (most_label f) r) → decode f (encode r) ≡ Some r
   unfolding decode encode labelled_to whole label_in
   decode-encode Rule.Empty h = refl
   decode-encode (Rule.Pair b c) h = refl
@@ -59,20 +59,20 @@ labelled-more (Rule.Join b c) m n l h = tt
 
 -- a kind's row of the table: its tests passed, and its rule has this record
 module _ (f : Format) where
-  row : (w : Record) (r : Rule) (b : Bool) (q : Rule) → (b ≡ true → Means f w q) → whole b q ≡ Decoded.Whole r → Means f w r
+  row : (w : Record) (r : Rule) (b : Bool) (q : Rule) → (b ≡ true → Means f w q) → whole b q ≡ Some r → Means f w r
   unfolding whole
   row w r true q g h = subst (λ (x : Rule). Means f w x) (cc) (g refl)
   row w r false q g h = let z : ◌≡◌ {A = ℕ} 0 1 = cc in absurd (omega arith)
 
   -- the table is searched from kind 0 up
-  searched : (w : Record) (r : Rule) (k : ℕ) (x y : Decoded)
-      → (w.kind ≡ k → x ≡ Decoded.Whole r → Means f w r)
-      → (y ≡ Decoded.Whole r → Means f w r)
-      → cond (eqb w.kind k) x y ≡ Decoded.Whole r
+  searched : (w : Record) (r : Rule) (k : ℕ) (x y : Option Rule)
+      → (w.kind ≡ k → x ≡ Some r → Means f w r)
+      → (y ≡ Some r → Means f w r)
+      → cond (eqb w.kind k) x y ≡ Some r
       → Means f w r
   searched w r k x y here later = by (eqb w.kind k) (λ e. here (eqb-true _ _ e))
     where
-      by : (b : Bool) → (b ≡ true → x ≡ Decoded.Whole r → Means f w r) → cond b x y ≡ Decoded.Whole r → Means f w r
+      by : (b : Bool) → (b ≡ true → x ≡ Some r → Means f w r) → cond b x y ≡ Some r → Means f w r
       by true g h = g refl h
       by false g h = later h
 
@@ -81,7 +81,7 @@ module _ (f : Format) where
   pairwise w t = let u = (and-eq-true_iff (eqb w.three 0) (eqb w.high 0)).0 t in (eqb-true _ _ u.0, eqb-true _ _ u.1)
 
   -- a record that decodes has its rule's words, and a label in range
-  pub decode-means : (w : Record) (r : Rule) → decode f w ≡ Decoded.Whole r → Means f w r
+  pub decode-means : (w : Record) (r : Rule) → decode f w ≡ Some r → Means f w r
   unfolding decode encode labelled_to label_in
   decode-means w r =
       searched w r kind_empty _ _
@@ -117,15 +117,15 @@ module _ (f : Format) where
       (λ h. let z : ◌≡◌ {A = ℕ} 0 1 = cc in absurd (omega arith)))))))
 
   -- of 16-bit words
-  pub encode-decode : (w : Record) (r : Rule) → w.one < high_part → decode f w ≡ Decoded.Whole r → encode r ≡ w
+  pub encode-decode : (w : Record) (r : Rule) → w.one < high_part → decode f w ≡ Some r → encode r ≡ w
   encode-decode w r l h = (decode-means w r h).same l
 
-  pub decode-labelled_to : (w : Record) (r : Rule) → decode f w ≡ Decoded.Whole r → T (labelled_to (most_label f) r)
+  pub decode-labelled_to : (w : Record) (r : Rule) → decode f w ≡ Some r → T (labelled_to (most_label f) r)
   decode-labelled_to w r h = (decode-means w r h).labels
 
-  pub decode-labelled : (w : Record) (r : Rule) → decode f w ≡ Decoded.Whole r → T (labelled r)
+  pub decode-labelled : (w : Record) (r : Rule) → decode f w ≡ Some r → T (labelled r)
   unfolding labelled
   decode-labelled w r h = labelled-more r (most_label f) largest_label (label-most f) (decode-labelled_to w r h)
 
-  pub decode-kind : (w : Record) (r : Rule) → decode f w ≡ Decoded.Whole r → (encode r).kind ≡ w.kind
+  pub decode-kind : (w : Record) (r : Rule) → decode f w ≡ Some r → (encode r).kind ≡ w.kind
   decode-kind w r h = (decode-means w r h).kind

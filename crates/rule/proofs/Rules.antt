@@ -1,5 +1,6 @@
 -- Rules of records. Where every record decodes, names rules in range and has the right sorts, the kind in a record is the kind of its
 -- rule, so the rules are sound for every rank that falls along names. Assumes nothing.
+use Rattle.std.specs.Prelude.{Option, Some}
 use Prim.Native.Nat.{ℕ, zero, suc, ◌+◌, ◌*◌, ◌≤◌, ◌<◌}
 use mathlib.Core.Bool.{Bool, true, false, ◌&&◌}
 use mathlib.Core.List.{List}
@@ -11,7 +12,6 @@ use lib.ListN.{length, length-map, get_or-map, get_or-eq_default}
 use Rattle.record.specs.declared.Format.{Format}
 use Rattle.record.specs.declared.Record.{Record}
 use Rattle.rule.specs.declared.Rule.{Rule}
-use Rattle.rule.specs.declared.Decoded.{Decoded}
 use Rattle.rule.specs.Rule.{kind_empty, decode, encode, rule_of, every, sorts, rules_in}
 use Rattle.record.specs.Record.{length_of_record, record_at}
 use Rattle.record.specs.Records.{records_from, record_in, kind_at}
@@ -30,9 +30,9 @@ unfolding rule
 past-rule R r h = get_or-eq_default R Rule.Empty h
 
 -- what a record has that is judged fine
-pub record Named (ws : List Record) (i : ℕ) (d : Decoded) : Type 0 where
+pub record Named (ws : List Record) (i : ℕ) (d : Option Rule) : Type 0 where
   pub means : Rule
-  pub decodes : d ≡ Decoded.Whole means
+  pub decodes : d ≡ Some means
   pub ranged : T (every (λ x. ltb x (length ws)) means)
   pub sorted : T (sorts (kind_at ws) means)
 
@@ -45,16 +45,16 @@ pub length-rules_in : (f : Format) (ws : List Record) → length (rules_in f ws)
 unfolding rules_in
 length-rules_in f ws = length-map ws (λ (w : Record). rule_of (decode f w))
 
-pub rule-decoded : (f : Format) (ws : List Record) (i : ℕ) (r : Rule) → decode f (record_in ws i) ≡ Decoded.Whole r → rule (rules_in f ws) i ≡ r
+pub rule-decoded : (f : Format) (ws : List Record) (i : ℕ) (r : Rule) → decode f (record_in ws i) ≡ Some r → rule (rules_in f ws) i ≡ r
 unfolding rule_of
 rule-decoded f ws i r h = rule-in f ws i ∙ ap rule_of h
 
 -- past the end a record counts as the empty rule's
-past : (f : Format) (ws : List Record) (i : ℕ) → length ws ≤ i → decode f (record_in ws i) ≡ Decoded.Whole Rule.Empty
+past : (f : Format) (ws : List Record) (i : ℕ) → length ws ≤ i → decode f (record_in ws i) ≡ Some Rule.Empty
 unfolding record_in decode
 past f ws i h = rw (get_or-eq_default ws (record { kind = 0; one = 0; two = 0; three = 0; high = 0 }) h)
 
-kind-decoded : (f : Format) (ws : List Record) (i : ℕ) (r : Rule) → decode f (record_in ws i) ≡ Decoded.Whole r → kind_in (rules_in f ws) i ≡ kind_at ws i
+kind-decoded : (f : Format) (ws : List Record) (i : ℕ) (r : Rule) → decode f (record_in ws i) ≡ Some r → kind_in (rules_in f ws) i ≡ kind_at ws i
 unfolding kind_in kind_at
 kind-decoded f ws i r h = ap (λ (x : Rule). (encode x).kind) (rule-decoded f ws i r h) ∙ decode-kind f (record_in ws i) r h
 

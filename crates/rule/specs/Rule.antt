@@ -1,11 +1,10 @@
 -- The rule that a record means (document 01, "A plan's bytes"; document 02, Note 2).
-use Rattle.std.specs.Prelude.{ℕ, ◌+◌, ◌*◌, ◌/◌, ◌%◌, Bool, true, false, cond, ◌&&◌, ◌||◌, List, map, get_or, leb, eqb}
+use Rattle.std.specs.Prelude.{ℕ, ◌+◌, ◌*◌, ◌/◌, ◌%◌, Bool, true, false, cond, ◌&&◌, ◌||◌, List, map, get_or, leb, eqb, Option, Some, None}
 use Rattle.record.specs.declared.Format.{Format}
 use Rattle.record.specs.declared.Record.{Record}
 use Rattle.record.specs.Format.{most_label}
 pub use Rattle.record.specs.Format.{largest_label}
 use Rattle.rule.specs.declared.Rule.{Rule}
-use Rattle.rule.specs.declared.Decoded.{Decoded}
 
 -- the kinds, by name
 abbrev pub kind_empty : ℕ
@@ -34,15 +33,15 @@ unfoldable pub label_in : Record → ℕ
 label_in w = w.one + high_part * w.high
 
 -- a rule if its record is well formed
-unfoldable pub whole : Bool → Rule → Decoded
-whole true r = Decoded.Whole r
-whole false r = Decoded.Malformed
+unfoldable pub whole : Bool → Rule → Option Rule
+whole true r = Some r
+whole false r = None
 
 unused : ℕ → Bool
 unused w = eqb w 0
 
 -- The table of kinds: words 1, 2, 3 of each, "unused words are 0"; Note 2: the fifth word is "zero in kinds without a label".
-unfoldable pub decode : Format → Record → Decoded
+unfoldable pub decode : Format → Record → Option Rule
 unfolding whole unused label_in
 decode f w =
     cond (eqb w.kind kind_empty) (whole (unused w.one && unused w.two && unused w.three && unused w.high) Rule.Empty)
@@ -51,7 +50,7 @@ decode f w =
     (cond (eqb w.kind kind_fill) (whole (unused w.three && unused w.high) (Rule.Fill w.one w.two))
     (cond (eqb w.kind kind_part) (whole (leb (label_in w) (most_label f)) (Rule.Part (label_in w) w.two w.three))
     (cond (eqb w.kind kind_join) (whole (unused w.three && unused w.high) (Rule.Join w.one w.two))
-    Decoded.Malformed)))))
+    None)))))
 
 -- a rule's record, the same table read the other way
 unfoldable pub encode : Rule → Record
@@ -107,9 +106,9 @@ unfolding labelled_to
 labelled x = labelled_to largest_label x
 
 -- the rule of a record, and the empty rule where there is none (no accepted plan has such a record)
-unfoldable pub rule_of : Decoded → Rule
-rule_of (Decoded.Whole r) = r
-rule_of Decoded.Malformed = Rule.Empty
+unfoldable pub rule_of : Option Rule → Rule
+rule_of (Some r) = r
+rule_of None = Rule.Empty
 
 -- the rules of records
 unfoldable pub rules_in : Format → List Record → List Rule

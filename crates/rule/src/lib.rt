@@ -18,24 +18,12 @@ pub enum Rule {
     Join { outer: u16, inner: u16 },
 }
 
-// What a record means: a rule, or none.
-#[derive(Clone, Copy)]
-pub enum Decoded {
-    Whole(Rule),
-    Malformed,
-}
-
-impl Decoded {
-    // A rule if its record is well formed.
-    fn whole(fine: bool, rule: Rule) -> Decoded
-        ensures { result ≡ whole fine rule }
-    {
-        if fine {
-            Decoded::Whole(rule)
-        } else {
-            Decoded::Malformed
-        }
-    }
+// A rule if its record is well formed.
+#[tactic(auto, unfolding(crate::specs::Rule::whole))]
+fn whole(fine: bool, rule: Rule) -> Option<Rule>
+    ensures { result ≡ whole fine rule }
+{
+    if fine { Some(rule) } else { None }
 }
 
 // Whether two numbers are below a third: whether the larger is.
@@ -63,6 +51,7 @@ impl Rule {
     pub const HIGH_PART: u32 = 65536;
 
     // The label of a record that has one: word 1, and the fifth word as its high part.
+    #[tactic(auto, unfolding(crate::specs::Rule::label_in))]
     pub fn label(w: Record) -> u32
         ensures { result ≡ label_in w }
     {
@@ -79,8 +68,8 @@ impl Rule {
         label <= format.most_label()
     }
 
-    // The rule that a record means: the table of kinds.
-    pub fn decode(w: Record, format: Format) -> Decoded
+    // The rule that a record means, or none: the table of kinds.
+    pub fn decode(w: Record, format: Format) -> Option<Rule>
         ensures { result ≡ decode format w }
     {
         let kind = w.kind;
@@ -91,13 +80,13 @@ impl Rule {
         let unused = three == Record::UNUSED;
         let low = high == Record::UNUSED;
         if kind == Rule::EMPTY {
-            return Decoded::whole(
+            return whole(
                 (one == Record::UNUSED) & (two == Record::UNUSED) & unused & low,
                 Rule::Empty,
             );
         }
         if kind == Rule::PAIR {
-            return Decoded::whole(
+            return whole(
                 unused & low,
                 Rule::Pair {
                     first: one,
@@ -107,7 +96,7 @@ impl Rule {
         }
         if kind == Rule::NODE {
             let label = Rule::label(w);
-            return Decoded::whole(
+            return whole(
                 (label <= format.most_label()) & unused,
                 Rule::Node { label, under: two },
             );
@@ -116,7 +105,7 @@ impl Rule {
     }
 
     // The same table from kind 3 on: the kinds that have to do with a hole.
-    fn decode_filled(w: Record, format: Format) -> Decoded
+    fn decode_filled(w: Record, format: Format) -> Option<Rule>
         requires { kind_node < w.kind }
         ensures { result ≡ decode format w }
     {
@@ -127,7 +116,7 @@ impl Rule {
         let high = w.high;
         let unused = (three == Record::UNUSED) & (high == Record::UNUSED);
         if kind == Rule::FILL {
-            return Decoded::whole(
+            return whole(
                 unused,
                 Rule::Fill {
                     outer: one,
@@ -137,7 +126,7 @@ impl Rule {
         }
         if kind == Rule::PART {
             let label = Rule::label(w);
-            return Decoded::whole(
+            return whole(
                 label <= format.most_label(),
                 Rule::Part {
                     label,
@@ -147,7 +136,7 @@ impl Rule {
             );
         }
         if kind == Rule::JOIN {
-            return Decoded::whole(
+            return whole(
                 unused,
                 Rule::Join {
                     outer: one,
@@ -155,6 +144,6 @@ impl Rule {
                 },
             );
         }
-        Decoded::Malformed
+        None
     }
 }

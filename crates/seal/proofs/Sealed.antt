@@ -1,5 +1,6 @@
 -- What an accepting answer of seal tells, the answer as a function of what seal looks at, and the answer for each outcome of the
 -- tests in their order. All over the format, and for a record length that is none of the two there is one answer. Assumes nothing.
+use Rattle.std.specs.Prelude.{Result, Ok, Err}
 use Prim.Native.Nat.{ℕ, ◌+◌, ◌*◌, ◌/◌, ◌%◌, ◌≤◌, ◌<◌}
 use mathlib.Core.Bool.{Bool, true, false, cond, ◌&&◌, ◌||◌, and-eq-true_iff}
 use mathlib.Core.List.{List, ◌++◌}
@@ -11,8 +12,6 @@ use borrow.Author.Tests.{le-leb, lt-leb, leb-true, eqb-true}
 use Rattle.words.specs.Number.{word_count}
 use Rattle.record.specs.declared.Format.{Format}
 use Rattle.refusal.specs.declared.Refusal.{Refusal}
-use Rattle.judge.specs.declared.Judged.{Judged}
-use Rattle.plan.specs.declared.Written.{Written}
 use Rattle.record.specs.Format.{word_length, high_length, length_of_record, record_words}
 use Rattle.record.specs.Records.{records_from, records_bytes}
 use Rattle.judge.specs.Judge.{judged}
@@ -56,28 +55,28 @@ unfolding high_length record_words
 words-counted Format.Narrow k e = omega arith
 words-counted Format.Wide k e = omega arith
 
-length-passed : (b : Bool) (x : Written) (e : Refusal) (m : ℕ) → cond b x (Written.Refused e) ≡ Written.Length m → (b ≡ true) × (x ≡ Written.Length m)
+length-passed : (b : Bool) (x : Result ℕ Refusal) (e : Refusal) (m : ℕ) → cond b x (Err e) ≡ Ok m → (b ≡ true) × (x ≡ Ok m)
 length-passed true x e m h = (refl, h)
 length-passed false x e m h = let z : ◌≡◌ {A = ℕ} 0 1 = cc in absurd (omega arith)
 
-length-roomed : (need : ℕ) (out : List ℕ) (j : Judged) (m : ℕ) → roomed need out j ≡ Written.Length m → (j ≡ Judged.Fine) × (need ≤ length out) × (m ≡ need)
+length-roomed : (need : ℕ) (out : List ℕ) (j : Result Unit Refusal) (m : ℕ) → roomed need out j ≡ Ok m → (j ≡ Ok tt) × (need ≤ length out) × (m ≡ need)
 unfolding roomed
-length-roomed need out Judged.Fine m h =
-    let p = length-passed (leb need (length out)) (Written.Length need) Refusal.Room m h in
+length-roomed need out (Ok _) m h =
+    let p = length-passed (leb need (length out)) (Ok need) Refusal.Room m h in
     let e = p.1 in
     (refl, leb-true _ _ p.0, cc)
-length-roomed need out (Judged.Refused e) m h = let z : ◌≡◌ {A = ℕ} 0 1 = cc in absurd (omega arith)
+length-roomed need out (Err e) m h = let z : ◌≡◌ {A = ℕ} 0 1 = cc in absurd (omega arith)
 
 module _ (f : Format) where
   pub record Sealed (most : ℕ) (words : List ℕ) (start : ℕ) (out : List ℕ) (m : ℕ) : Type 0 where
     -- "2: the words aren't four to a rule": else none of those counted is left over, and each has its two bytes in a record
     pub none_left : length_of_record f * given_count f words ≡ word_length * word_count words
     pub limits : in_limits most (given_count f words) ≡ true
-    pub fine : judged f (given f words) start ≡ Judged.Fine
+    pub fine : judged f (given f words) start ≡ Ok tt
     pub room : length_of_record f * given_count f words + trailer_length ≤ length out
     pub size : m ≡ length_of_record f * given_count f words + trailer_length
 
-  pub sealed-facts : (most : ℕ) (words : List ℕ) (start : ℕ) (out : List ℕ) (m : ℕ) → sealed_up_to most f words start out ≡ Written.Length m → Sealed most words start out m
+  pub sealed-facts : (most : ℕ) (words : List ℕ) (start : ℕ) (out : List ℕ) (m : ℕ) → sealed_up_to most f words start out ≡ Ok m → Sealed most words start out m
   unfolding sealed_up_to given_count
   sealed-facts most words start out m h =
       let n = given_count f words in
@@ -86,8 +85,8 @@ module _ (f : Format) where
       let r = length-roomed (length_of_record f * n + trailer_length) out (judged f (given f words) start) m p.1 in
       record { none_left = words-counted f (word_count words) (eqb-true _ _ q.0); limits = q.1; fine = r.0; room = r.1; size = r.2 }
 
-  unfoldable pub seal_answer : ℕ → Bool → ℕ → Judged → List ℕ → Written
-  seal_answer most whole n j out = cond (whole && in_limits most n) (roomed (length_of_record f * n + trailer_length) out j) (Written.Refused Refusal.Count)
+  unfoldable pub seal_answer : ℕ → Bool → ℕ → Result Unit Refusal → List ℕ → Result ℕ Refusal
+  seal_answer most whole n j out = cond (whole && in_limits most n) (roomed (length_of_record f * n + trailer_length) out j) (Err Refusal.Count)
 
   pub sealed-answer : (most : ℕ) (words : List ℕ) (start : ℕ) (out : List ℕ)
       → sealed_up_to most f words start out ≡ seal_answer most (eqb (word_count words % record_words f) 0) (given_count f words) (judged f (given f words) start) out
@@ -96,7 +95,7 @@ module _ (f : Format) where
 
   -- ---- the answer by the tests in their order; n is the number of rules given
   module _ (most : ℕ) (words : List ℕ) (start : ℕ) (out : List ℕ) (n : ℕ) (e : n ≡ given_count f words) where
-    abbrev asked : Judged
+    abbrev asked : Result Unit Refusal
     asked = judged f (records_from f words 0 n) start
 
     abbrev need : ℕ
@@ -106,7 +105,7 @@ module _ (f : Format) where
     unfolding given
     answered = rw e (sealed-answer most words start out)
 
-    pub not-counted : (eqb (word_count words % record_words f) 0 && in_limits most n) ≡ false → sealed_up_to most f words start out ≡ Written.Refused Refusal.Count
+    pub not-counted : (eqb (word_count words % record_words f) 0 && in_limits most n) ≡ false → sealed_up_to most f words start out ≡ Err Refusal.Count
     unfolding seal_answer
     not-counted h = answered ∙ rw h
 
@@ -118,22 +117,22 @@ module _ (f : Format) where
           leb-true n most ((and-eq-true_iff (leb 1 n) (leb n most)).0 limits).1
 
       -- and j is what judge answered
-      module _ (j : Judged) (judging : j ≡ asked) where
-        answered-judged : (k : Judged) → j ≡ k → sealed_up_to most f words start out ≡ roomed need out k
+      module _ (j : Result Unit Refusal) (judging : j ≡ asked) where
+        answered-judged : (k : Result Unit Refusal) → j ≡ k → sealed_up_to most f words start out ≡ roomed need out k
         unfolding seal_answer
         answered-judged k h = answered ∙ rw (counted, ← judging, h)
 
-        pub not-fine : (r : Refusal) → j ≡ Judged.Refused r → sealed_up_to most f words start out ≡ Written.Refused r
+        pub not-fine : (r : Refusal) → j ≡ Err r → sealed_up_to most f words start out ≡ Err r
         unfolding roomed
-        not-fine r h = answered-judged (Judged.Refused r) h
+        not-fine r h = answered-judged (Err r) h
 
-        pub no_room : j ≡ Judged.Fine → length out < need → sealed_up_to most f words start out ≡ Written.Refused Refusal.Room
+        pub no_room : j ≡ Ok tt → length out < need → sealed_up_to most f words start out ≡ Err Refusal.Room
         unfolding roomed
-        no_room fine h = answered-judged Judged.Fine fine ∙ rw (lt-leb need (length out) h)
+        no_room fine h = answered-judged (Ok tt) fine ∙ rw (lt-leb need (length out) h)
 
-        pub room-enough : j ≡ Judged.Fine → need ≤ length out → sealed_up_to most f words start out ≡ Written.Length need
+        pub room-enough : j ≡ Ok tt → need ≤ length out → sealed_up_to most f words start out ≡ Ok need
         unfolding roomed
-        room-enough fine h = answered-judged Judged.Fine fine ∙ rw (le-leb need (length out) h)
+        room-enough fine h = answered-judged (Ok tt) fine ∙ rw (le-leb need (length out) h)
 
   -- ---- n rules are in the words given
   pub given-fits : (words : List ℕ) (n : ℕ) → n ≡ given_count f words → length_of_record f * n ≤ length words
@@ -159,7 +158,7 @@ module _ (f : Format) where
     pub seal-written : (rules whole : List ℕ)
         → rules ≡ in_front (records_bytes f (records_from f words 0 n)) out
         → whole ≡ take (length_of_record f * n) rules ++ (trailer_bytes f n start ++ drop (length_of_record f * n + trailer_length) rules)
-        → whole ≡ output_as (Written.Length m) f words start out
+        → whole ≡ output_as (Ok m) f words start out
     unfolding output_as output_after plan_bytes
     seal-written rules whole copied closed =
         let ws = records_from f words 0 n in
@@ -177,15 +176,15 @@ module _ (words : List ℕ) (l start : ℕ) (out : List ℕ) where
   unfolding sealed
   sealed-length f e h = rw (e, h)
 
-  pub sealed-output : (f : Format) (r : Written) (whole : List ℕ) → f ≡ format_for l → r ≡ sealed words l start out
+  pub sealed-output : (f : Format) (r : Result ℕ Refusal) (whole : List ℕ) → f ≡ format_for l → r ≡ sealed words l start out
       → whole ≡ output_as r f words start out → whole ≡ sealed_output words l start out
   unfolding sealed_output
   sealed-output f r whole e h w = w ∙ rw (e, h)
 
-  pub sealed-no-length : is_length l ≡ false → (sealed words l start out ≡ Written.Refused Refusal.Magic) × (sealed_output words l start out ≡ out)
+  pub sealed-no-length : is_length l ≡ false → (sealed words l start out ≡ Err Refusal.Magic) × (sealed_output words l start out ≡ out)
   unfolding sealed_output sealed output_as output_after
   sealed-no-length h = (rw h, rw h)
 
-  pub sealed-passed : (m : ℕ) → sealed words l start out ≡ Written.Length m → (is_length l ≡ true) × (sealed_up_to most_rules (format_for l) words start out ≡ Written.Length m)
+  pub sealed-passed : (m : ℕ) → sealed words l start out ≡ Ok m → (is_length l ≡ true) × (sealed_up_to most_rules (format_for l) words start out ≡ Ok m)
   unfolding sealed
   sealed-passed m h = length-passed (is_length l) _ Refusal.Magic m h

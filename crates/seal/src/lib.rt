@@ -4,24 +4,21 @@
 ghost use Rattle.std.specs.Prelude.{ℕ, ◌*◌, ◌%◌, ◌≤◌, ◌≡◌, ◌&&◌, List, length, eqb};
 ghost use Rattle.words.specs.Number.{word_count};
 ghost use Rattle.record.specs.Format.{length_of_record, record_words};
-ghost use Rattle.record.specs.Records.{records_from};
-ghost use Rattle.judge.specs.Judge.{judged};
-ghost use Rattle.judge.specs.Tested.{most_searched};
 ghost use Rattle.plan.specs.Check.{most_rules, in_limits};
 ghost use Rattle.seal.specs.Seal.{format_for, is_length, given_count, sealed_up_to, sealed, output_as, sealed_output};
 
-use judge::{Judged, judge_few, judge_many};
-use plan::{Trailer, Written};
-use record::{Format, copy_records};
+use judge::judge_rules;
+use plan::Trailer;
+use record::{Format, RuleRecords, copy_records};
 use refusal::Refusal;
 
 // Seal: the rule words as a plan without prefix. The answer comes first: refused, nothing is written.
-pub fn seal(words: &[u8], record_length: u16, start: u16, out: &mut [u8]) -> Written
+pub fn seal(words: &[u8], record_length: u16, start: u16, out: &mut [u8]) -> Result<usize, Refusal>
     ensures { (result ≡ sealed words.now record_length start out.old)
         × (out.new ≡ sealed_output words.now record_length start out.old) }
 {
     if !is_length(record_length) {
-        return Written::Refused(Refusal::Magic);
+        return Err(Refusal::Magic);
     }
     let format = format_for(record_length);
     let answer = sealing(words, format, start, out.len());
@@ -49,11 +46,17 @@ fn format_for(length: u16) -> Format
 }
 
 // What seal writes, given its answer: the plan's bytes, or nothing.
-fn write_plan(words: &[u8], format: Format, start: u16, out: &mut [u8], answer: Written)
+fn write_plan(
+    words: &[u8],
+    format: Format,
+    start: u16,
+    out: &mut [u8],
+    answer: Result<usize, Refusal>,
+)
     requires { answer ≡ sealed_up_to most_rules format words.now start out.old }
     ensures { out.new ≡ output_as answer format words.now start out.old }
 {
-    let Written::Length(_) = answer else {
+    let Ok(_) = answer else {
         return;
     };
     let n = given_count(words, format);
@@ -76,33 +79,24 @@ fn counted(words: &[u8], format: Format, n: usize) -> bool
         & ((1 <= n) & (n <= Trailer::MOST_RULES as usize))
 }
 
-// Refusals 4 to 7 and 12 of the rules given, with the room that they need.
-fn judge_words(words: &[u8], format: Format, n: u16, start: u16) -> Judged
-    requires { (length_of_record format * n ≤ length words.now) × (n ≤ most_searched) }
-    ensures { result ≡ judged format (records_from format words.now 0 n) start }
-{
-    if n <= judge::FEW_SEARCHED {
-        return judge_few(words, format, 0, n, start);
-    }
-    judge_many(words, format, 0, n, start)
-}
-
 // Seal's answer, for an output of room bytes.
-fn sealing(words: &[u8], format: Format, start: u16, room: usize) -> Written
+fn sealing(words: &[u8], format: Format, start: u16, room: usize) -> Result<usize, Refusal>
     ensures { (out : List ℕ) → length out ≡ room → result ≡ sealed_up_to most_rules format words.now start out }
 {
     let n = given_count(words, format);
     if !counted(words, format, n) {
-        return Written::Refused(Refusal::Count);
+        return Err(Refusal::Count);
     }
-    match judge_words(words, format, n as u16, start) {
-        Judged::Refused(why) => Written::Refused(why),
-        Judged::Fine => {
-            let need = format.length() * n + Trailer::LENGTH;
-            if room < need {
-                return Written::Refused(Refusal::Room);
-            }
-            Written::Length(need)
-        }
+    let rules = RuleRecords {
+        bytes: words,
+        format,
+        first: 0,
+        n: n as u16,
+    };
+    judge_rules(&rules, start)?;
+    let need = format.length() * n + Trailer::LENGTH;
+    if room < need {
+        return Err(Refusal::Room);
     }
+    Ok(need)
 }

@@ -6,7 +6,7 @@ ghost use Rattle.forest.specs.Sides.{other, pick};
 ghost use Rattle.side.specs.Side.{side_of};
 
 // Left and right.
-#[derive(Clone, Copy)]
+#[derive(Clone, Copy, Debug, PartialEq, Eq)]
 pub enum Side {
     Left,
     Right,

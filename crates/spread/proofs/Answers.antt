@@ -1,5 +1,6 @@
 -- The answer for one rule: its nodes are counted, three bytes of room for each decide, or five where labels are wide, and where they are
 -- there the rows get their tasks and the rule's text is written. Assumes nothing.
+use Rattle.std.specs.Prelude.{Ok, Err}
 use Prim.Native.Nat.{ℕ, ◌*◌, ◌/◌, ◌^◌, ◌≤◌, ◌<◌}
 use native.Mathlib.Omega.{arith}
 use mathlib.Core.Path.{◌≡◌, refl, sym, ap, ◌∙◌}
@@ -12,7 +13,6 @@ use Rattle.record.specs.declared.Format.{Format}
 use Rattle.record.specs.Format.{high_length}
 use Rattle.refusal.specs.declared.Refusal.{Refusal}
 use Rattle.rule.specs.declared.Rule.{Rule}
-use Rattle.plan.specs.declared.Written.{Written}
 use Rattle.plan.specs.Written.{output_after}
 use Rattle.forest.specs.Forest.{Forest, forest, weigh, one, text}
 use Rattle.forest.specs.Outcome.{node_length, text_roomed}
@@ -134,7 +134,7 @@ module _ {s t : List ℕ} {n r : ℕ} {c : Counts} (a : Answerable s n r) (p : C
   pub tasks-next : Taskable t n
   tasks-next = taskable counted
 
-  pub refused : (f : Format) (out : List ℕ) {x : Bool} → Fitting f c (length out) x → x ≡ false → Answered f n r (Written.Refused Refusal.Room) s t out out
+  pub refused : (f : Format) (out : List ℕ) {x : Bool} → Fitting f c (length out) x → x ≡ false → Answered f n r (Err Refusal.Room) s t out out
   unfolding text_roomed output_after
   refused f out h e =
       record {
@@ -181,12 +181,12 @@ module _ {s t : List ℕ} {n r : ℕ} {c : Counts} (a : Answerable s n r) (p : C
             fits = rw same_text (omega (arith, text_length f (forest (first_rules s n) r), enough));
           }
 
-      pub spread-out : {x : ℕ} {w out' : List ℕ} → Ran n (says f (meant u n r) whole) x u w out out' → Answered f n r (Written.Length x) s w out out'
+      pub spread-out : {x : ℕ} {w out' : List ℕ} → Ran n (says f (meant u n r) whole) x u w out out' → Answered f n r (Ok x) s w out out'
       unfolding text_roomed output_after
       spread-out g =
           let h = rw same_text at g in
           record {
-            answer = rw (le-leb (node_length f * weigh one (forest (first_rules s n) r)) (length out) enough) (ap Written.Length h.long);
+            answer = rw (le-leb (node_length f * weigh one (forest (first_rules s n) r)) (length out) enough) (ap Ok h.long);
             writes = h.writes;
             within =
                 within_both p.kept.within

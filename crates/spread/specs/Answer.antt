@@ -1,7 +1,7 @@
 -- What is answered for one rule, once the rules are loaded.
-use Rattle.std.specs.Prelude.{ℕ, ◌*◌, ◌≤◌, ◌≡◌, Bool, List, length, leb}
+use Rattle.std.specs.Prelude.{ℕ, ◌*◌, ◌≤◌, ◌≡◌, Bool, List, length, leb, Result}
+use Rattle.refusal.specs.declared.Refusal.{Refusal}
 use Rattle.record.specs.declared.Format.{Format}
-use Rattle.plan.specs.declared.Written.{Written}
 use Rattle.rule.specs.Sound.{Sound, Closed}
 use Rattle.plan.specs.Written.{output_after}
 use Rattle.forest.specs.Forest.{Forest, forest, weigh, one, text}
@@ -29,7 +29,7 @@ pub record Answerable (t : List ℕ) (n r : ℕ) : Type 0 where
   pub room : work_end n ≤ length t
 
 -- what is answered for it
-pub record Answered (f : Format) (n r : ℕ) (x : Written) (s t out out' : List ℕ) : Type 0 where
+pub record Answered (f : Format) (n r : ℕ) (x : Result ℕ Refusal) (s t out out' : List ℕ) : Type 0 where
   pub answer : x ≡ text_roomed f (forest (first_rules s n) r) out
   pub writes : out' ≡ output_after x (text f (forest (first_rules s n) r)) out
   pub within : Within 0 (work_end n) s t

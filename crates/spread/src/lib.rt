@@ -6,7 +6,7 @@ ghost use Rattle.spread.specs.Answer.{Fitting, Answerable, Answered};
 ghost use Rattle.forest.specs.Outcome.{spread, measured_work, spread_output};
 
 use count_all::Counts;
-use plan::{Checked, Trailer, Written};
+use plan::{Checked, Trailer};
 use record::Format;
 use refusal::Refusal;
 
@@ -29,31 +29,27 @@ fn fits(counts: Counts, room: usize, format: Format) -> bool
 }
 
 // The answer for rule r of the rules in the rows: measured first, then written.
-fn answer(work: &mut [u8], out: &mut [u8], n: u16, r: u16, format: Format) -> Written
+fn answer(work: &mut [u8], out: &mut [u8], n: u16, r: u16, format: Format) -> Result<usize, Refusal>
     requires { Answerable work.old n r }
     ensures { Answered format n r result work.old work.new out.old out.new }
 {
     let counts = count_all::count(work, n, r);
     if !fits(counts, out.len(), format) {
-        return Written::Refused(Refusal::Room);
+        return Err(Refusal::Room);
     }
     spread_stack::task_rows(work, n);
-    Written::Length(spread_stack::spread_rule(work, out, n, r, format))
+    Ok(spread_stack::spread_rule(work, out, n, r, format))
 }
 
 // Spread a plan: its text and the length of it, or why it is turned down.
-pub fn spread(plan: &[u8], work: &mut [u8], out: &mut [u8]) -> Written
+pub fn spread(plan: &[u8], work: &mut [u8], out: &mut [u8]) -> Result<usize, Refusal>
     ensures { (result ≡ spread plan.now work.old out.old)
         × (work.new ≡ measured_work plan.now work.old)
         × (out.new ≡ spread_output plan.now work.old out.old) }
 {
-    match work_load::load_plan(plan, work) {
-        Checked::Accepted { n, start } => {
-            let format = Trailer::format(plan);
-            let answer = answer(work, out, n, start, format);
-            work_rows::clear_work(work, n);
-            answer
-        }
-        Checked::Refused(refusal) => Written::Refused(refusal),
-    }
+    let Checked { n, start } = work_load::load_plan(plan, work)?;
+    let format = Trailer::format(plan);
+    let answer = answer(work, out, n, start, format);
+    work_rows::clear_work(work, n);
+    answer
 }

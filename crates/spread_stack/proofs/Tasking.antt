@@ -8,12 +8,12 @@ use lib.ListN.{length, get_or}
 use Rattle.words.specs.Number.{base}
 use Rattle.rule.specs.declared.Rule.{Rule}
 use Rattle.record.specs.Record.{word_length}
-use Rattle.reach.proofs.Places.{AtFirst, first-none, first_more}
+use Rattle.reach.proofs.Places.{AtFirst, first_more}
 use Rattle.work_rows.specs.Rows.{put_field, rule_in}
 use Rattle.work_rows.specs.Order.{order_end, order_in}
 use Rattle.work_rows.proofs.Rows.{field-same}
 use Rattle.count_passes.specs.Tally.{Ready, Besides}
-use Rattle.count_passes.proofs.Column.{besides-none, besides-both, besides-put, besides-rule, other_row}
+use Rattle.count_passes.proofs.Column.{besides-both, besides-put, besides-rule, other_row}
 use Rattle.count_passes.proofs.Ordered.{at_place, place-below, named-below, before-named, at_all, order-besides, ready-besides}
 use Rattle.spread_step.specs.Task.{task_of}
 use Rattle.spread_step.specs.Step.{at_task, tasks_at, Steppable}
@@ -31,14 +31,6 @@ pub record Passing (n i : ℕ) (s t : List ℕ) : Type 0 where
   pub below : i ≤ n
   pub besides : Besides at_task word_length n s t
   pub column : (f : ℕ → ℕ) → TaskRecurs s n f → AtFirst (order_in s n) i (λ k. tasks_at t k ≡ f k)
-
-pub passing-start : (n : ℕ) (s : List ℕ) → Passing n 0 s s
-passing-start n s =
-    record {
-      below = omega arith;
-      besides = besides-none at_task word_length n s;
-      column = λ f h. first-none (order_in s n) (λ k. tasks_at s k ≡ f k);
-    }
 
 -- the task of the rule at the next place, from those of the rules that it names
 row-task : (s t : List ℕ) (n i : ℕ) (f : ℕ → ℕ) → Ready s n → i < n → rule_in t (at_place s n i) ≡ rule_in s (at_place s n i) → TaskRecurs s n f

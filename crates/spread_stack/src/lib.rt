@@ -168,11 +168,9 @@ pub fn task_rows(work: &mut [u8], n: u16)
     requires { Taskable work.old n }
     ensures { Tasked n work.old work.new }
 {
-    let mut i: u16 = 0;
-    while i < n {
+    for i in 0..n {
         let r = work_rows::order_at(work, n, i);
         task_row(work, r);
-        i += 1;
     }
 }
 

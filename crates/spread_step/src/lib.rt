@@ -106,6 +106,7 @@ fn pair_task(b: u16, c: u16, own: u16) -> u16
 }
 
 // The task of the whole of rule r, from those of the rules that it names.
+#[tactic(auto, unfolding(crate::specs::Task::task_of))]
 pub fn task_of(work: &[u8], r: u16, rule: Rule) -> u16
     requires { Steppable work.now r rule }
     ensures { result ≡ task_of (tasks_at work.now) r rule }
@@ -114,14 +115,12 @@ pub fn task_of(work: &[u8], r: u16, rule: Rule) -> u16
     match rule {
         Rule::Empty => Step::NONE,
         Rule::Pair { first, second } => pair_task(whole(work, first), whole(work, second), own),
-        Rule::Node { .. } => own,
-        Rule::Fill { .. } => own,
-        Rule::Part { .. } => own,
-        Rule::Join { .. } => own,
+        Rule::Node { .. } | Rule::Fill { .. } | Rule::Part { .. } | Rule::Join { .. } => own,
     }
 }
 
 // What part p of rule r's text comes to.
+#[tactic(auto, unfolding(crate::specs::Step::rule_step))]
 fn rule_step(work: &[u8], r: u16, p: u16, rule: Rule) -> Step
     requires { Steppable work.now r rule }
     ensures { result ≡ rule_step (tasks_at work.now) r p rule }

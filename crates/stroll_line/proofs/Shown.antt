@@ -6,7 +6,7 @@ use native.Mathlib.Nat.{sub-zero}
 use native.Mathlib.Numerals.{add-one}
 use mathlib.Core.Path.{◌≡◌, ap, ap₂}
 use mathlib.Core.List.{List, [], ◌∷◌, ◌++◌, map}
-use mathlib.Core.Option.{Option, none, some}
+use Rattle.std.specs.Prelude.{Option, None, Some}
 use lib.ListN.{length, get_or, drop, length-append}
 use lib.Seq.{drop-cons, drop-length}
 use borrow.Author.Tests.{eq-eqb, ne_eqb}
@@ -31,8 +31,8 @@ shown-label w e = rw (ne_eqb w nowhere e)
 -- an answer is shown by a byte at least
 pub shown-some : (x : Option ℕ) → 1 ≤ length (shown x)
 unfolding shown
-shown-some none = omega arith
-shown-some (some a) = some-digit a
+shown-some None = omega arith
+shown-some (Some a) = some-digit a
 
 pub line-length : (b : ℕ) (x : Option ℕ) → length (line b x) ≡ 3 + length (shown x)
 unfolding line

@@ -1,6 +1,6 @@
 -- The lines that stroll prints (document 01, "One sample plan").
 use Rattle.std.specs.Prelude.{ℕ, ◌+◌, List, [], ◌∷◌, ◌++◌}
-use Rattle.std.proofs.Math.Option.{Option, none, some}
+use Rattle.std.specs.Prelude.{Option, None, Some}
 use Rattle.refusal.specs.declared.Refusal.{Refusal}
 use Rattle.refusal.specs.Refusal.{number_of, position_of}
 use Rattle.decimal.specs.Decimal.{decimal}
@@ -16,8 +16,8 @@ line_end = 10
 
 -- "the label in decimal or "-""
 unfoldable pub shown : Option ℕ → List ℕ
-shown none = 45 ∷ []
-shown (some a) = decimal a
+shown None = 45 ∷ []
+shown (Some a) = decimal a
 
 -- "the letter, a space, the label in decimal or "-""
 unfoldable pub line : ℕ → Option ℕ → List ℕ

@@ -4,7 +4,7 @@ use Prim.Native.Nat.{ℕ}
 use native.Mathlib.Omega.{arith}
 use mathlib.Core.Path.{◌≡◌, refl, ap}
 use mathlib.Core.List.{List, [], ◌∷◌, ◌++◌, map}
-use mathlib.Core.Option.{some}
+use Rattle.std.specs.Prelude.{Some}
 use Rattle.words.specs.Number.{number}
 use Rattle.refusal.specs.declared.Refusal.{Refusal}
 use Rattle.record.specs.Format.{high_length, most_label}
@@ -42,7 +42,7 @@ pub record Sample : Type 0 where
   -- 0, 9, 10, 255, 4095
   pub numbers : map decimal (0 ∷ 9 ∷ 10 ∷ 255 ∷ 4095 ∷ []) ≡ (48 ∷ []) ∷ (57 ∷ []) ∷ (49 ∷ 48 ∷ []) ∷ (50 ∷ 53 ∷ 53 ∷ []) ∷ (52 ∷ 48 ∷ 57 ∷ 53 ∷ []) ∷ []
   -- the longest line, a 16777215
-  pub longest : line 97 (some 16777215) ≡ 97 ∷ 32 ∷ 49 ∷ 54 ∷ 55 ∷ 55 ∷ 55 ∷ 50 ∷ 49 ∷ 53 ∷ 10 ∷ []
+  pub longest : line 97 (Some 16777215) ≡ 97 ∷ 32 ∷ 49 ∷ 54 ∷ 55 ∷ 55 ∷ 55 ∷ 50 ∷ 49 ∷ 53 ∷ 10 ∷ []
 
 -- the digits of the largest label, one by one: as many steps as it has digits
 eight-digits : decimal 16777215 ≡ 49 ∷ 54 ∷ 55 ∷ 55 ∷ 55 ∷ 50 ∷ 49 ∷ 53 ∷ []
@@ -58,7 +58,7 @@ eight-digits =
       decimal-one 1 (omega arith),
     )
 
-longest-line : line 97 (some 16777215) ≡ 97 ∷ 32 ∷ 49 ∷ 54 ∷ 55 ∷ 55 ∷ 55 ∷ 50 ∷ 49 ∷ 53 ∷ 10 ∷ []
+longest-line : line 97 (Some 16777215) ≡ 97 ∷ 32 ∷ 49 ∷ 54 ∷ 55 ∷ 55 ∷ 55 ∷ 50 ∷ 49 ∷ 53 ∷ 10 ∷ []
 unfolding line shown
 longest-line = ap (λ (l : List ℕ). 97 ∷ 32 ∷ (l ++ (line_end ∷ []))) eight-digits
 

@@ -5,15 +5,13 @@ use Prim.Native.Nat.{ℕ, ◌+◌, ◌*◌, ◌<◌, ◌≤◌}
 use native.Mathlib.Omega.{arith}
 use mathlib.Core.Path.{◌≡◌, sym, ap, ◌∙◌}
 use mathlib.Core.List.{List, [], map}
-use mathlib.Core.Option.{none, some}
+use Rattle.std.specs.Prelude.{None, Some, Result, Ok, Err}
 use lib.ListN.{length, replicate, length-replicate}
 use borrow.Author.Tests.{le-leb, lt-leb}
 use Rattle.refusal.specs.declared.Refusal.{Refusal}
-use Rattle.plan.specs.declared.Checked.{Checked}
 use Rattle.record.specs.Format.{word_length}
 use Rattle.plan.specs.Check.{checked, checked_up_to, most_rules, rules_of}
 use Rattle.plan.proofs.Sound.{Plan, accepted-plan, accepted-more}
-use Rattle.forest.specs.declared.Walked.{Walked}
 use Rattle.forest.specs.Outcome.{work_words}
 use Rattle.forest.specs.Forest.{forest}
 use Rattle.forest.specs.Reference.{answers}
@@ -42,7 +40,7 @@ module _ (plan letters : List ℕ) where
   plan-checked h = rw (le-leb (length plan) most_plan h)
 
   -- and refused
-  pub plan-refused : length plan ≤ most_plan → (why : Refusal) → checked_up_to most_strolled plan ≡ Checked.Refused why → stroll_output plan letters ≡ refused_line why
+  pub plan-refused : length plan ≤ most_plan → (why : Refusal) → checked_up_to most_strolled plan ≡ Err why → stroll_output plan letters ≡ refused_line why
   unfolding check_printed
   plan-refused h why e = plan-checked h ∙ rw e
 
@@ -68,7 +66,7 @@ zeros-lent h =
     }
 
 module _ {plan letters work cursor given : List ℕ} (S : Strollable plan letters) (L : Lends letters work cursor given)
-    {x : Walked} {work' cursor' given' : List ℕ} (W : leaves x work' cursor' given' ≡ walk_of (lends plan work cursor letters given)) where
+    {x : Result Unit Refusal} {work' cursor' given' : List ℕ} (W : leaves x work' cursor' given' ≡ walk_of (lends plan work cursor letters given)) where
   abbrev A : Accepted plan
   A = S.accepted
 
@@ -80,7 +78,7 @@ module _ {plan letters work cursor given : List ℕ} (S : Strollable plan letter
   within : Plan most_strolled plan A.n A.start
   within = accepted-plan most_strolled plan A.n A.start A.accepted
 
-  all : checked plan ≡ Checked.Accepted A.n A.start
+  all : checked plan ≡ Ok (record { n = A.n; start = A.start })
   unfolding checked
   all = accepted-more most_strolled most_rules plan A.n A.start (omega arith) A.accepted
 
@@ -90,17 +88,17 @@ module _ {plan letters work cursor given : List ℕ} (S : Strollable plan letter
   room : 32 * (A.n + 1) ≤ length cursor
   room = let h = within.greatest in omega arith
 
-  accepted : first_other letters 0 ≡ none → x ≡ Walked.Accepted
+  accepted : first_other letters 0 ≡ None → x ≡ Ok tt
   accepted e = ap (λ (l : Left). l.answer) W ∙ above-accepted plan work cursor letters given A.n A.start all L.above worked room L.answerable e
 
-  refused : (i : ℕ) → first_other letters 0 ≡ some i → x ≡ Walked.Refused (Refusal.Letter i)
+  refused : (i : ℕ) → first_other letters 0 ≡ Some i → x ≡ Err (Refusal.Letter i)
   refused i e = ap (λ (l : Left). l.answer) W ∙ above-refused plan work cursor letters given A.n A.start all L.above worked room L.answerable i e
 
   -- accepted, every byte is a letter, and the words are the reference walker's answers
-  every_letter : x ≡ Walked.Accepted → first_other letters 0 ≡ none
+  every_letter : x ≡ Ok tt → first_other letters 0 ≡ None
   every_letter q = by-option (first_other letters 0) (λ e. e) (λ i e. let r = refused i e in cc)
 
-  answered : x ≡ Walked.Accepted → answers_from (length letters) given' 0 ≡ answers (forest (rules_of plan) A.start) (letters_of letters) []
+  answered : x ≡ Ok tt → answers_from (length letters) given' 0 ≡ answers (forest (rules_of plan) A.start) (letters_of letters) []
   unfolding answers_from
   answered q =
       ap (map answer_of)
@@ -108,14 +106,14 @@ module _ {plan letters work cursor given : List ℕ} (S : Strollable plan letter
       ∙ above-answers plan work cursor letters given A.n A.start all L.above worked room L.answerable (every_letter q))
       ∙ words-said _ (plan-answers plan A.n A.start all (letters_of letters) [])
 
-  walk-printed : x ≡ Walked.Accepted → all_lines letters given' ≡ check_printed plan letters (checked_up_to most_strolled plan)
+  walk-printed : x ≡ Ok tt → all_lines letters given' ≡ check_printed plan letters (checked_up_to most_strolled plan)
   unfolding walk_printed
   walk-printed q = ap (lines letters) (answered q) ∙ sym (printed ∙ rw (every_letter q))
 
-  walk-short : x ≡ Walked.Accepted → length (all_lines letters given') ≤ line_length * length letters
+  walk-short : x ≡ Ok tt → length (all_lines letters given') ≤ line_length * length letters
   walk-short q = rw (answered q) (lines-length letters _ (plan-answers plan A.n A.start all (letters_of letters) []))
 
-  walk_refused : (why : Refusal) → x ≡ Walked.Refused why → refused_line why ≡ check_printed plan letters (checked_up_to most_strolled plan)
+  walk_refused : (why : Refusal) → x ≡ Err why → refused_line why ≡ check_printed plan letters (checked_up_to most_strolled plan)
   unfolding walk_printed
   walk_refused why q =
       by-option (first_other letters 0)

@@ -9,7 +9,6 @@ ghost use Rattle.stroll_output.specs.Stroll.{most_letters, most_strolled, check_
 ghost use Rattle.decimal.specs.Put.{Put};
 ghost use Rattle.stroll_output.specs.Printed.{Accepted, Strollable, Strolled, Printed};
 
-use forest::Walked;
 use letter::Letter;
 use place_cells::Cell;
 use plan::Checked;
@@ -37,7 +36,7 @@ pub const MOST_CURSOR: usize = Cell::LENGTH * Cell::A_RULE * (MOST_STROLLED as u
 const MOST_ANSWERS: usize = Letter::ANSWER_LENGTH * MOST_LETTERS;
 
 // The walk from above the forest, in a work and a cursor large enough for any plan.
-fn walk_above(plan: &[u8], letters: &[u8], answers: &mut [u8]) -> Walked
+fn walk_above(plan: &[u8], letters: &[u8], answers: &mut [u8]) -> Result<(), Refusal>
     requires { Strollable plan.now letters.now × (answer_length * length letters.now ≤ length answers.old) }
     ensures { Strolled plan.now letters.now result answers.new }
 {
@@ -53,8 +52,8 @@ fn print_walk(plan: &[u8], letters: &[u8], out: &mut [u8]) -> usize
 {
     let mut answers = [0u8; MOST_ANSWERS];
     match walk_above(plan, letters, &mut answers) {
-        Walked::Accepted => stroll_line::put_lines(out, letters, &answers),
-        Walked::Refused(why) => stroll_line::put_refusal(out, why),
+        Ok(()) => stroll_line::put_lines(out, letters, &answers),
+        Err(why) => stroll_line::put_refusal(out, why),
     }
 }
 
@@ -77,7 +76,7 @@ pub fn stroll(plan: &[u8], letters: &[u8], out: &mut [u8; MOST_OUTPUT]) -> usize
         return stroll_line::put_refusal(out, Refusal::Lent);
     }
     match plan::check_up_to(plan, MOST_STROLLED) {
-        Checked::Accepted { .. } => stroll_letters(plan, letters, out),
-        Checked::Refused(why) => stroll_line::put_refusal(out, why),
+        Ok(_) => stroll_letters(plan, letters, out),
+        Err(why) => stroll_line::put_refusal(out, why),
     }
 }

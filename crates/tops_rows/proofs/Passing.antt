@@ -9,12 +9,12 @@ use lib.ListN.{length, get_or}
 use Rattle.record.specs.Record.{word_length}
 use Rattle.rule.specs.declared.Rule.{Rule}
 use Rattle.rule.specs.Names.{Names, pair_one, pair_two, join_one, join_two}
-use Rattle.reach.proofs.Places.{AtFirst, first-none, first_more}
+use Rattle.reach.proofs.Places.{AtFirst, first_more}
 use Rattle.work_rows.specs.Rows.{row_length, put_field, rule_in}
 use Rattle.work_rows.specs.Order.{order_end, order_in}
 use Rattle.work_rows.proofs.Rows.{field-same}
 use Rattle.count_passes.specs.Tally.{Ready, Readable, Besides}
-use Rattle.count_passes.proofs.Column.{besides-none, besides-both, besides-put, besides-rule, other_row}
+use Rattle.count_passes.proofs.Column.{besides-both, besides-put, besides-rule, other_row}
 use Rattle.count_passes.proofs.Ordered.{at_place, place-below, place-readable, before-named, at_all, order-besides, ready-besides}
 use Rattle.transfer_path.specs.Follow.{most_place}
 use Rattle.tops_rows.specs.Tops.{at_tops, tops_at, few_sum, tops_of, tops_from, TopsPut, TopsRecur, Topped}
@@ -44,10 +44,6 @@ pub record Passing (n i : ℕ) (s t : List ℕ) : Type 0 where
   pub below : i ≤ n
   pub besides : Besides at_tops word_length n s t
   pub column : (f : ℕ → ℕ) → TopsRecur s n f → AtFirst (order_in s n) i (Tells t f)
-
-pub passing-start : (n : ℕ) (s : List ℕ) → Passing n 0 s s
-passing-start n s =
-    record { below = omega arith; besides = besides-none at_tops word_length n s; column = λ f h. first-none (order_in s n) (Tells s f) }
 
 -- the number of the rule at the next place, from those of the rules that it names
 place-told : (s t : List ℕ) (n i : ℕ) (f : ℕ → ℕ) → Ready s n → i < n → rule_in t (at_place s n i) ≡ rule_in s (at_place s n i) → TopsRecur s n f

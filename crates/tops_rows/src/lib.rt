@@ -27,15 +27,11 @@ fn both(work: &[u8], a: u16, b: u16) -> u16
     requires { (row_length * (a + 1) ≤ length work.now) × (row_length * (b + 1) ≤ length work.now) }
     ensures { let t = work.now in result ≡ few_sum (tops_at t a) (tops_at t b) }
 {
-    let first = tops_at(work, a);
-    let second = tops_at(work, b);
-    if first > MOST - second {
-        return MOST;
-    }
-    first + second
+    tops_at(work, a).saturating_add(tops_at(work, b))
 }
 
 // Those of a rule, from the rows of the rules that it names.
+#[tactic(auto, unfolding(crate::specs::Tops::tops_of))]
 fn tops_of(work: &[u8], rule: Rule) -> u16
     requires { NamedRows work.now rule }
     ensures { result ≡ tops_from work.now rule }
@@ -43,9 +39,7 @@ fn tops_of(work: &[u8], rule: Rule) -> u16
     match rule {
         Rule::Empty => 0,
         Rule::Pair { first, second } => both(work, first, second),
-        Rule::Node { .. } => 1,
-        Rule::Fill { .. } => 1,
-        Rule::Part { .. } => 1,
+        Rule::Node { .. } | Rule::Fill { .. } | Rule::Part { .. } => 1,
         Rule::Join { outer, inner } => both(work, outer, inner),
     }
 }
@@ -65,10 +59,8 @@ pub fn tops_rows(work: &mut [u8], n: u16)
     requires { Ready work.old n }
     ensures { Topped n work.old work.new }
 {
-    let mut i: u16 = 0;
-    while i < n {
+    for i in 0..n {
         let r = work_rows::order_at(work, n, i);
         tops_row(work, r);
-        i += 1;
     }
 }

@@ -1,5 +1,6 @@
 -- One cell more, by its kind, as the code reads it; and the cells of a place from the first on: each leads on from the spot of those before it,
 -- and the path of the last spot is the node's. Assumes nothing.
+use Rattle.std.specs.Prelude.{Option, Some, None}
 use Prim.Native.Nat.{ℕ, zero, suc, ◌+◌, ◌-◌, min, ◌≤◌, ◌<◌}
 use native.Mathlib.Omega.{arith}
 use native.Mathlib.Numerals.{add-one}
@@ -26,7 +27,6 @@ use Rattle.transfer_path.specs.Spot.{Spot, path_to}
 use Rattle.transfer_path.specs.CellSpot.{row_before, row_spot, spine_spot, right_steps, steps_between, cell_spot, spot_in, path_in}
 use Rattle.transfer_path.proofs.Carried.{Nearer, nearer-spot}
 use Rattle.transfer_climb.specs.declared.Climbed.{Climbed}
-use Rattle.transfer_climb.specs.declared.Traced.{Traced}
 use Rattle.transfer_climb.specs.Climb.{path_length, CountedRows, levels_in, spot_at, LevelPut, Took, Traces}
 use Rattle.transfer_climb.proofs.Levels.{took-near}
 use Rattle.transfer_climb.proofs.Steps.{Reached, reached-more, reached-far}
@@ -49,7 +49,7 @@ module _ (F : Facts) (E : ℕ → Expression) (c : Cell) (cs : Cells) (x : Spot)
   unfolding cell_spot cell_run
   at_other r s w = rw (ne_eqb c.0 1 w, ne_eqb c.0 2 s, ne_eqb c.0 4 r)
 
-pub took-same : {path path' : List ℕ} {y z : Spot} {c : Climbed} → y ≡ z → Took path path' y c → Took path path' z c
+pub took-same : {path path' : List ℕ} {y z : Spot} {c : Option Climbed} → y ≡ z → Took path path' y c → Took path path' z c
 took-same e k = rw e at k
 
 -- the rule that stands below a cell has a row
@@ -93,7 +93,7 @@ module _ (F : Facts) (E : ℕ → Expression) (s : List ℕ) (i : ℕ) (x : Spot
       ∙ sym (at_row F E (cell_at s i) (cells_in s (i - 1)) x (kind-is read k))
 
   -- told up to 65,535
-  pub row-took : {r v : ℕ} {path path' : List ℕ} {c : Climbed} → w.kind ≡ 1 → 0 < i - 1 → r ≡ standing F (cells_in s (i - 1))
+  pub row-took : {r v : ℕ} {path path' : List ℕ} {c : Option Climbed} → w.kind ≡ 1 → 0 < i - 1 → r ≡ standing F (cells_in s (i - 1))
       → v ≡ min (row_before E (F.rule r) w.one) most_place → ((m : ℕ) → v ≡ min m most_place → Took path path' (m, path_to x) c)
       → Took path path' (cell_spot F E (cell_at s i) (cells_in s (i - 1)) x) c
   row-took {r} k more e told f = took-same (row-spot k more e) (f (row_before E (F.rule r) w.one) told)
@@ -102,7 +102,8 @@ module _ (F : Facts) (E : ℕ → Expression) (s : List ℕ) (i : ℕ) (x : Spot
   unfolding row_spot
   row_first d k e = rw (cells-none s k e)
 
-  pub took-first : (path : List ℕ) → w.kind ≡ 1 → i ≡ 1 → Took path path (cell_spot F E (cell_at s i) (cells_in s (i - 1)) x) (Climbed.At 0 0)
+  pub took-first : (path : List ℕ) → w.kind ≡ 1 → i ≡ 1
+      → Took path path (cell_spot F E (cell_at s i) (cells_in s (i - 1)) x) (Some (record { before = 0; levels = 0 }))
   unfolding levels_in carried few_beside
   took-first path k e =
       let q : (0, []) ≡ cell_spot F E (cell_at s i) (cells_in s (i - 1)) x =
@@ -110,12 +111,12 @@ module _ (F : Facts) (E : ℕ → Expression) (s : List ℕ) (i : ℕ) (x : Spot
       took-near refl q (ap (λ (y : Spot). carried (path_to y)) (sym q))
 
 -- the first i of k cells are read
-pub record Climbing (F : Facts) (E : ℕ → Expression) (s : List ℕ) (k : ℕ) (path₀ path : List ℕ) (i before levels : ℕ) : Type 0 where
+pub record Climbing (F : Facts) (E : ℕ → Expression) (s : List ℕ) (k : ℕ) (path₀ path : List ℕ) (i : ℕ) (at : Climbed) : Type 0 where
   pub most : i ≤ k
-  pub reached : Reached path₀ path (spot_in F E (cells_in s i)) before levels
+  pub reached : Reached path₀ path (spot_in F E (cells_in s i)) at
 
 -- above the forest nothing is written
-pub climb-none : (F : Facts) (E : ℕ → Expression) (s path : List ℕ) {k : ℕ} → k ≡ 0 → Traces path path (path_in F E (cells_in s k)) (Traced.Levels 0)
+pub climb-none : (F : Facts) (E : ℕ → Expression) (s path : List ℕ) {k : ℕ} → k ≡ 0 → Traces path path (path_in F E (cells_in s k)) (Some 0)
 unfolding levels_in path_in carried few_beside
 climb-none F E s path {k} e =
     rw (cells-none s k e)
@@ -125,12 +126,13 @@ climb-none F E s path {k} e =
       far = λ q. absurd (let z : ◌≡◌ {A = ℕ} 0 1 = cc in let n : ⊥ = omega arith in n);
     })
 
-pub climbing-start : (F : Facts) (E : ℕ → Expression) (s : List ℕ) (k : ℕ) {path : List ℕ} → path_length ≤ length path → Climbing F E s k path path 0 0 0
+pub climbing-start : (F : Facts) (E : ℕ → Expression) (s : List ℕ) (k : ℕ) {path : List ℕ} → path_length ≤ length path
+    → Climbing F E s k path path 0 (record { before = 0; levels = 0 })
 unfolding spot_in cells_in levels_in carried few_beside
 climbing-start F E s k room = record { most = omega arith; reached = record { same_length = refl; spot = refl; ready = record { room = room; near = refl } } }
 
-module _ {F : Facts} {E : ℕ → Expression} {s : List ℕ} {k : ℕ} {path₀ path : List ℕ} {i before levels : ℕ}
-    (h : Climbing F E s k path₀ path i before levels) where
+module _ {F : Facts} {E : ℕ → Expression} {s : List ℕ} {k : ℕ} {path₀ path : List ℕ} {i : ℕ} {at : Climbed}
+    (h : Climbing F E s k path₀ path i at) where
   turn : Spot → Spot
   turn y = cell_spot F E (cell_at s (i + 1)) (cells_in s (i + 1 - 1)) y
 
@@ -140,9 +142,9 @@ module _ {F : Facts} {E : ℕ → Expression} {s : List ℕ} {k : ℕ} {path₀ 
       ap (λ (n : ℕ). spot_in F E (cells_in s n)) (add-one i)
       ∙ ap₂ (λ (n m : ℕ). cell_spot F E (cell_at s n) (cells_in s m) (spot_in F E (cells_in s i))) (sym (add-one i)) (let e : i ≡ i + 1 - 1 = omega arith in e)
 
-  pub climb-more : {path' : List ℕ} {c : Climbed} {b l : ℕ} → i < k
-      → Took path path' (cell_spot F E (cell_at s (i + 1)) (cells_in s (i + 1 - 1)) (spot_at path before levels)) c → c ≡ Climbed.At b l
-      → Climbing F E s k path₀ path' (i + 1) b l
+  pub climb-more : {path' : List ℕ} {c : Option Climbed} {at' : Climbed} → i < k
+      → Took path path' (cell_spot F E (cell_at s (i + 1)) (cells_in s (i + 1 - 1)) (spot_at path at)) c → c ≡ Some at'
+      → Climbing F E s k path₀ path' (i + 1) at'
   unfolding turn
   climb-more l t q = record { most = omega arith; reached = rw cell-one (reached-more h.reached turn t q) }
 
@@ -158,9 +160,9 @@ module _ {F : Facts} {E : ℕ → Expression} {s : List ℕ} {k : ℕ} {path₀ 
   unfolding path_in
   path-of more = rw (cells-top s k more)
 
-  pub climb-far : {path' : List ℕ} {c : Climbed} → i < k
-      → Took path path' (cell_spot F E (cell_at s (i + 1)) (cells_in s (i + 1 - 1)) (spot_at path before levels)) c
-      → c ≡ Climbed.Far → Traces path₀ path' (path_in F E (cells_in s k)) Traced.Far
+  pub climb-far : {path' : List ℕ} {c : Option Climbed} → i < k
+      → Took path path' (cell_spot F E (cell_at s (i + 1)) (cells_in s (i + 1 - 1)) (spot_at path at)) c
+      → c ≡ None → Traces path₀ path' (path_in F E (cells_in s k)) None
   unfolding turn
   climb-far l t q =
       let n : Nearer (turn (spot_in F E (cells_in s i))) (spot_in F E (cells_in s k)) = rw cell-one at (nearer-cells (i + 1) k (omega arith)) in
@@ -171,13 +173,13 @@ module _ {F : Facts} {E : ℕ → Expression} {s : List ℕ} {k : ℕ} {path₀ 
         far = λ e. ap carried (path-of (omega arith)) ∙ f.far refl;
       }
 
-  pub climb-end : {path' : List ℕ} → k ≤ i → (k ≡ 0 → ⊥) → LevelPut before levels path path'
-      → Traces path₀ path' (path_in F E (cells_in s k)) (Traced.Levels (levels + 1))
+  pub climb-end : {path' : List ℕ} → k ≤ i → (k ≡ 0 → ⊥) → LevelPut at path path'
+      → Traces path₀ path' (path_in F E (cells_in s k)) (Some (at.levels + 1))
   climb-end all some p =
-      let q : path_to (spot_at path before levels) ≡ path_in F E (cells_in s k) =
+      let q : path_to (spot_at path at) ≡ path_in F E (cells_in s k) =
       ap path_to (h.reached.spot ∙ ap (λ (j : ℕ). spot_in F E (cells_in s j)) (let e : i ≡ k = omega (arith, h.most) in e)) ∙ sym (path-of (omega arith)) in
       record {
         same_length = p.same_length ∙ h.reached.same_length;
-        levels = λ l e. let z : l ≡ levels + 1 = cc in rw z (p.writes ∙ q, ap carried (sym q) ∙ h.reached.ready.near);
+        levels = λ l e. let z : l ≡ at.levels + 1 = cc in rw z (p.writes ∙ q, ap carried (sym q) ∙ h.reached.ready.near);
         far = λ e. absurd (let z : ◌≡◌ {A = ℕ} 0 1 = cc in let n : ⊥ = omega arith in n);
       }

@@ -1,6 +1,6 @@
 -- The path of a place's node as it is read off its cells (document 02, Note 12): what the rows tell, what is written of the path, and how far
 -- the cells so far lead.
-use Rattle.std.specs.Prelude.{ℕ, zero, suc, ◌+◌, ◌*◌, min, ◌≤◌, ◌<◌, ◌≡◌, true, false, List, [], ◌∷◌, length, get_or}
+use Rattle.std.specs.Prelude.{ℕ, zero, suc, ◌+◌, ◌*◌, min, ◌≤◌, ◌<◌, ◌≡◌, true, false, List, [], ◌∷◌, length, get_or, Option, Some, None}
 use Rattle.words.specs.Number.{number}
 use Rattle.record.specs.Record.{word_length}
 use Rattle.rule.specs.Sound.{Sound}
@@ -17,7 +17,6 @@ use Rattle.transfer_path.specs.Follow.{most_levels, most_place, carried}
 use Rattle.transfer_path.specs.Spot.{Spot, path_to, tops, ahead}
 use Rattle.transfer_climb.specs.declared.Climbed.{Climbed}
 use Rattle.transfer_climb.specs.declared.Down.{Down}
-use Rattle.transfer_climb.specs.declared.Traced.{Traced}
 
 -- the expression of each rule in the rows
 abbrev pub meaning : List ℕ → ℕ → Expression
@@ -40,24 +39,24 @@ abbrev pub path_length : ℕ
 path_length = word_length * most_levels
 
 -- the spot under the levels that are written
-abbrev pub spot_at : List ℕ → ℕ → ℕ → Spot
-spot_at path before levels = (before, levels_in path levels)
+abbrev pub spot_at : List ℕ → Climbed → Spot
+spot_at path at = (at.before, levels_in path at.levels)
 
 -- it isn't too far, and there is room for its own level
-pub record Ready (path : List ℕ) (before levels : ℕ) : Type 0 where
+pub record Ready (path : List ℕ) (at : Climbed) : Type 0 where
   pub room : path_length ≤ length path
-  pub near : carried (path_to (spot_at path before levels)) ≡ true
+  pub near : carried (path_to (spot_at path at)) ≡ true
 
 -- one level more is written: the spot's own
-pub record LevelPut (before levels : ℕ) (path path' : List ℕ) : Type 0 where
+pub record LevelPut (at : Climbed) (path path' : List ℕ) : Type 0 where
   pub same_length : length path' ≡ length path
-  pub writes : levels_in path' (levels + 1) ≡ path_to (spot_at path before levels)
+  pub writes : levels_in path' (at.levels + 1) ≡ path_to (spot_at path at)
 
 -- the spot y is reached, or is too far
-pub record Took (path path' : List ℕ) (y : Spot) (c : Climbed) : Type 0 where
+pub record Took (path path' : List ℕ) (y : Spot) (c : Option Climbed) : Type 0 where
   pub same_length : length path' ≡ length path
-  pub near : (b l : ℕ) → c ≡ Climbed.At b l → (spot_at path' b l ≡ y) × (carried (path_to y) ≡ true)
-  pub far : c ≡ Climbed.Far → carried (path_to y) ≡ false
+  pub near : (at : Climbed) → c ≡ Some at → (spot_at path' at ≡ y) × (carried (path_to y) ≡ true)
+  pub far : c ≡ None → carried (path_to y) ≡ false
 
 -- rule r is a spine's, which has a part j
 pub record PartAt (t : List ℕ) (r j : ℕ) : Type 0 where
@@ -73,7 +72,7 @@ pub record GoesDown (t : List ℕ) (r j : ℕ) (d : Down) : Type 0 where
   pub before : (v : ℕ) → d ≡ Down.Before v → v ≡ min (get_or (ahead (meaning t r)) j 0) most_place
 
 -- the path p is written, or is too far
-pub record Traces (path path' : List ℕ) (p : Path) (x : Traced) : Type 0 where
+pub record Traces (path path' : List ℕ) (p : Path) (x : Option ℕ) : Type 0 where
   pub same_length : length path' ≡ length path
-  pub levels : (l : ℕ) → x ≡ Traced.Levels l → (levels_in path' l ≡ p) × (carried p ≡ true)
-  pub far : x ≡ Traced.Far → carried p ≡ false
+  pub levels : (l : ℕ) → x ≡ Some l → (levels_in path' l ≡ p) × (carried p ≡ true)
+  pub far : x ≡ None → carried p ≡ false

@@ -15,18 +15,12 @@ use place_cells::Cell;
 use rule::Rule;
 use side::Side;
 
-// How far the cells up to one lead: the trees before the spot among its siblings, and the levels above it, whose numbers are written; or too far.
+// How far the cells up to one lead: the trees before the spot among its siblings, and the levels above it, whose numbers are written. Where it
+// is too far, there is none.
 #[derive(Clone, Copy)]
-enum Climbed {
-    At { before: u16, levels: usize },
-    Far,
-}
-
-// A node's path: how many levels are written, or that it is too far.
-#[derive(Clone, Copy)]
-pub enum Traced {
-    Levels(usize),
-    Far,
+struct Climbed {
+    before: u16,
+    levels: usize,
 }
 
 // A part of a join: a part of one of its sides. Of a part: the trees before its hole.
@@ -36,45 +30,51 @@ enum Down {
     Before(u16),
 }
 
+// Where a climb begins: at the first root.
+const TOP: Climbed = Climbed {
+    before: 0,
+    levels: 0,
+};
+
 // The most levels of a path.
 const LEVELS: usize = 64;
 
 // The number of the tree at a spot, written below the levels above it.
-fn put_level(path: &mut [u8], before: u16, levels: usize)
-    requires { Ready path.old before levels }
-    ensures { LevelPut before levels path.old path.new }
+fn put_level(path: &mut [u8], at: Climbed)
+    requires { Ready path.old at }
+    ensures { LevelPut at path.old path.new }
 {
-    words::write16(path, 2 * levels, before + 1);
+    words::write16(path, 2 * at.levels, at.before + 1);
 }
 
 // Under the tree at a spot, behind some trees there.
-fn enter(path: &mut [u8], before: u16, levels: usize, ahead: u16) -> Climbed
-    requires { Ready path.old before levels }
+fn enter(path: &mut [u8], at: Climbed, ahead: u16) -> Option<Climbed>
+    requires { Ready path.old at }
     ensures { let path' = path.exit.now in
         let path = path.entry.now in
-        ((m : ℕ) → ahead ≡ min m most_place → Took path path' (m, path_to (spot_at path before levels)) result) }
+        ((m : ℕ) → ahead ≡ min m most_place → Took path path' (m, path_to (spot_at path at)) result) }
 {
-    if (levels >= LEVELS - 1) | (ahead == tops_rows::MOST) {
-        return Climbed::Far;
+    if (at.levels >= LEVELS - 1) | (ahead == tops_rows::MOST) {
+        return None;
     }
-    put_level(path, before, levels);
-    Climbed::At {
+    put_level(path, at);
+    Some(Climbed {
         before: ahead,
-        levels: levels + 1,
-    }
+        levels: at.levels + 1,
+    })
 }
 
 // Past some trees beside a spot.
-fn pass(before: u16, levels: usize, tops: u16) -> Climbed
-    ensures { (path : List ℕ) (m : ℕ) → Ready path before levels → tops ≡ min m most_place → Took path path (before + m, levels_in path levels) result }
+fn pass(at: Climbed, tops: u16) -> Option<Climbed>
+    ensures { (path : List ℕ) (m : ℕ) → Ready path at → tops ≡ min m most_place → Took path path (at.before + m, levels_in path at.levels) result }
 {
-    if tops >= tops_rows::MOST - before {
-        return Climbed::Far;
+    if tops >= tops_rows::MOST - at.before {
+        return None;
     }
-    Climbed::At {
-        before: before + tops,
-        levels,
-    }
+    Some(Climbed {
+        before: at.before + tops,
+        levels: at.levels,
+    })
 }
 
 // The trees of a part's L.
@@ -131,75 +131,51 @@ fn part_ahead(rows: &[u8], rule: u16, part: u16) -> u16
 }
 
 // Through all parts of a spine, the outermost first.
-fn through(rows: &[u8], path: &mut [u8], rule: u16, from: u16, above: usize) -> Climbed
-    requires { CountedRows rows.now × In rows.now rule × Good Sort.spine (meaning rows.now rule) × Ready path.old from above }
+fn through(rows: &[u8], path: &mut [u8], rule: u16, from: Climbed) -> Option<Climbed>
+    requires { CountedRows rows.now × In rows.now rule × Good Sort.spine (meaning rows.now rule) × Ready path.old from }
     ensures { let path' = path.exit.now in
         let path = path.entry.now in
-        Took path path' (through (meaning rows.now rule) (spot_at path from above)) result }
+        Took path path' (through (meaning rows.now rule) (spot_at path from)) result }
 {
     let parts = tops_rows::tops_at(rows, rule);
-    let mut before = from;
-    let mut levels = above;
-    let mut j: u16 = 0;
-    while j < parts {
+    let mut at = from;
+    for j in 0..parts {
         let ahead = part_ahead(rows, rule, j);
-        match enter(path, before, levels, ahead) {
-            Climbed::At {
-                before: b,
-                levels: l,
-            } => {
-                before = b;
-                levels = l;
-            }
-            Climbed::Far => return Climbed::Far,
-        }
-        j += 1;
+        at = enter(path, at, ahead)?;
     }
-    Climbed::At { before, levels }
+    Some(at)
 }
 
 // One right step from a rule: past the trees of a pair's B, through the parts of a join's B.
-fn right_step(rows: &[u8], path: &mut [u8], a: u16, before: u16, levels: usize) -> Climbed
-    requires { CountedRows rows.now × In rows.now a × Ready path.old before levels }
+fn right_step(rows: &[u8], path: &mut [u8], a: u16, at: Climbed) -> Option<Climbed>
+    requires { CountedRows rows.now × In rows.now a × Ready path.old at }
     ensures { let t = rows.now in
         let path' = path.exit.now in
         let path = path.entry.now in
-        Took path path' (step_spot (meaning t) ((facts_in t).rule a) (spot_at path before levels)) result }
+        Took path path' (step_spot (meaning t) ((facts_in t).rule a) (spot_at path at)) result }
 {
     match facts::rule_at(rows, a) {
-        Rule::Pair { first, .. } => pass(before, levels, tops_rows::tops_at(rows, first)),
-        Rule::Join { outer, .. } => through(rows, path, outer, before, levels),
-        _ => Climbed::At { before, levels },
+        Rule::Pair { first, .. } => pass(at, tops_rows::tops_at(rows, first)),
+        Rule::Join { outer, .. } => through(rows, path, outer, at),
+        _ => Some(at),
     }
 }
 
 // A run of right steps from a rule.
-fn right_run(rows: &[u8], path: &mut [u8], a: u16, steps: u16, from: u16, above: usize) -> Climbed
-    requires { CountedRows rows.now × In rows.now a × Ready path.old from above }
+fn right_run(rows: &[u8], path: &mut [u8], a: u16, steps: u16, from: Climbed) -> Option<Climbed>
+    requires { CountedRows rows.now × In rows.now a × Ready path.old from }
     ensures { let t = rows.now in
         let path' = path.exit.now in
         let path = path.entry.now in
-        Took path path' (right_steps (facts_in t) (meaning t) steps a (spot_at path from above)) result }
+        Took path path' (right_steps (facts_in t) (meaning t) steps a (spot_at path from)) result }
 {
-    let mut before = from;
-    let mut levels = above;
-    let mut at = a;
-    let mut j: u16 = 0;
-    while j < steps {
-        match right_step(rows, path, at, before, levels) {
-            Climbed::At {
-                before: b,
-                levels: l,
-            } => {
-                before = b;
-                levels = l;
-            }
-            Climbed::Far => return Climbed::Far,
-        }
-        at = facts::toward_at(rows, Side::Right, at);
-        j += 1;
+    let mut at = from;
+    let mut rule = a;
+    for _ in 0..steps {
+        at = right_step(rows, path, rule, at)?;
+        rule = facts::toward_at(rows, Side::Right, rule);
     }
-    Climbed::At { before, levels }
+    Some(at)
 }
 
 // How many right steps a run from rule a to rule b has.
@@ -232,88 +208,66 @@ fn row_before(rows: &[u8], r: u16, number: u16) -> u16
 }
 
 // A tree's spine opened where a rule stands: in the hole of a part, else where it is.
-fn open_tree(rows: &[u8], path: &mut [u8], r: u16, before: u16, levels: usize) -> Climbed
-    requires { CountedRows rows.now × In rows.now r × Ready path.old before levels }
+fn open_tree(rows: &[u8], path: &mut [u8], r: u16, at: Climbed) -> Option<Climbed>
+    requires { CountedRows rows.now × In rows.now r × Ready path.old at }
     ensures { let t = rows.now in
         let path' = path.exit.now in
         let path = path.entry.now in
-        Took path path' (spine_spot (meaning t) ((facts_in t).rule r) (spot_at path before levels)) result }
+        Took path path' (spine_spot (meaning t) ((facts_in t).rule r) (spot_at path at)) result }
 {
     match facts::rule_at(rows, r) {
         Rule::Part { left, .. } => {
             let ahead = tops_rows::tops_at(rows, left);
-            enter(path, before, levels, ahead)
+            enter(path, at, ahead)
         }
-        _ => Climbed::At { before, levels },
+        _ => Some(at),
     }
 }
 
 // One cell more.
-fn climb_cell(
-    rows: &[u8],
-    path: &mut [u8],
-    cursor: &[u8],
-    i: usize,
-    before: u16,
-    levels: usize,
-) -> Climbed
-    requires { CountedRows rows.now × Held rows.now cursor.now i × (0 < i) × Ready path.old before levels }
+fn climb_cell(rows: &[u8], path: &mut [u8], cursor: &[u8], i: usize, at: Climbed) -> Option<Climbed>
+    requires { CountedRows rows.now × Held rows.now cursor.now i × (0 < i) × Ready path.old at }
     ensures { let t = rows.now in
         let s = cursor.now in
         let path' = path.exit.now in
         let path = path.entry.now in
-        Took path path' (cell_spot (facts_in t) (meaning t) (cell_at s i) (cells_in s (i - 1)) (spot_at path before levels)) result }
+        Took path path' (cell_spot (facts_in t) (meaning t) (cell_at s i) (cells_in s (i - 1)) (spot_at path at)) result }
 {
     let cell = Cell::read(cursor, i);
     let kind = cell.kind;
     let one = cell.one;
     if kind == Cell::RIGHT {
         let steps = steps_between(rows, one, cell.two);
-        return right_run(rows, path, one, steps, before, levels);
+        return right_run(rows, path, one, steps, at);
     }
     if kind == Cell::SPINE {
         let under = move_parts::standing(rows, cursor, i - 1);
-        return open_tree(rows, path, under, before, levels);
+        return open_tree(rows, path, under, at);
     }
     if kind != Cell::ROW {
-        return Climbed::At { before, levels };
+        return Some(at);
     }
     if i == 1 {
-        return Climbed::At {
-            before: 0,
-            levels: 0,
-        };
+        return Some(TOP);
     }
     let under = move_parts::standing(rows, cursor, i - 1);
     let ahead = row_before(rows, under, one);
-    enter(path, before, levels, ahead)
+    enter(path, at, ahead)
 }
 
-// The path of the node that k cells lead to, the root's number first.
-pub fn climb(rows: &[u8], path: &mut [u8], cursor: &[u8], k: usize) -> Traced
+// The path of the node that k cells lead to, the root's number first: how many levels are written, unless it is too far.
+pub fn climb(rows: &[u8], path: &mut [u8], cursor: &[u8], k: usize) -> Option<usize>
     requires { CountedRows rows.now × Held rows.now cursor.now k × (path_length ≤ length path.old) }
     ensures { let t = rows.now in
         Traces path.old path.new (path_in (facts_in t) (meaning t) (cells_in cursor.now k)) result }
 {
     if k == 0 {
-        return Traced::Levels(0);
+        return Some(0);
     }
-    let mut before: u16 = 0;
-    let mut levels: usize = 0;
-    let mut i: usize = 0;
-    while i < k {
-        match climb_cell(rows, path, cursor, i + 1, before, levels) {
-            Climbed::At {
-                before: b,
-                levels: l,
-            } => {
-                before = b;
-                levels = l;
-            }
-            Climbed::Far => return Traced::Far,
-        }
-        i += 1;
+    let mut at = TOP;
+    for i in 0..k {
+        at = climb_cell(rows, path, cursor, i + 1, at)?;
     }
-    put_level(path, before, levels);
-    Traced::Levels(levels + 1)
+    put_level(path, at);
+    Some(at.levels + 1)
 }

@@ -4,7 +4,7 @@ use Prim.Native.Nat.{ℕ, suc, ◌+◌, ◌-◌, min, ◌≤◌, ◌<◌}
 use native.Mathlib.Omega.{arith}
 use mathlib.Core.Path.{◌≡◌, refl, sym, ap, ◌∙◌}
 use mathlib.Core.List.{List, [], ◌∷◌}
-use mathlib.Core.Option.{none, some}
+use Rattle.std.specs.Prelude.{None, Option, Some}
 use lib.ListN.{length}
 use lib.Dec.{eqb, ltb}
 use borrow.Author.Tests.{lt-ltb, le-ltb, eq-eqb, ne_eqb, ltb-true, ltb-false, eqb-true, eqb-false}
@@ -28,6 +28,7 @@ use Rattle.facts.specs.Facts.{facts_in, In}
 use Rattle.facts.specs.Closes.{Names}
 use Rattle.place_cells.proofs.Stack.{cells-none}
 use Rattle.place_cells.proofs.Writes.{length-cells}
+use Rattle.letter_arrival.specs.declared.Standing.{Standing}
 use Rattle.letter_moves.proofs.Stands.{walked-in}
 use Rattle.tops_rows.specs.Tops.{tops_at}
 use Rattle.transfer_path.specs.Follow.{most_place}
@@ -53,41 +54,42 @@ module _ {t : List ℕ} (g : CountedRows t) {c i v : ℕ} (h : In t c) (few : i 
   exact : v ≤ i → v ≡ tops (meaning t c)
   exact l = let m = trees in omega arith
 
-  pub row-there : (number : ℕ) → i < v → Branch.Row number c i ≡ in_row (meaning t) number c i
+  pub row-there : (number : ℕ) → i < v → Some (Branch.Row number c i) ≡ in_row (meaning t) number c i
   unfolding in_row
   row-there number l = rw (lt-ltb i (tops (meaning t c)) (fewer l))
 
-  pub row-missing : (number : ℕ) → v ≤ i → Branch.Missing ≡ in_row (meaning t) number c i
+  pub row-missing : (number : ℕ) → v ≤ i → None ≡ in_row (meaning t) number c i
   unfolding in_row
   row-missing number l = let q = exact l in rw (le-ltb i (tops (meaning t c)) (omega arith))
 
   module _ (right : ℕ) where
-    pub part_left_lem : i < v → Branch.Row (row_of_part Side.left) c i ≡ in_part (meaning t) c right i
+    pub part_left_lem : i < v → Some (Branch.Row (row_of_part Side.left) c i) ≡ in_part (meaning t) c right i
     unfolding in_part
     part_left_lem l = rw (lt-ltb i (tops (meaning t c)) (fewer l))
 
-    pub part-hole : i ≡ v → Branch.Hole ≡ in_part (meaning t) c right i
+    pub part-hole : i ≡ v → (Some Branch.Hole) ≡ in_part (meaning t) c right i
     unfolding in_part
     part-hole e =
         let q : v ≡ tops (meaning t c) = exact (omega arith) in
         rw (le-ltb i (tops (meaning t c)) (omega arith), eq-eqb i (tops (meaning t c)) (omega arith))
 
-    pub part_right : v ≤ i → (i ≡ v → ⊥) → {b : Branch} → b ≡ in_row (meaning t) (row_of_part Side.right) right (i - v - 1) → b ≡ in_part (meaning t) c right i
+    pub part_right : v ≤ i → (i ≡ v → ⊥) → {b : Option Branch} → b ≡ in_row (meaning t) (row_of_part Side.right) right (i - v - 1)
+        → b ≡ in_part (meaning t) c right i
     unfolding in_part
     part_right l n e =
         let q : v ≡ tops (meaning t c) = exact l in
         rw (le-ltb i (tops (meaning t c)) (omega arith), ne_eqb i (tops (meaning t c)) (λ z. n (z ∙ sym q))) (rw q at e)
 
-module _ (E : ℕ → Expression) (F : Facts) (start k p i : ℕ) {b : Branch} where
-  pub branch-roots : k ≡ 0 → b ≡ in_row E row_of_node start i → b ≡ branch_at E F k p start i
+module _ (E : ℕ → Expression) (F : Facts) (at : Standing) (start i : ℕ) {b : Option Branch} where
+  pub branch-roots : at.used ≡ 0 → b ≡ in_row E row_of_node start i → b ≡ branch_at E F at start i
   unfolding branch_at
-  branch-roots e q = rw (eq-eqb k 0 e) q
+  branch-roots e q = rw (eq-eqb at.used 0 e) q
 
-  pub branch-under : {x : Rule} → (k ≡ 0 → ⊥) → x ≡ F.rule p → b ≡ under_rule E x i → b ≡ branch_at E F k p start i
+  pub branch-under : {x : Rule} → (at.used ≡ 0 → ⊥) → x ≡ F.rule at.rule → b ≡ under_rule E x i → b ≡ branch_at E F at start i
   unfolding branch_at
-  branch-under n e q = rw (ne_eqb k 0 n, sym e) q
+  branch-under n e q = rw (ne_eqb at.used 0 n, sym e) q
 
-pub under-other : (E : ℕ → Expression) (x : Rule) (i : ℕ) → NoNode x → NoPart x → Branch.Missing ≡ under_rule E x i
+pub under-other : (E : ℕ → Expression) (x : Rule) (i : ℕ) → NoNode x → NoPart x → None ≡ under_rule E x i
 unfolding under_rule
 under-other E Rule.Empty i hn hp = refl
 under-other E (Rule.Pair b c) i hn hp = refl
@@ -145,7 +147,7 @@ module _ {t s : List ℕ} {start : ℕ} (f : Followable t s start) where
     -- a row leads to its tree, or has none there
     row-leads : (number c i : ℕ) (z : Position) (x : Spot) → In t c → i < most_place → At w Where.row (meaning t c) z
         → cells z ≡ (cell_row, number, representative (meaning t c), 0) ∷ cells_in s k → ((spot z).0 + i, (spot z).1) ≡ x
-        → (tops (meaning t c) ≤ i → label_at (located_of w) (path_to x) ≡ none) → Leads t s k start x (in_row (meaning t) number c i)
+        → (tops (meaning t c) ≤ i → label_at (located_of w) (path_to x) ≡ None) → Leads t s k start x (in_row (meaning t) number c i)
     unfolding Leads in_row
     row-leads number c i z x h few a e q past =
         by_bool (ltb i (tops (meaning t c)))
@@ -240,7 +242,7 @@ module _ {t s : List ℕ} {start : ℕ} (f : Followable t s start) where
     no_cells e = sym (length-cells s k) ∙ ap length e
 
     found-leads : {y : Path} {n : Node} {p : ℕ} → Found w y n → n ≡ (p, cells_in s k) → In t p → (i : ℕ) → i < most_place
-        → Leads t s k start (i, y) (branch_at (meaning t) (facts_in t) k p start i)
+        → Leads t s k start (i, y) (branch_at (meaning t) (facts_in t) (record { used = k; rule = p }) start i)
     unfolding branch_at
     found-leads {p = p} Found.above e inside i few =
         let none_used = no_cells (sym (ap (λ (m : Node). m.1) e)) in
@@ -254,6 +256,6 @@ module _ {t s : List ℕ} {start : ℕ} (f : Followable t s start) where
         rw (ne_eqb k 0 (λ z. let n : ⊥ = omega arith in n), sym q.spot_is, sym rule) (under-leads q.here (rw (sym rule) at inside) there i few)
 
 -- where the branch leads
-pub branch_leads : {t s : List ℕ} {k p start : ℕ} {y : Path} → FoundAt t s k p start y → (i : ℕ) → i < most_place
-    → Leads t s k start (i, y) (branch_at (meaning t) (facts_in t) k p start i)
-branch_leads {k = k} o i few = found-leads o.followable k o.found refl o.inside i few
+pub branch_leads : {t s : List ℕ} {at : Standing} {start : ℕ} {y : Path} → FoundAt t s at start y → (i : ℕ) → i < most_place
+    → Leads t s at.used start (i, y) (branch_at (meaning t) (facts_in t) at start i)
+branch_leads {at = at} o i few = found-leads o.followable at.used o.found refl o.inside i few

@@ -4,7 +4,8 @@ use Prim.Native.Nat.{ℕ, zero, suc, ◌+◌, ◌-◌, ◌*◌, ◌≤◌, ◌<�
 use native.Mathlib.Omega.{arith}
 use mathlib.Core.Path.{◌≡◌, refl, sym, ap, ◌∙◌, subst}
 use mathlib.Core.List.{List, [], ◌∷◌}
-use mathlib.Core.Option.{some, map}
+use Rattle.std.specs.Prelude.{Some, option_map, Option, None}
+use Rattle.std.proofs.lemmas.Option.{same_Some}
 use lib.ListN.{length}
 use Rattle.words.specs.Number.{number}
 use Rattle.words.specs.Words.{words_at}
@@ -40,7 +41,6 @@ use Rattle.transfer_reach.specs.Reach.{Followable, Reached, RowAt, SomeRow, Hole
 use Rattle.transfer_reach.proofs.Short.{node-short}
 use Rattle.transfer_reach.proofs.Reaching.{followable-kept}
 use Rattle.transfer_follow.specs.declared.Branch.{Branch}
-use Rattle.transfer_follow.specs.declared.Step.{Step}
 use Rattle.transfer_follow.specs.Levels.{branch_at, Found, Leads, FoundAt, Stepped, goal, Descended, Ready}
 use Rattle.transfer_follow.proofs.Branches.{branch_leads, node-some}
 
@@ -52,62 +52,58 @@ node_in {t} {s} k {p} {start} f n =
     let there : cells_in s k ≡ cells n.position = ap (λ (m : Node). m.1) e in
     let some_cells = node-some n.here in
     let long = sym (length-cells s k) ∙ ap length there in
-    let same : Same (meaning t start) (some (n.expression, n.position)) (p, cells_in s k) = rw e (Same.at n.here) in
-    at-rule (record { rows = f.rows; room = f.room; valid = record { position = some (n.expression, n.position); same = same } })
+    let same : Same (meaning t start) (Some (n.expression, n.position)) (p, cells_in s k) = rw e (Same.at n.here) in
+    at-rule (record { rows = f.rows; room = f.room; valid = record { position = Some (n.expression, n.position); same = same } })
     (λ z. let n : ⊥ = omega arith in n)
 
 -- a level taken
-there-answer : List ℕ → List ℕ → ℕ → Path → Step → Type 0
-there-answer t s start p (Step.There r) = FoundAt t s r.used r.rule start p
-there-answer t s start p Step.Missing = Unit {0}
-
 stepped-there : {t s s' : List ℕ} {start i : ℕ} {y : Path} {r : Standing} → Followable t s start → Reached t s s' start (i, y) r
-    → Stepped t s s' start i y (Step.There r)
-unfolding there-answer
+    → Stepped t s s' start i y (Some r)
 stepped-there {t} {s} {s'} {start} {i} {y} {r} f z =
     let f' = followable-kept z.within.same_length f in
-    let o : FoundAt t s' r.used r.rule start (suc i ∷ y) =
-    record { followable = f'; inside = node_in r.used f' z.node; found = Found.node z.node } in
+    let o : FoundAt t s' r start (suc i ∷ y) = record { followable = f'; inside = node_in r.used f' z.node; found = Found.node z.node } in
     record {
       within = z.within;
-      there = λ r' e. subst (there-answer t s' start (suc i ∷ y)) e o;
+      there = λ r' e. rw (same_Some r r' e) at o;
       missing = λ e. absurd (let q : ◌≡◌ {A = ℕ} 0 1 = cc in let n : ⊥ = omega arith in n);
     }
 
-module _ {t s : List ℕ} {k p start i : ℕ} {b : Branch} (e : b ≡ branch_at (meaning t) (facts_in t) k p start i) (few : i < most_place) where
-  leads : {y : Path} → FoundAt t s k p start y → Leads t s k start (i, y) b
+module _ {t s : List ℕ} {at : Standing} {start i : ℕ} {b : Option Branch}
+    (e : b ≡ branch_at (meaning t) (facts_in t) at start i) (few : i < most_place) where
+  leads : {y : Path} → FoundAt t s at start y → Leads t s at.used start (i, y) b
   leads o = rw e (branch_leads o i few)
 
-  row_here : {number c rest : ℕ} → b ≡ Branch.Row number c rest → {y : Path} → FoundAt t s k p start y → RowAt t s k number c rest start (i, y)
+  row_here : {number c rest : ℕ} → b ≡ Some (Branch.Row number c rest) → {y : Path} → FoundAt t s at start y
+      → RowAt t s at.used number c rest start (i, y)
   unfolding Leads
-  row_here q o = subst (Leads t s k start (i, _)) q (leads o)
+  row_here q o = subst (Leads t s at.used start (i, _)) q (leads o)
 
-  hole-here : b ≡ Branch.Hole → {y : Path} → FoundAt t s k p start y → HoleAt t s k start (i, y)
+  hole-here : b ≡ (Some Branch.Hole) → {y : Path} → FoundAt t s at start y → HoleAt t s at.used start (i, y)
   unfolding Leads
-  hole-here q o = subst (Leads t s k start (i, _)) q (leads o)
+  hole-here q o = subst (Leads t s at.used start (i, _)) q (leads o)
 
-  pub row-asks : {number c rest : ℕ} → b ≡ Branch.Row number c rest → {y : Path} → FoundAt t s k p start y → SomeRow t s k number c rest
+  pub row-asks : {number c rest : ℕ} → b ≡ Some (Branch.Row number c rest) → {y : Path} → FoundAt t s at start y → SomeRow t s at.used number c rest
   row-asks q {y} o = record { start = start; spot = (i, y); row = row_here q o }
 
-  pub hole-asks : b ≡ Branch.Hole → {y : Path} → FoundAt t s k p start y → SomeHole t s k
+  pub hole-asks : b ≡ (Some Branch.Hole) → {y : Path} → FoundAt t s at start y → SomeHole t s at.used
   hole-asks q {y} o = record { start = start; spot = (i, y); hole = hole-here q o }
 
-  pub row-steps : {number c rest : ℕ} → b ≡ Branch.Row number c rest → {s' : List ℕ} {r : Standing}
-      → ((v : ℕ) (x : Spot) → RowAt t s k number c rest v x → Reached t s s' v x r) → (y : Path) → FoundAt t s k p start y
-      → Stepped t s s' start i y (Step.There r)
+  pub row-steps : {number c rest : ℕ} → b ≡ Some (Branch.Row number c rest) → {s' : List ℕ} {r : Standing}
+      → ((v : ℕ) (x : Spot) → RowAt t s at.used number c rest v x → Reached t s s' v x r) → (y : Path) → FoundAt t s at start y
+      → Stepped t s s' start i y (Some r)
   row-steps q z y o = stepped-there o.followable (z start (i, y) (row_here q o))
 
-  pub hole-steps : b ≡ Branch.Hole → {s' : List ℕ} {r : Standing} → ((v : ℕ) (x : Spot) → HoleAt t s k v x → Reached t s s' v x r)
-      → (y : Path) → FoundAt t s k p start y → Stepped t s s' start i y (Step.There r)
+  pub hole-steps : b ≡ (Some Branch.Hole) → {s' : List ℕ} {r : Standing} → ((v : ℕ) (x : Spot) → HoleAt t s at.used v x → Reached t s s' v x r)
+      → (y : Path) → FoundAt t s at start y → Stepped t s s' start i y (Some r)
   hole-steps q z y o = stepped-there o.followable (z start (i, y) (hole-here q o))
 
-  pub missing-steps : b ≡ Branch.Missing → (y : Path) → FoundAt t s k p start y → Stepped t s s start i y Step.Missing
+  pub missing-steps : b ≡ None → (y : Path) → FoundAt t s at start y → Stepped t s s start i y None
   unfolding Leads
   missing-steps q y o =
       record {
         within = within_none cell_length (place_length (row_count t)) s;
         there = λ r z. absurd (let q : ◌≡◌ {A = ℕ} 0 1 = cc in let n : ⊥ = omega arith in n);
-        missing = λ z. (subst (Leads t s k start (i, y)) q (leads o), refl);
+        missing = λ z. (subst (Leads t s at.used start (i, y)) q (leads o), refl);
       }
 
 -- the words from one on
@@ -117,15 +113,16 @@ words-next path at zero l = absurd (let n : ⊥ = omega arith in n)
 words-next path at (suc n) l = ap (λ (j : ℕ). number 2 path at ∷ words_at path (at + 2) j) (let e : n ≡ suc n - 1 = omega arith in e)
 
 -- j levels are followed, to the path y
-pub record Descending (t s : List ℕ) (start : ℕ) (path : List ℕ) (levels : ℕ) (s' : List ℕ) (used rule j : ℕ) : Type 0 where
+pub record Descending (t s : List ℕ) (start : ℕ) (path : List ℕ) (levels : ℕ) (s' : List ℕ) (at : Standing) (j : ℕ) : Type 0 where
   pub reached : Path
-  pub stands : FoundAt t s' used rule start reached
+  pub stands : FoundAt t s' at start reached
   pub ahead : descended (located_of (meaning t start)) [] (words_at path 0 levels)
       ≡ descended (located_of (meaning t start)) reached (words_at path (word_length * j) (levels - j))
   pub below : j ≤ levels
   pub within : Within cell_length (place_length (row_count t)) s s'
 
-pub descending-start : {t s : List ℕ} {start : ℕ} (path : List ℕ) (levels : ℕ) → Followable t s start → Descending t s start path levels s 0 0 0
+pub descending-start : {t s : List ℕ} {start : ℕ} (path : List ℕ) (levels : ℕ) → Followable t s start
+    → Descending t s start path levels s (record { used = 0; rule = 0 }) 0
 unfolding cells_in
 descending-start {t} {s} path levels f =
     record {
@@ -137,11 +134,11 @@ descending-start {t} {s} path levels f =
     }
 
 -- the node at a path that is stood at
-pub found-label : {t s : List ℕ} {k p start i : ℕ} {y : Path} → FoundAt t s k p start (suc i ∷ y)
-    → (l : Located) × (label_at (located_of (meaning t start)) (suc i ∷ y) ≡ some l)
+pub found-label : {t s : List ℕ} {at : Standing} {start i : ℕ} {y : Path} → FoundAt t s at start (suc i ∷ y)
+    → (l : Located) × (label_at (located_of (meaning t start)) (suc i ∷ y) ≡ Some l)
 found-label {t} {start = start} {i} {y} o = go o.found refl
   where
-    go : {q : Path} {n : Node} → Found (meaning t start) q n → q ≡ suc i ∷ y → (l : Located) × (label_at (located_of (meaning t start)) (suc i ∷ y) ≡ some l)
+    go : {q : Path} {n : Node} → Found (meaning t start) q n → q ≡ suc i ∷ y → (l : Located) × (label_at (located_of (meaning t start)) (suc i ∷ y) ≡ Some l)
     go Found.above e = absurd (let z : ◌≡◌ {A = ℕ} 0 (suc (length y)) = ap length e in let n : ⊥ = omega arith in n)
     go (Found.node {x} n) e = (
       (n.expression, n.position),
@@ -149,9 +146,9 @@ found-label {t} {start = start} {i} {y} o = go o.found refl
           ∙ spot-path (closed-row o.followable.rows.sound o.followable.rows.closed) n.here,
     )
 
-module _ {t s s₁ s₂ : List ℕ} {start : ℕ} {path : List ℕ} {levels used rule j m : ℕ} {x : Step}
-    (d : Descending t s start path levels s₁ used rule j) (l : j < levels)
-    (read : m ≡ number 2 path (2 * j)) (Some-number : 0 < m) (z : (y : Path) → FoundAt t s₁ used rule start y → Stepped t s₁ s₂ start (m - 1) y x) where
+module _ {t s s₁ s₂ : List ℕ} {start : ℕ} {path : List ℕ} {levels : ℕ} {at : Standing} {j m : ℕ} {x : Option Standing}
+    (d : Descending t s start path levels s₁ at j) (l : j < levels)
+    (read : m ≡ number 2 path (2 * j)) (some-number : 0 < m) (z : (y : Path) → FoundAt t s₁ at start y → Stepped t s₁ s₂ start (m - 1) y x) where
   taken : Stepped t s₁ s₂ start (m - 1) d.reached x
   taken = z d.reached d.stands
 
@@ -165,9 +162,9 @@ module _ {t s s₁ s₂ : List ℕ} {start : ℕ} {path : List ℕ} {levels used
       ∷ words_at path ((let e : word_length * j + 2 ≡ word_length * (j + 1) = omega arith in e) i)
       ((let e : levels - j - 1 ≡ levels - (j + 1) = omega arith in e) i)))
 
-  pub descending-more : {at : Standing} → x ≡ Step.There at → Descending t s start path levels s₂ at.used at.rule (j + 1)
-  descending-more {at} e =
-      let o = taken.there at e in
+  pub descending-more : {next : Standing} → x ≡ Some next → Descending t s start path levels s₂ next (j + 1)
+  descending-more {next = at'} e =
+      let o = taken.there at' e in
       record {
         reached = suc (m - 1) ∷ d.reached;
         stands = o;
@@ -176,7 +173,7 @@ module _ {t s s₁ s₂ : List ℕ} {start : ℕ} {path : List ℕ} {levels used
         within = within_both d.within taken.within;
       }
 
-  stops : x ≡ Step.Missing → descended (located_of (meaning t start)) [] (words_at path 0 levels) ≡ d.reached
+  stops : x ≡ None → descended (located_of (meaning t start)) [] (words_at path 0 levels) ≡ d.reached
   stops e = next ∙ descended-missing (located_of (meaning t start)) (suc (m - 1)) d.reached _ (taken.missing e).0
 
 -- the goal, without labels
@@ -189,30 +186,35 @@ goal-located t start is =
     ∙ descended-relabel placed_as (located_of (meaning t start)) [] is
 
 -- the cells where the search stands are those of the path
-found-cells : {t s : List ℕ} {k p start : ℕ} {y : Path} → FoundAt t s k p start y → cells_in s k ≡ place_at (placed_forest (rules_kept t) start) y
+found-cells : {t s : List ℕ} {at : Standing} {start : ℕ} {y : Path} → FoundAt t s at start y
+    → cells_in s at.used ≡ place_at (placed_forest (rules_kept t) start) y
 unfolding place_at cells_of label_at top node_at placed_forest
-found-cells {t} {s} {k} {p} {start} {y} o = go o.found refl
+found-cells {t} {s} {at} {start} {y} o = go o.found refl
   where
-    go : {q : Path} {n : Node} → Found (meaning t start) q n → n ≡ (p, cells_in s k) → cells_in s k ≡ place_at (placed_forest (rules_kept t) start) q
+    go : {q : Path} {n : Node} → Found (meaning t start) q n → n ≡ (at.rule, cells_in s at.used)
+        → cells_in s at.used ≡ place_at (placed_forest (rules_kept t) start) q
     go Found.above e = sym (ap (λ (m : Node). m.1) e)
     go (Found.node {x} {n} q) e =
         sym (ap (λ (m : Node). m.1) (sym q.node_is ∙ e))
         ∙ sym
         (ap cells_of
         (placed-label_at (meaning t start) (path_to x)
-        ∙ ap (map placed_as)
+        ∙ ap (option_map placed_as)
         (sym (ap (λ (v : Spot). label_at (located_of (meaning t start)) (path_to v)) q.spot_is)
         ∙ spot-path (closed-row o.followable.rows.sound o.followable.rows.closed) q.here)))
 
-found-few : {t s : List ℕ} {k p start : ℕ} {y : Path} → FoundAt t s k p start y → k ≤ most_cells (row_count t)
-found-few {t} {s} {k} {p} {start} o = go o.found refl
+found-few : {t s : List ℕ} {at : Standing} {start : ℕ} {y : Path} → FoundAt t s at start y → at.used ≤ most_cells (row_count t)
+found-few {t} {s} {at} {start} o = go o.found refl
   where
-    go : {q : Path} {n : Node} → Found (meaning t start) q n → n ≡ (p, cells_in s k) → k ≤ most_cells (row_count t)
-    go Found.above e = let long = ap (λ (m : Node). length m.1) e ∙ length-cells s k in omega arith
-    go (Found.node q) e = let few = node-short o.followable.rows q in let long = ap (λ (m : Node). length m.1) e ∙ length-cells s k in omega arith
+    go : {q : Path} {n : Node} → Found (meaning t start) q n → n ≡ (at.rule, cells_in s at.used) → at.used ≤ most_cells (row_count t)
+    go Found.above e = let long = ap (λ (m : Node). length m.1) e ∙ length-cells s at.used in omega arith
+    go (Found.node q) e =
+        let few = node-short o.followable.rows q in
+        let long = ap (λ (m : Node). length m.1) e ∙ length-cells s at.used in
+        omega arith
 
-module _ {t s s' : List ℕ} {start : ℕ} {path : List ℕ} {levels used rule j : ℕ} (d : Descending t s start path levels s' used rule j) where
-  ends_at : descended (located_of (meaning t start)) [] (words_at path 0 levels) ≡ d.reached → Descended t s s' start path levels used
+module _ {t s s' : List ℕ} {start : ℕ} {path : List ℕ} {levels : ℕ} {at : Standing} {j : ℕ} (d : Descending t s start path levels s' at j) where
+  ends_at : descended (located_of (meaning t start)) [] (words_at path 0 levels) ≡ d.reached → Descended t s s' start path levels at.used
   ends_at e =
       record {
         cells_are = found-cells d.stands ∙ ap (place_at (placed_forest (rules_kept t) start)) (sym (goal-located t start (words_at path 0 levels) ∙ e));
@@ -220,20 +222,20 @@ module _ {t s s' : List ℕ} {start : ℕ} {path : List ℕ} {levels used rule j
         within = d.within;
       }
 
-  pub descended-all : levels ≤ j → Descended t s s' start path levels used
+  pub descended-all : levels ≤ j → Descended t s s' start path levels at.used
   unfolding descended words_at
   descended-all l =
       let low = d.below in
       let e : levels - j ≡ 0 = omega arith in
       ends_at (d.ahead ∙ ap (λ (n : ℕ). descended (located_of (meaning t start)) d.reached (words_at path (word_length * j) n)) e)
 
-pub descended-stops : {t s s₁ s₂ : List ℕ} {start : ℕ} {path : List ℕ} {levels used rule j m : ℕ} {x : Step}
-    → (d : Descending t s start path levels s₁ used rule j) → j < levels
-    → m ≡ number 2 path (2 * j) → 0 < m → ((y : Path) → FoundAt t s₁ used rule start y → Stepped t s₁ s₂ start (m - 1) y x) → x ≡ Step.Missing
-    → Descended t s s₂ start path levels used
-descended-stops {t} {s} {start = start} {path = path} {levels = levels} {used = used} d l read Some-number z e =
-    let same = ((taken d l read Some-number z).missing e).1 in
-    rw same (ends_at d (stops d l read Some-number z e))
+pub descended-stops : {t s s₁ s₂ : List ℕ} {start : ℕ} {path : List ℕ} {levels : ℕ} {at : Standing} {j m : ℕ} {x : Option Standing}
+    → (d : Descending t s start path levels s₁ at j) → j < levels
+    → m ≡ number 2 path (2 * j) → 0 < m → ((y : Path) → FoundAt t s₁ at start y → Stepped t s₁ s₂ start (m - 1) y x) → x ≡ None
+    → Descended t s s₂ start path levels at.used
+descended-stops d l read some-number z e =
+    let same = ((taken d l read some-number z).missing e).1 in
+    rw same (ends_at d (stops d l read some-number z e))
 
 -- the place stored
 module _ {t s : List ℕ} {n start : ℕ} (r : Ready t s n start) where

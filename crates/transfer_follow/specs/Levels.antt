@@ -1,7 +1,7 @@
 -- One level of a path followed (document 02, Note 12: "In the new forest follow it as far as each step exists, and stop there"): where the child with
 -- a number stands, by counts of trees, and what is asked and left by a level and by all.
-use Rattle.std.specs.Prelude.{ℕ, suc, ◌-◌, ◌*◌, ◌≤◌, ◌<◌, ◌≡◌, cond, List, [], ◌∷◌, length, eqb, ltb}
-use Rattle.std.proofs.Math.Option.{none}
+use Rattle.std.specs.Prelude.{ℕ, suc, ◌-◌, ◌*◌, ◌≤◌, ◌<◌, ◌≡◌, cond, List, [], ◌∷◌, length, eqb, ltb, Option, Some}
+use Rattle.std.specs.Prelude.{None}
 use Rattle.words.specs.Number.{number}
 use Rattle.words.specs.Words.{words_at}
 use Rattle.record.specs.Record.{word_length}
@@ -25,31 +25,30 @@ use Rattle.transfer_seek.specs.Seek.{NodeAt}
 use Rattle.transfer_climb.specs.Climb.{meaning, CountedRows}
 use Rattle.transfer_reach.specs.Reach.{Followable, RowAt, HoleAt}
 use Rattle.transfer_follow.specs.declared.Branch.{Branch}
-use Rattle.transfer_follow.specs.declared.Step.{Step}
 
 -- the tree behind i trees of rule c's row, if it has so many
-unfoldable pub in_row : (ℕ → Expression) → ℕ → ℕ → ℕ → Branch
-in_row E number c i = cond (ltb i (tops (E c))) (Branch.Row number c i) Branch.Missing
+unfoldable pub in_row : (ℕ → Expression) → ℕ → ℕ → ℕ → Option Branch
+in_row E number c i = cond (ltb i (tops (E c))) (Some (Branch.Row number c i)) None
 
 -- behind i trees of a part's L, hole and R
-unfoldable pub in_part : (ℕ → Expression) → ℕ → ℕ → ℕ → Branch
+unfoldable pub in_part : (ℕ → Expression) → ℕ → ℕ → ℕ → Option Branch
 in_part E b c i =
-    cond (ltb i (tops (E b))) (Branch.Row (row_of_part Side.left) b i)
-    (cond (eqb i (tops (E b))) Branch.Hole
+    cond (ltb i (tops (E b))) (Some (Branch.Row (row_of_part Side.left) b i))
+    (cond (eqb i (tops (E b))) (Some Branch.Hole)
     (in_row E (row_of_part Side.right) c (i - tops (E b) - 1)))
 
 -- under a node with that rule
-unfoldable pub under_rule : (ℕ → Expression) → Rule → ℕ → Branch
-under_rule E Rule.Empty i = Branch.Missing
-under_rule E (Rule.Pair b c) i = Branch.Missing
+unfoldable pub under_rule : (ℕ → Expression) → Rule → ℕ → Option Branch
+under_rule E Rule.Empty i = None
+under_rule E (Rule.Pair b c) i = None
 under_rule E (Rule.Node a c) i = in_row E row_of_node c i
-under_rule E (Rule.Fill b c) i = Branch.Missing
+under_rule E (Rule.Fill b c) i = None
 under_rule E (Rule.Part a b c) i = in_part E b c i
-under_rule E (Rule.Join b c) i = Branch.Missing
+under_rule E (Rule.Join b c) i = None
 
--- among the roots, or under the node where the walk stands, with k cells and rule p
-unfoldable pub branch_at : (ℕ → Expression) → Facts → ℕ → ℕ → ℕ → ℕ → Branch
-branch_at E F k p start i = cond (eqb k 0) (in_row E row_of_node start i) (under_rule E (F.rule p) i)
+-- among the roots, or under the node that is stood at
+unfoldable pub branch_at : (ℕ → Expression) → Facts → Standing → ℕ → ℕ → Option Branch
+branch_at E F at start i = cond (eqb at.used 0) (in_row E row_of_node start i) (under_rule E (F.rule at.rule) i)
 
 -- the walker's node n is the one at path p of w's forest, or both are above it
 pub data Found (w : Expression) : Path → Node → Type 0 where
@@ -57,28 +56,28 @@ pub data Found (w : Expression) : Path → Node → Type 0 where
   node : {x : Spot} {n : Node} → NodeAt w x n → Found w (path_to x) n
 
 -- what a branch says of the tree at spot x
-unfoldable pub Leads : List ℕ → List ℕ → ℕ → ℕ → Spot → Branch → Type 0
-Leads t s k start x (Branch.Row number c i) = RowAt t s k number c i start x
-Leads t s k start x Branch.Hole = HoleAt t s k start x
-Leads t s k start x Branch.Missing = label_at (located_of (meaning t start)) (path_to x) ≡ none
+unfoldable pub Leads : List ℕ → List ℕ → ℕ → ℕ → Spot → Option Branch → Type 0
+Leads t s k start x (Some (Branch.Row number c i)) = RowAt t s k number c i start x
+Leads t s k start x (Some Branch.Hole) = HoleAt t s k start x
+Leads t s k start x None = label_at (located_of (meaning t start)) (path_to x) ≡ None
 
--- the walk stands at the path y, with k cells and rule p
-pub record FoundAt (t s : List ℕ) (k p start : ℕ) (y : Path) : Type 0 where
+-- the node at the path y of rule start's forest is stood at
+pub record FoundAt (t s : List ℕ) (at : Standing) (start : ℕ) (y : Path) : Type 0 where
   pub followable : Followable t s start
-  pub inside : In t p
-  pub found : Found (meaning t start) y (p, cells_in s k)
+  pub inside : In t at.rule
+  pub found : Found (meaning t start) y (at.rule, cells_in s at.used)
 
--- it stands somewhere, and the number of the next level is told exactly
-pub record Standable (t s : List ℕ) (k p start i : ℕ) : Type 0 where
+-- some node is stood at, and the number of the next level is told exactly
+pub record Standable (t s : List ℕ) (at : Standing) (start i : ℕ) : Type 0 where
   pub path : Path
-  pub stands : FoundAt t s k p start path
+  pub stands : FoundAt t s at start path
   pub few : i < most_place
 
 -- one level: the child behind i others of the node at path y is stood at, or is missing and nothing is written
-pub record Stepped (t s s' : List ℕ) (start i : ℕ) (y : Path) (x : Step) : Type 0 where
+pub record Stepped (t s s' : List ℕ) (start i : ℕ) (y : Path) (x : Option Standing) : Type 0 where
   pub within : Within cell_length (place_length (row_count t)) s s'
-  pub there : (r : Standing) → x ≡ Step.There r → FoundAt t s' r.used r.rule start (suc i ∷ y)
-  pub missing : x ≡ Step.Missing → (label_at (located_of (meaning t start)) (suc i ∷ y) ≡ none) × (s' ≡ s)
+  pub there : (r : Standing) → x ≡ Some r → FoundAt t s' r start (suc i ∷ y)
+  pub missing : x ≡ None → (label_at (located_of (meaning t start)) (suc i ∷ y) ≡ None) × (s' ≡ s)
 
 -- the words of a path, each from 1
 pub record Numbers (path : List ℕ) (levels : ℕ) : Type 0 where

@@ -18,84 +18,75 @@ use letter_arrival::Standing;
 use place_cells::Cell;
 use rule::Rule;
 
-// Where a child with a number stands: in a row with a number of a rule, behind so many of its trees; in the hole; or nowhere.
+// Where a child with a number stands, if it is there: in a row with a number of a rule, behind so many of its trees; or in the hole.
 #[derive(Clone, Copy)]
 enum Branch {
     Row { number: u16, rule: u16, rest: u16 },
     Hole,
-    Missing,
-}
-
-// One level taken, or missing.
-#[derive(Clone, Copy)]
-enum Step {
-    There(Standing),
-    Missing,
 }
 
 // Behind i trees of a rule's row.
-fn in_row(rows: &[u8], number: u16, rule: u16, i: u16) -> Branch
+fn in_row(rows: &[u8], number: u16, rule: u16, i: u16) -> Option<Branch>
     requires { CountedRows rows.now × In rows.now rule × (i < most_place) }
     ensures { result ≡ in_row (meaning rows.now) number rule i }
 {
     if i < tops_rows::tops_at(rows, rule) {
-        return Branch::Row {
+        return Some(Branch::Row {
             number,
             rule,
             rest: i,
-        };
+        });
     }
-    Branch::Missing
+    None
 }
 
 // Behind i trees of a part's L, hole and R.
-fn in_part(rows: &[u8], left: u16, right: u16, i: u16) -> Branch
+fn in_part(rows: &[u8], left: u16, right: u16, i: u16) -> Option<Branch>
     requires { CountedRows rows.now × In rows.now left × In rows.now right × (i < most_place) }
     ensures { result ≡ in_part (meaning rows.now) left right i }
 {
     let before = tops_rows::tops_at(rows, left);
     if i < before {
-        return Branch::Row {
+        return Some(Branch::Row {
             number: Cell::LEFT_ROW,
             rule: left,
             rest: i,
-        };
+        });
     }
     if i == before {
-        return Branch::Hole;
+        return Some(Branch::Hole);
     }
     in_row(rows, Cell::RIGHT_ROW, right, i - before - 1)
 }
 
-// Behind i of the roots, or of the children of the node where k cells and a rule stand.
-fn branch_at(rows: &[u8], k: usize, p: u16, start: u16, i: u16) -> Branch
-    requires { CountedRows rows.now × In rows.now p × In rows.now start × (i < most_place) }
-    ensures { result ≡ branch_at (meaning rows.now) (facts_in rows.now) k p start i }
+// Behind i of the roots, or of the children of the node that is stood at.
+fn branch_at(rows: &[u8], at: Standing, start: u16, i: u16) -> Option<Branch>
+    requires { CountedRows rows.now × In rows.now at.rule × In rows.now start × (i < most_place) }
+    ensures { result ≡ branch_at (meaning rows.now) (facts_in rows.now) at start i }
 {
-    if k == 0 {
+    if at.used == 0 {
         return in_row(rows, Cell::NODE_ROW, start, i);
     }
-    match facts::rule_at(rows, p) {
+    match facts::rule_at(rows, at.rule) {
         Rule::Node { under, .. } => in_row(rows, Cell::NODE_ROW, under, i),
         Rule::Part { left, right, .. } => in_part(rows, left, right, i),
-        _ => Branch::Missing,
+        _ => None,
     }
 }
 
-// One level down from k cells and a rule: to the root, or the child, behind i others.
-fn step_down(rows: &[u8], cursor: &mut [u8], k: usize, p: u16, start: u16, i: u16) -> Step
-    requires { Standable rows.now cursor.old k p start i }
+// One level down: to the root, or the child, behind i others.
+fn step_down(rows: &[u8], cursor: &mut [u8], at: Standing, start: u16, i: u16) -> Option<Standing>
+    requires { Standable rows.now cursor.old at start i }
     ensures { let cursor' = cursor.exit.now in
         let cursor = cursor.entry.now in
         let t = rows.now in
-        ((y : Path) → FoundAt t cursor k p start y → Stepped t cursor cursor' start i y result) }
+        ((y : Path) → FoundAt t cursor at start y → Stepped t cursor cursor' start i y result) }
 {
-    match branch_at(rows, k, p, start, i) {
+    match branch_at(rows, at, start, i)? {
         Branch::Row { number, rule, rest } => {
-            Step::There(transfer_reach::reach_row(rows, cursor, k, number, rule, rest))
+            Some(transfer_reach::reach_row(rows, cursor, at.used, number, rule, rest))
         }
-        Branch::Hole => Step::There(transfer_reach::reach_hole(rows, cursor, k)),
-        Branch::Missing => Step::Missing,
+        Branch::Hole => Some(transfer_reach::reach_hole(rows, cursor, at.used)),
     }
 }
 
@@ -104,21 +95,15 @@ fn descend(rows: &[u8], cursor: &mut [u8], start: u16, path: &[u8], levels: usiz
     requires { Followable rows.now cursor.old start × Numbers path.now levels }
     ensures { Descended rows.now cursor.old cursor.new start path.now levels result }
 {
-    let mut used: usize = 0;
-    let mut rule: u16 = 0;
-    let mut j: usize = 0;
-    while j < levels {
+    let mut at = Standing { used: 0, rule: 0 };
+    for j in 0..levels {
         let number = words::read16(path, 2 * j);
-        match step_down(rows, cursor, used, rule, start, number - 1) {
-            Step::There(at) => {
-                used = at.used;
-                rule = at.rule;
-            }
-            Step::Missing => return used,
-        }
-        j += 1;
+        let Some(next) = step_down(rows, cursor, at, start, number - 1) else {
+            return at.used;
+        };
+        at = next;
     }
-    used
+    at.used
 }
 
 // The path followed, and the place stored where it stops, for the start rule: word 1 of cell 0 is 0.

@@ -5,7 +5,8 @@ use native.Mathlib.Omega.{arith}
 use mathlib.Core.Path.{◌≡◌, refl, sym, ◌∙◌, ap, ap₂}
 use mathlib.Core.Bool.{false}
 use mathlib.Core.List.{[], ◌∷◌}
-use mathlib.Core.Option.{Option, none, some, none-ne-some, some-injective}
+use Rattle.std.specs.Prelude.{Option, None, Some}
+use Rattle.std.proofs.lemmas.Option.{none-some, same_Some}
 use Rattle.rule.specs.declared.Rule.{Rule}
 use Rattle.forest.specs.Expression.{Expression, rule_number}
 use Rattle.forest.specs.Forest.{Forest}
@@ -69,7 +70,7 @@ module _ (F : Facts) (E : ℕ → Expression) where
 
 -- whatever stands at a position, and what continues it, is what E gives for its rule
 abbrev pub KnownAt : (ℕ → Expression) → Expression → Position → Type 0
-KnownAt E e z = Known E e × ((c : Expression) → continues z ≡ some c → Known E c)
+KnownAt E e z = Known E e × ((c : Expression) → continues z ≡ Some c → Known E c)
 
 module _ (E : ℕ → Expression) where
   pub known-number : {e : Expression} → Known E e → E (rule_number e) ≡ e
@@ -81,8 +82,8 @@ module _ (E : ℕ → Expression) where
   known-number (Known.part q kb kc) = q
   known-number (Known.join q kb kc) = q
 
-  ends_there : (c : Expression) → none ≡ some c → Known E c
-  ends_there c q = absurd (none-ne-some c q)
+  ends_there : (c : Expression) → None ≡ Some c → Known E c
+  ends_there c q = absurd (none-some c q)
 
   known-pair : (s : Side) {r : ℕ} {b c : Expression} → Known E (Expression.pair r b c) → Known E (pick s b c)
   known-pair s {b = b} {c = c} (Known.pair q kb kc) = picked (Known E) s b c kb kc
@@ -95,9 +96,9 @@ module _ (E : ℕ → Expression) where
 
   known-fill : {r : ℕ} {b c : Expression} (z : Position) → Known E (Expression.fill r b c) → KnownAt E b (Position.fill_spine r b c z)
   unfolding continues
-  known-fill {c = c} z (Known.fill q kb kc) = (kb, λ d e. rw (some-injective c d e) at kc)
+  known-fill {c = c} z (Known.fill q kb kc) = (kb, λ d e. rw (same_Some c d e) at kc)
 
-  known-join : (s : Side) {r : ℕ} {b c : Expression} (z : Position) → Known E (Expression.join r b c) → ((d : Expression) → continues z ≡ some d → Known E d)
+  known-join : (s : Side) {r : ℕ} {b c : Expression} (z : Position) → Known E (Expression.join r b c) → ((d : Expression) → continues z ≡ Some d → Known E d)
       → KnownAt E (pick s b c) (Position.join_side s r b c z)
   unfolding continues pick
   known-join Side.left z (Known.join q kb kc) f = (kb, ends_there)
@@ -129,9 +130,9 @@ module _ (E : ℕ → Expression) where
   spine-over F v cs t x = ap (λ p. spine_spot E (F.rule p) x) (top-standing F v cs t)
 
 -- a path without a node is above the forest
-named-above : {A : Type 0} {g : Forest A} (p : Path) → Named g p → label_at g p ≡ none → [] ≡ p
+named-above : {A : Type 0} {g : Forest A} (p : Path) → Named g p → label_at g p ≡ None → [] ≡ p
 named-above p Named.above q = refl
-named-above p (Named.node e) q = absurd (none-ne-some _ (sym q ∙ e))
+named-above p (Named.node e) q = absurd (none-some _ (sym q ∙ e))
 
 -- what the rules at a position add to a spot is what their expressions do
 module _ (F : Facts) (E : ℕ → Expression) where

@@ -3,7 +3,7 @@
 use Prim.Native.Nat.{ℕ}
 use mathlib.Core.Path.{◌≡◌, refl, sym, ◌∙◌, ap}
 use mathlib.Core.List.{List, [], ◌∷◌, ◌++◌, reverse, append-nil, append_assoc, reverse-cons, reverse-append, reverse-reverse}
-use mathlib.Core.Option.{none, some, map}
+use Rattle.std.specs.Prelude.{None, Some, option_map}
 use Rattle.forest.specs.Forest.{Forest}
 use Rattle.forest.specs.Relabel.{relabel}
 use Rattle.forest.specs.Reference.{Path, label_at, kept}
@@ -15,11 +15,11 @@ use Rattle.transfer_path.specs.Follow.{descended, followed, Beginning}
 
 module _ {A : Type 0} (g : Forest A) where
   -- a step that exists is taken, and at one that is missing the search stops
-  pub descended-there : {a : A} (i : ℕ) (p : Path) (is : List ℕ) → label_at g (i ∷ p) ≡ some a → descended g p (i ∷ is) ≡ descended g (i ∷ p) is
+  pub descended-there : {a : A} (i : ℕ) (p : Path) (is : List ℕ) → label_at g (i ∷ p) ≡ Some a → descended g p (i ∷ is) ≡ descended g (i ∷ p) is
   unfolding descended kept
   descended-there i p is e = rw e
 
-  pub descended-missing : (i : ℕ) (p : Path) (is : List ℕ) → label_at g (i ∷ p) ≡ none → descended g p (i ∷ is) ≡ p
+  pub descended-missing : (i : ℕ) (p : Path) (is : List ℕ) → label_at g (i ∷ p) ≡ None → descended g p (i ∷ is) ≡ p
   unfolding descended kept
   descended-missing i p is e = rw e
 
@@ -99,9 +99,9 @@ module _ {A B : Type 0} (h : A → B) (g : Forest A) where
   descended-relabel p [] = refl
   descended-relabel p (i ∷ is) =
       by-option (label_at g (i ∷ p))
-      (λ e. descended-missing (relabel h g) i p is (label_at-relabel h g (i ∷ p) ∙ ap (map h) e) ∙ sym (descended-missing g i p is e))
+      (λ e. descended-missing (relabel h g) i p is (label_at-relabel h g (i ∷ p) ∙ ap (option_map h) e) ∙ sym (descended-missing g i p is e))
       (λ a e.
-      descended-there (relabel h g) i p is (label_at-relabel h g (i ∷ p) ∙ ap (map h) e)
+      descended-there (relabel h g) i p is (label_at-relabel h g (i ∷ p) ∙ ap (option_map h) e)
       ∙ descended-relabel (i ∷ p) is
       ∙ sym (descended-there g i p is e))
 

@@ -6,7 +6,8 @@ use native.Mathlib.Omega.{arith}
 use mathlib.Core.Path.{◌≡◌, refl, sym, ◌∙◌, ap, ap₂}
 use mathlib.Core.Bool.{true, false, and-eq-true_iff, false≢true}
 use mathlib.Core.List.{[], ◌∷◌}
-use mathlib.Core.Option.{none, some, none-ne-some, some-injective}
+use Rattle.std.specs.Prelude.{None, Some}
+use Rattle.std.proofs.lemmas.Option.{none-some, same_Some}
 use Rattle.forest.specs.Expression.{Expression}
 use Rattle.forest.specs.Forest.{Forest, append, count}
 use Rattle.forest.specs.Place.{Side, is_empty}
@@ -111,7 +112,7 @@ spotted-below : {a : Located} {c f g : Forest Located} {x : Spot} → Spotted (F
 unfolding later
 spotted-below {c = c} k = record { rest = Forest.none; stretch = children-spotted k ∙ sym (append-none c) }
 
-node-spotted : {a : Located} {c f g : Forest Located} {x : Spot} → Spotted (Forest.tree a c f) g x → label_at g (path_to x) ≡ some a
+node-spotted : {a : Located} {c f g : Forest Located} {x : Spot} → Spotted (Forest.tree a c f) g x → label_at g (path_to x) ≡ Some a
 unfolding append label_at
 node-spotted k = ap top k.stretch
 
@@ -127,7 +128,7 @@ record Threaded (w e : Expression) (z : Position) : Type 0 where
   hole : Position → Forest Located
   spotted : Spotted (located e z hole) (located_of w) (spot z)
   one : (y : Position) → count (hole y) ≡ 1
-  filled : (c : Expression) → continues z ≡ some c → Good Sort.tree c × ((rest : Position → Forest Located) × ((y : Position) → hole y ≡ located c y rest))
+  filled : (c : Expression) → continues z ≡ Some c → Good Sort.tree c × ((rest : Position → Forest Located) × ((y : Position) → hole y ≡ located c y rest))
 
 Here : Expression → Expression → Position → Type 0
 Here w (Expression.empty r) z = ⊥
@@ -240,7 +241,7 @@ module _ {w : Expression} where
         hole = λ last. located c last k.hole;
         spotted = k.spotted;
         one = λ y. tree-one h y k.hole;
-        filled = λ d e. let q : c ≡ d = some-injective c d e in (rw q at h, (k.hole, λ y. ap (λ x. located x y k.hole) q));
+        filled = λ d e. let q : c ≡ d = same_Some c d e in (rw q at h, (k.hole, λ y. ap (λ x. located x y k.hole) q));
       }
 
   found-join : {r : ℕ} {b c : Expression} {z : Position} (s : Side) → Good Sort.spine (Expression.join r b c) → Threaded w (Expression.join r b c) z
@@ -252,7 +253,7 @@ module _ {w : Expression} where
         hole = λ around. located c (Position.join_side Side.right r b c z) k.hole;
         spotted = k.spotted;
         one = λ y. located-one h (Position.join_side Side.right r b c z) k.hole;
-        filled = λ d e. absurd (none-ne-some d e);
+        filled = λ d e. absurd (none-some d e);
       }
   found-join {r} {b} {c} {z} Side.right (Good.join g h) k =
       record {
@@ -272,7 +273,7 @@ module _ {w : Expression} where
       record { good = h; hole = k.hole; spotted = spotted-right r a c g z k.hole k.spotted (k.one z) }
 
   found-hole : {r a : ℕ} {b c e : Expression} {z : Position} → At w Where.spine (Expression.part r a b c) z → Threaded w (Expression.part r a b c) z
-      → continues z ≡ some e → Found w Sort.tree e z (opening z (spot z))
+      → continues z ≡ Some e → Found w Sort.tree e z (opening z (spot z))
   unfolding last_part
   found-hole {e = e} {z = z} h k n =
       record {
@@ -301,7 +302,7 @@ module _ {w : Expression} where
   reaches g (At.hole k n) = found-hole (part-spine k) (reaches g k) n
 
   -- the path that the counts tell is the node's
-  pub spot-path : {e : Expression} {z : Position} → Good Sort.row w → At w Where.here e z → label_at (located_of w) (path_to (spot z)) ≡ some (e, z)
+  pub spot-path : {e : Expression} {z : Position} → Good Sort.row w → At w Where.here e z → label_at (located_of w) (path_to (spot z)) ≡ Some (e, z)
   unfolding Reaches Here located
   spot-path g (At.node k) = node-spotted (reaches g (At.node k)).1.1
   spot-path g (At.part k) = node-spotted (reaches g k).spotted
@@ -333,12 +334,12 @@ module _ {w : Expression} where
   part-children g h = part_count (reaches g h).good (reaches g h)
 
 -- past the last child is no node
-later-past : {A : Type 0} (i : ℕ) (g : Forest A) → count g ≤ i → top (later i g) ≡ none
+later-past : {A : Type 0} (i : ℕ) (g : Forest A) → count g ≤ i → top (later i g) ≡ None
 unfolding later count top
 later-past i Forest.none l = ap top (later-none i)
 later-past zero (Forest.tree a c f) l = absurd (let k : ⊥ = omega arith in k)
 later-past (suc i) (Forest.tree a c f) l = later-past i f (omega arith)
 
-pub past-children : {A : Type 0} (g : Forest A) (p : Path) (i : ℕ) → count (children_at g p) ≤ i → label_at g (suc i ∷ p) ≡ none
+pub past-children : {A : Type 0} (g : Forest A) (p : Path) (i : ℕ) → count (children_at g p) ≤ i → label_at g (suc i ∷ p) ≡ None
 unfolding label_at
 past-children g p i l = later-past i (children_at g p) l

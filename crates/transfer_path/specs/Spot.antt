@@ -1,7 +1,7 @@
 -- Where a position stands among the nodes of its forest (document 02, Note 12: "the place among siblings, from 1, at each level from the
 -- root"), counted from the trees beside it.
 use Rattle.std.specs.Prelude.{ℕ, suc, ◌+◌, List, [], ◌∷◌, ◌++◌}
-use Rattle.std.proofs.Math.Option.{Option, none, some}
+use Rattle.std.specs.Prelude.{Option, None, Some}
 use Rattle.forest.specs.Expression.{Expression}
 use Rattle.forest.specs.Place.{Side}
 use Rattle.forest.specs.Reference.{Path}
@@ -35,8 +35,8 @@ through (Expression.join r b c) x = through c (through b x)
 
 -- a tree that is opened at a part stands in the part's hole, else in a row
 unfoldable pub opening_of : Option Located → Spot → Spot
-opening_of none x = x
-opening_of (some y) x = through y.0 x
+opening_of None x = x
+opening_of (Some y) x = through y.0 x
 
 unfoldable pub opening : Position → Spot → Spot
 opening z x = opening_of (part_at z) x

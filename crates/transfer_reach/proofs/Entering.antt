@@ -4,13 +4,13 @@ use Prim.Native.Nat.{ℕ, ◌+◌, ◌*◌, ◌≤◌}
 use native.Mathlib.Omega.{arith}
 use mathlib.Core.Path.{◌≡◌, sym, ap, ◌∙◌, subst}
 use mathlib.Core.List.{List, ◌∷◌}
-use mathlib.Core.Option.{some, none-ne-some, some-injective}
+use Rattle.std.specs.Prelude.{Some}
+use Rattle.std.proofs.lemmas.Option.{none-some, same_Some}
 use lib.ListN.{length}
 use Rattle.forest.specs.Expression.{Expression, rule_number}
 use Rattle.forest.specs.Letter.{Letter}
 use Rattle.forest.specs.Place as place
 use Rattle.forest.specs.Place.{Cells, cell_row, representative}
-use Rattle.forest.specs.Position.{cells}
 use Rattle.forest.specs.Walk.{cell_length, cells_in}
 use Rattle.model.specs.Model.{Node, opened, inward}
 use Rattle.model.specs.Same.{Same}
@@ -53,10 +53,10 @@ module _ {t s : List ℕ} {k number c i start : ℕ} {x : Spot} (q : RowAt t s k
   row_lies = let few = row-few in let room = q.followable.room in omega arith
 
   module _ {over : ℕ} (e : over ≡ (facts_in t).representative c) {w : Words} (is : w ≡ cell (cell_row, number, over, 0)) {s' : List ℕ} {k' : ℕ}
-      (p : (k' ≡ high w k) × Wrote (add w (cells_in s k)) s s') where
+      (p : (k' ≡ high (Some w) k) × Wrote (add (Some w) (cells_in s k)) s s') where
     put-opening : Put ((cell_row, number, over, 0) ∷ cells_in s k) s s' k'
     unfolding add
-    put-opening = put_as (ap (λ (y : Words). add y (cells_in s k)) is) (put-more w (put-none s k) p)
+    put-opening = put_as (ap (λ (y : Words). add (Some y) (cells_in s k)) is) (put-more (Some w) (put-none s k) p)
 
     pub row-seeks : Seeking t s' k' over i start x
     row-seeks =
@@ -87,24 +87,24 @@ module _ {t s : List ℕ} {k start : ℕ} {x : Spot} (q : HoleAt t s k start x) 
   unfolding rule_number
   hole-held =
       let e = Expression.part q.number q.label q.left q.right in
-      let same : Same (meaning t start) (some (e, q.position)) (q.number, cells_in s k) =
-      subst (λ (cs : Cells). Same (meaning t start) (some (e, q.position)) (q.number, cs)) q.cells_are (Same.at q.here) in
-      held (record { rows = q.followable.rows; room = q.followable.room; valid = record { position = some (e, q.position); same = same } })
+      let same : Same (meaning t start) (Some (e, q.position)) (q.number, cells_in s k) =
+      subst (λ (cs : Cells). Same (meaning t start) (Some (e, q.position)) (q.number, cs)) q.cells_are (Same.at q.here) in
+      held (record { rows = q.followable.rows; room = q.followable.room; valid = record { position = Some (e, q.position); same = same } })
 
-  inner : (n : Node) × ((inward (facts_in t) (cells_in s k) ≡ some n) × NodeAt (meaning t start) x n)
+  inner : (n : Node) × ((inward (facts_in t) (cells_in s k) ≡ Some n) × NodeAt (meaning t start) x n)
   inner =
-      subst (λ (v : Spot). (n : Node) × ((inward (facts_in t) (cells_in s k) ≡ some n) × NodeAt (meaning t start) v n)) q.spot_is
+      subst (λ (v : Spot). (n : Node) × ((inward (facts_in t) (cells_in s k) ≡ Some n) × NodeAt (meaning t start) v n)) q.spot_is
       (rw q.cells_are at (hole-node (facts_in t) (walked-fit q.followable.rows) q.here))
 
   module _ {y : Outcome} (d : (side : place.Side) → Decided t s k (Letter.child side) y (inward (facts_in t) (cells_in s k))) where
     pub hole-somewhere : y ≡ Outcome.Nowhere → ⊥
     unfolding outcome
-    hole-somewhere e = none-ne-some _ (sym (ap (λ (o : Outcome). outcome (facts_in t) inward_letter o s) e) ∙ (d place.Side.left).node ∙ inner.1.0)
+    hole-somewhere e = none-some _ (sym (ap (λ (o : Outcome). outcome (facts_in t) inward_letter o s) e) ∙ (d place.Side.left).node ∙ inner.1.0)
 
     module _ {c : Change} (e : y ≡ Outcome.Node c) where
       leads : change_node (facts_in t) inward_letter c s ≡ inner.0
       unfolding outcome
-      leads = some-injective _ _ (sym (ap (λ (o : Outcome). outcome (facts_in t) inward_letter o s) e) ∙ (d place.Side.left).node ∙ inner.1.0)
+      leads = same_Some _ _ (sym (ap (λ (o : Outcome). outcome (facts_in t) inward_letter o s) e) ∙ (d place.Side.left).node ∙ inner.1.0)
 
       there : NodeAt (meaning t start) x (change_node (facts_in t) inward_letter c s)
       there = rw leads inner.1.1

@@ -1,18 +1,18 @@
 -- The search within a row keeps what it looks for (`Looking`), turn by turn, until the rule is the tree's, which is opened. Assumes nothing.
+use Rattle.std.specs.Prelude.{Option, None}
 use Prim.Native.Nat.{ℕ, ◌+◌, ◌<◌}
 use native.Mathlib.Omega.{arith}
 use mathlib.Core.Path.{◌≡◌, ap, ◌∙◌}
 use mathlib.Core.List.{List}
 use lib.ListN.{length}
 use Rattle.forest.specs.Place.{step}
-use Rattle.forest.specs.Position.{cells}
 use Rattle.forest.specs.Walk.{cell_length, cells_in}
 use Rattle.forest.specs.Sizes.{height}
 use Rattle.forest.proofs.Bound.{length-step}
 use Rattle.forest.proofs.Unfold.{rule_number-expression}
 use Rattle.model.specs.Model.{opened}
 use Rattle.work_rows.specs.Rows.{Within}
-use Rattle.work_rows.proofs.Rows.{within_none, within_both, within_wider}
+use Rattle.work_rows.proofs.Rows.{within_both, within_wider}
 use Rattle.side.specs.declared.Side.{Side}
 use Rattle.side.specs.Side.{side_of}
 use Rattle.facts.specs.Facts.{row_count, facts_in, In}
@@ -45,9 +45,6 @@ step_room {t} {s} {k} {a} q =
 pub record Looking (t s : List ℕ) (k a i : ℕ) (s' : List ℕ) (k' a' i' : ℕ) : Type 0 where
   pub keeps : (start : ℕ) (x : Spot) → Seeking t s k a i start x → Seeking t s' k' a' i' start x
   pub within : Within cell_length (place_length (row_count t)) s s'
-
-pub looking-start : (t s : List ℕ) (k a i : ℕ) → Looking t s k a i s k a i
-looking-start t s k a i = record { keeps = λ start x q. q; within = within_none cell_length (place_length (row_count t)) s }
 
 pub followable-kept : {t s s' : List ℕ} {start : ℕ} → length s' ≡ length s → Followable t s start → Followable t s' start
 followable-kept e f = let room = f.room in record { rows = f.rows; counted = f.counted; room = omega arith }
@@ -120,14 +117,14 @@ pub reached-after : {t s₀ s s' : List ℕ} {start : ℕ} {x : Spot} {r : Stand
     → Reached t s s' start x r → Reached t s₀ s' start x r
 reached-after w z = record { node = z.node; within = within_both w z.within }
 
-pub looking-room : {t s₀ s : List ℕ} {k₀ a₀ i₀ k a i : ℕ} {y : Turn} → Somewhere t s₀ k₀ a₀ i₀ → Looking t s₀ k₀ a₀ i₀ s k a i → Turns t a i y → y ≡ Turn.Tree
-    → Closes t × In t a × Lies s (length (opened (facts_in t) a (cells_in s k)).1)
+pub looking-room : {t s₀ s : List ℕ} {k₀ a₀ i₀ k a i : ℕ} {y : Option Turn} → Somewhere t s₀ k₀ a₀ i₀
+    → Looking t s₀ k₀ a₀ i₀ s k a i → Turns t a i y → y ≡ None → Closes t × In t a × Lies s (length (opened (facts_in t) a (cells_in s k)).1)
 looking-room {s = s} {k = k} m l y e =
     let here = looking-here m l in
     tree-room here (y.tree e m.start here.followable.rows (cells_in s k) m.spot here.sought)
 
-pub looking-ends : {t s₀ s s' : List ℕ} {k₀ a₀ i₀ k a i : ℕ} {y : Turn} {r : Standing} → Looking t s₀ k₀ a₀ i₀ s k a i → Turns t a i y → y ≡ Turn.Tree
-    → Stood (opened (facts_in t) a (cells_in s k)) s s' r
+pub looking-ends : {t s₀ s s' : List ℕ} {k₀ a₀ i₀ k a i : ℕ} {y : Option Turn} {r : Standing} → Looking t s₀ k₀ a₀ i₀ s k a i
+    → Turns t a i y → y ≡ None → Stood (opened (facts_in t) a (cells_in s k)) s s' r
     → (start : ℕ) (x : Spot) → Seeking t s₀ k₀ a₀ i₀ start x → Reached t s₀ s' start x r
 looking-ends {s = s} {k = k} l y e z start x q =
     let here = l.keeps start x q in

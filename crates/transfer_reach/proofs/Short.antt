@@ -5,7 +5,7 @@ use native.Mathlib.Omega.{arith}
 use mathlib.Core.Path.{◌≡◌}
 use mathlib.Core.Bool.{false}
 use mathlib.Core.List.{List}
-use mathlib.Core.Option.{Option, some}
+use Rattle.std.specs.Prelude.{Option, Some}
 use lib.ListN.{length}
 use lib.Dec.{eqb}
 use Rattle.forest.specs.Expression.{Expression, rule_number}
@@ -54,13 +54,13 @@ module _ {t : List ℕ} {start : ℕ} (T : WalkedRows start t) where
   short : {e : Expression} {z : Position} → At (meaning t start) Where.here e z → length (cells z) ≤ 3 * row_count t
   short {e} {z} h =
       let many = first-length t (row_count t) in
-      let few = valid-short T.sound T.closed (facts_in t) agrees (rule_number e, cells z) (record { position = some (e, z); same = Same.at h }) in
+      let few = valid-short T.sound T.closed (facts_in t) agrees (rule_number e, cells z) (record { position = Some (e, z); same = Same.at h }) in
       omega arith
 
   pub node-short : {x : Spot} {n : Node} → NodeAt (meaning t start) x n → length n.1 ≤ 3 * row_count t
   node-short k = rw k.node_is (short k.here)
 
-  agreed-short : {x : Option Located} (n : Node) → Agree (meaning t start) x (some n) → length n.1 ≤ 3 * row_count t
+  agreed-short : {x : Option Located} (n : Node) → Agree (meaning t start) x (Some n) → length n.1 ≤ 3 * row_count t
   agreed-short n (Agree.found h) = short h
 
   pub row-short : {e : Expression} {z : Position} → At (meaning t start) Where.row e z → is_empty e ≡ false → length (cells z) + 1 ≤ 3 * row_count t

@@ -1,8 +1,10 @@
 -- The tree behind i trees of a pair stands on its left if the left side has more, else on its right; i is below 65,535, so that it is told which.
 -- What isn't a pair is the tree. Assumes nothing.
+use Rattle.std.specs.Prelude.{Option, Some, None}
+use Rattle.std.proofs.lemmas.Option.{same_Some}
 use Prim.Native.Nat.{ℕ, ◌-◌, min, ◌≤◌, ◌<◌}
 use native.Mathlib.Omega.{arith}
-use mathlib.Core.Path.{◌≡◌, ap, ◌∙◌, subst}
+use mathlib.Core.Path.{◌≡◌, refl, ap, ◌∙◌}
 use mathlib.Core.List.{List}
 use Rattle.rule.specs.declared.Rule.{Rule}
 use Rattle.forest.specs.Expression.{Expression, rhs}
@@ -33,15 +35,15 @@ module _ {t : List ℕ} (g : CountedRows t) where
   unfolding facts_of
   represents k e = e ∙ ap (λ (F : Facts). F.representative k) g.facts_are
 
-on-answer : List ℕ → ℕ → ℕ → Turn → Type 0
-on-answer t a i (Turn.On s to rest) = StepOn t a i s to rest
-on-answer t a i Turn.Tree = Unit {0}
+-- what is no value's is none
+pub no-value : {A : Type 0} {y : Option A} → ((x : A) → y ≡ Some x → ⊥) → y ≡ None
+no-value {y = Some x} n = absurd (n x refl)
+no-value {y = None} n = refl
 
-turns-on : {t : List ℕ} {a i to rest : ℕ} {s : Side} → StepOn t a i s to rest → Turns t a i (Turn.On s to rest)
-unfolding on-answer
-turns-on {t} {a} {i} k =
+turns-on : {t : List ℕ} {a i : ℕ} (x : Turn) → StepOn t a i x.side x.to x.rest → Turns t a i (Some x)
+turns-on {t} {a} {i} x k =
     record {
-      on = λ s to rest e. subst (on-answer t a i) e k;
+      on = λ y e. rw (same_Some x y e) at k;
       tree = λ e. absurd (let z : ◌≡◌ {A = ℕ} 0 1 = cc in let n : ⊥ = omega arith in n);
     }
 
@@ -58,11 +60,11 @@ module _ {t : List ℕ} (g : CountedRows t) {a i b c v : ℕ} (h : In t a) (few 
   trees : v ≡ min (tops (meaning t b)) most_place
   trees = told g named.0 read
 
-  pub turns-left : i < v → {to : ℕ} → to ≡ (facts_in t).representative b → Turns t a i (Turn.On Side.Left to i)
+  pub turns-left : i < v → {to : ℕ} → to ≡ (facts_in t).representative b → Turns t a i (Some (record { side = Side.Left; to = to; rest = i }))
   unfolding side_of
-  turns-left l q =
+  turns-left l {to} q =
       let m = trees in
-      turns-on
+      turns-on (record { side = Side.Left; to = to; rest = i })
       (record {
         inside = rw q (g.closes.represents b named.0);
         few = few;
@@ -70,12 +72,12 @@ module _ {t : List ℕ} (g : CountedRows t) {a i b c v : ℕ} (h : In t a) (few 
         lower = λ w cs x k. rw (represents g b q) (lower-left pair k (known g named.0));
       })
 
-  pub turns-right : v ≤ i → {to : ℕ} → to ≡ (facts_in t).representative c → Turns t a i (Turn.On Side.Right to (i - v))
+  pub turns-right : v ≤ i → {to : ℕ} → to ≡ (facts_in t).representative c → Turns t a i (Some (record { side = Side.Right; to = to; rest = i - v }))
   unfolding side_of
-  turns-right l q =
+  turns-right l {to} q =
       let m = trees in
       let exact : v ≡ tops (meaning t b) = omega arith in
-      turns-on
+      turns-on (record { side = Side.Right; to = to; rest = i - v })
       (record {
         inside = rw q (g.closes.represents c named.1);
         few = omega arith;
@@ -84,9 +86,9 @@ module _ {t : List ℕ} (g : CountedRows t) {a i b c v : ℕ} (h : In t a) (few 
       })
 
 pub turns-tree : {t : List ℕ} → CountedRows t → {a i : ℕ} (y : Rule) → In t a → y ≡ (facts_in t).rule a → NoPair y
-    → Turns t a i Turn.Tree
+    → Turns t a i None
 turns-tree {t} g y h e other =
     record {
-      on = λ s to rest q. absurd (let z : ◌≡◌ {A = ℕ} 0 1 = cc in let n : ⊥ = omega arith in n);
+      on = λ x q. absurd (let z : ◌≡◌ {A = ℕ} 0 1 = cc in let n : ⊥ = omega arith in n);
       tree = λ q start T cs x k. seek-ends (facts_in t) y other (meaning-is g h e) k (row-fit T k.stands);
     }

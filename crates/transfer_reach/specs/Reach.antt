@@ -1,6 +1,6 @@
 -- The node with a number in a row (document 02, Note 12: "the place among siblings, from 1"), reached by counts of trees: what is asked of rows and
 -- cursor, and what is left there.
-use Rattle.std.specs.Prelude.{ℕ, ◌+◌, ◌≤◌, ◌<◌, ◌≡◌, List, ◌∷◌, length}
+use Rattle.std.specs.Prelude.{ℕ, ◌+◌, ◌≤◌, ◌<◌, ◌≡◌, List, ◌∷◌, length, Option, Some, None}
 use Rattle.forest.specs.Place as place
 use Rattle.forest.specs.Place.{Cells, cell_row, representative, step}
 use Rattle.forest.specs.Letter.{Letter}
@@ -52,9 +52,9 @@ pub record StepOn (t : List ℕ) (a i : ℕ) (s : Side) (to rest : ℕ) : Type 0
   pub lower : (w : Expression) (cs : Cells) (x : Spot) → Sought (meaning t) w a i cs x → height (meaning t to) < height (meaning t a)
 
 -- a step to a side, or the rule is the tree's
-pub record Turns (t : List ℕ) (a i : ℕ) (y : Turn) : Type 0 where
-  pub on : (s : Side) (to rest : ℕ) → y ≡ Turn.On s to rest → StepOn t a i s to rest
-  pub tree : y ≡ Turn.Tree → (start : ℕ) → WalkedRows start t → (cs : Cells) (x : Spot) → Sought (meaning t) (meaning t start) a i cs x
+pub record Turns (t : List ℕ) (a i : ℕ) (y : Option Turn) : Type 0 where
+  pub on : (x : Turn) → y ≡ Some x → StepOn t a i x.side x.to x.rest
+  pub tree : y ≡ None → (start : ℕ) → WalkedRows start t → (cs : Cells) (x : Spot) → Sought (meaning t) (meaning t start) a i cs x
       → TreeAt (meaning t) (meaning t start) a cs x
 
 -- the node at spot x of rule start's forest is stood at, and nothing is written outside its place

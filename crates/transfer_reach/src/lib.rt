@@ -21,11 +21,12 @@ use place_cells::Cell;
 use rule::Rule;
 use side::Side;
 
-// Where a tree of a rule stands: on a side, behind so many trees of that side's rule; or the rule is the tree's.
+// Where a tree of a rule stands, unless the rule is the tree's: on a side, behind so many trees of that side's rule.
 #[derive(Clone, Copy)]
-enum Turn {
-    On { side: Side, to: u16, rest: u16 },
-    Tree,
+struct Turn {
+    side: Side,
+    to: u16,
+    rest: u16,
 }
 
 // One step to a side on top of k cells, from a rule to a rule: the run on top grows, or one begins.
@@ -40,11 +41,11 @@ fn step_cell(cursor: &mut [u8], k: usize, side: Side, from: u16, to: u16) -> usi
         top.grown(to).write(cursor, k);
         return k;
     }
-    place_cells::push(cursor, k, Cell::run(side, from, to))
+    place_cells::push(cursor, k, Some(Cell::run(side, from, to)))
 }
 
 // Where the tree behind i trees of a rule stands.
-fn turn_at(rows: &[u8], at: u16, i: u16) -> Turn
+fn turn_at(rows: &[u8], at: u16, i: u16) -> Option<Turn>
     requires { CountedRows rows.now × In rows.now at × (i < most_place) }
     ensures { Turns rows.now at i result }
 {
@@ -53,20 +54,20 @@ fn turn_at(rows: &[u8], at: u16, i: u16) -> Turn
             let tops = tops_rows::tops_at(rows, first);
             if i < tops {
                 let to = facts::representative_at(rows, first);
-                return Turn::On {
+                return Some(Turn {
                     side: Side::Left,
                     to,
                     rest: i,
-                };
+                });
             }
             let to = facts::representative_at(rows, second);
-            Turn::On {
+            Some(Turn {
                 side: Side::Right,
                 to,
                 rest: i - tops,
-            }
+            })
         }
-        _ => Turn::Tree,
+        _ => None,
     }
 }
 
@@ -81,16 +82,12 @@ fn seek(rows: &[u8], cursor: &mut [u8], k: usize, a: u16, i: u16) -> Standing
     let mut used = k;
     let mut at = a;
     let mut before = i;
-    loop {
-        match turn_at(rows, at, before) {
-            Turn::On { side, to, rest } => {
-                used = step_cell(cursor, used, side, at, to);
-                at = to;
-                before = rest;
-            }
-            Turn::Tree => return letter_arrival::put_tree(rows, cursor, used, at),
-        }
+    while let Some(Turn { side, to, rest }) = turn_at(rows, at, before) {
+        used = step_cell(cursor, used, side, at, to);
+        at = to;
+        before = rest;
     }
+    letter_arrival::put_tree(rows, cursor, used, at)
 }
 
 // The root of the tree behind i trees of a rule, whose row is opened with a number on k cells.
@@ -109,7 +106,7 @@ pub fn reach_row(
         ((start : ℕ) (x : Spot) → RowAt t cursor k number rule i start x → Reached t cursor cursor' start x result) }
 {
     let over = facts::representative_at(rows, rule);
-    let used = place_cells::push(cursor, k, Cell::row(number, over));
+    let used = place_cells::push(cursor, k, Some(Cell::row(number, over)));
     seek(rows, cursor, used, over, i)
 }
 

@@ -2,7 +2,8 @@
 -- `through` passes them. Assumes nothing.
 use Prim.Native.Nat.{ℕ}
 use mathlib.Core.Path.{◌≡◌, refl, ap, ◌∙◌}
-use mathlib.Core.Option.{Option, some, none-ne-some, some-injective}
+use Rattle.std.specs.Prelude.{Option, Some}
+use Rattle.std.proofs.lemmas.Option.{none-some, same_Some}
 use Rattle.forest.specs.Expression.{Expression, rule_number}
 use Rattle.forest.specs.Place.{Side}
 use Rattle.forest.specs.Sides.{pick}
@@ -31,7 +32,7 @@ module _ {F : Facts} where
   tree-spot (Fit.fill {r} {b} {c} t gb gc) z = spine-spot gb (Position.fill_spine r b c z)
 
 -- a node of w, as positions and as cells have it
-found_at : {w : Expression} {x : Located} {n : Node} {q : Spot} → Agree w (some x) (some n) → spot x.1 ≡ q → NodeAt w q n
+found_at : {w : Expression} {x : Located} {n : Node} {q : Spot} → Agree w (Some x) (Some n) → spot x.1 ≡ q → NodeAt w q n
 found_at (Agree.found {e} {z} h) s = record { expression = e; position = z; here = h; node_is = refl; spot_is = s }
 
 module _ (F : Facts) {w : Expression} (g : Fit F Sort.row w) where
@@ -44,7 +45,7 @@ module _ (F : Facts) {w : Expression} (g : Fit F Sort.row w) where
   -- what stands in the hole of the part at p, z being p without some of its joins
   record Inner (p z : Position) (q : Spot) : Type 0 where
     located : Located
-    found : inward p z ≡ some located
+    found : inward p z ≡ Some located
     spot_is : spot located.1 ≡ q
 
   inner : {e : Expression} (p : Position) {z : Position} (q : Spot) → At w Where.spine e z → opening p (spot p) ≡ q → through e (spot z) ≡ q → Inner p z q
@@ -71,19 +72,19 @@ module _ (F : Facts) {w : Expression} (g : Fit F Sort.row w) where
   part-spine (At.part h) = h
 
   -- the root of the tree in the hole of a part, on cells
-  hole-found : {x : Option Located} {y : Option Node} {l : Located} {q : Spot} → Agree w x y → x ≡ some l → spot l.1 ≡ q
-      → (n : Node) × ((y ≡ some n) × NodeAt w q n)
-  hole-found Agree.nowhere e s = absurd (none-ne-some _ e)
+  hole-found : {x : Option Located} {y : Option Node} {l : Located} {q : Spot} → Agree w x y → x ≡ Some l → spot l.1 ≡ q
+      → (n : Node) × ((y ≡ Some n) × NodeAt w q n)
+  hole-found Agree.nowhere e s = absurd (none-some _ e)
   hole-found (Agree.found {e} {z} h) q s = (
     (rule_number e, cells z),
     (
       refl,
-      record { expression = e; position = z; here = h; node_is = refl; spot_is = ap (λ (l : Located). spot l.1) (some-injective _ _ q) ∙ s },
+      record { expression = e; position = z; here = h; node_is = refl; spot_is = ap (λ (l : Located). spot l.1) (same_Some _ _ q) ∙ s },
     ),
   )
 
   pub hole-node : {r a : ℕ} {b c : Expression} {z : Position} → At w Where.here (Expression.part r a b c) z
-      → (n : Node) × ((M.inward F (cells z) ≡ some n) × NodeAt w (tops b, path_to (spot z)) n)
+      → (n : Node) × ((M.inward F (cells z) ≡ Some n) × NodeAt w (tops b, path_to (spot z)) n)
   unfolding through
   hole-node {r} {a} {b} {c} {z} h =
       let k = inner z (tops b, path_to (spot z)) (part-spine h) (opening-part (part-spine h) (spot z)) refl in

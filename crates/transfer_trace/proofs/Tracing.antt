@@ -1,10 +1,11 @@
 -- What is climbed is the path of the node that the place stands at: its cells tell it (`place-path`), and its numbers are from 1, since 0 names
 -- nothing. The rows are those of the plan's rules, with what is known of each and their trees. Assumes nothing.
+use Rattle.std.specs.Prelude.{Result, Ok, Err, Option}
 use Prim.Native.Nat.{ℕ, zero, suc, ◌*◌, ◌<◌}
 use native.Mathlib.Omega.{arith}
 use mathlib.Core.Path.{◌≡◌, refl, sym, ap, ◌∙◌}
 use mathlib.Core.List.{List, [], ◌∷◌}
-use mathlib.Core.Option.{none-ne-some}
+use Rattle.std.proofs.lemmas.Option.{none-some}
 use lib.ListN.{length, take}
 use lib.Seq.{length-take-le}
 use Rattle.refusal.specs.declared.Refusal.{Refusal}
@@ -37,9 +38,7 @@ use Rattle.transfer_path.specs.CellSpot.{path_in}
 use Rattle.transfer_path.proofs.CellSpots.{place-path}
 use Rattle.tops_rows.specs.Tops.{at_tops, Topped, TopsKept}
 use Rattle.tops_rows.proofs.Kept.{tops-kept, topped-rules}
-use Rattle.transfer_climb.specs.declared.Traced.{Traced}
 use Rattle.transfer_climb.specs.Climb.{meaning, Traces}
-use Rattle.transfer_trace.specs.declared.Origin.{Origin}
 use Rattle.transfer_trace.specs.Trace.{Counting, Climbable, Traceable, Origins}
 use Rattle.transfer_trace.proofs.KeptFacts.{kept-filled, field-first}
 
@@ -47,7 +46,7 @@ use Rattle.transfer_trace.proofs.KeptFacts.{kept-filled, field-first}
 pub named-counting : {A : Type 0} (g : Forest A) (p : Path) → Named g p → Counting p
 unfolding Counting label_at
 named-counting g [] n = tt
-named-counting g (zero ∷ p) (Named.node e) = absurd (none-ne-some _ e)
+named-counting g (zero ∷ p) (Named.node e) = absurd (none-some _ e)
 named-counting g (suc i ∷ p) (Named.node e) = (omega arith, named-counting g p (parent-named (suc i) p e))
 
 -- the path that is climbed is the place's
@@ -63,8 +62,8 @@ module _ {t : List ℕ} {n start : ℕ} {s : List ℕ} {r : ℕ} {h : Standing} 
       place-path (facts_in t) (expression (rules_kept t)) (fit rows.sound rows.closed (facts_in t) agrees)
       (expression-known rows.sound r rows.closed.below) (good rows.sound rows.closed (facts_in t) agrees) o.stood.named o.stood.same
 
-  pub path-from : {path path' : List ℕ} {y : Traced} → Traces path path' (path_in (facts_in t) (meaning t) (cells_in s h.used)) y
-      → Origins (place_judged (rules_kept t) n start s) path path' (Origin.From y)
+  pub path-from : {path path' : List ℕ} {y : Option ℕ} → Traces path path' (path_in (facts_in t) (meaning t) (cells_in s h.used)) y
+      → Origins (place_judged (rules_kept t) n start s) path path' (Ok y)
   path-from {path} {path'} {y} k =
       let k' : Traces path path' o.path y = rw climbed-path at k in
       record {
@@ -83,7 +82,7 @@ module _ {t : List ℕ} {n start : ℕ} {s : List ℕ} {r : ℕ} {h : Standing} 
         refused = λ w e. absurd (let z : ◌≡◌ {A = ℕ} 0 1 = cc in let n : ⊥ = omega arith in n);
       }
 
-pub none_from : {b : Begun} (path : List ℕ) {why : Refusal} → b ≡ Begun.refused why → Origins b path path (Origin.Refused why)
+pub none_from : {b : Begun} (path : List ℕ) {why : Refusal} → b ≡ Begun.refused why → Origins b path path (Err why)
 none_from path {why} q =
     record {
       same_length = refl;
@@ -150,7 +149,7 @@ module _ {plan : List ℕ} {n start : ℕ} {work cursor path : List ℕ} (L : Tr
             room = L.room;
           }
 
-      pub origins-on : {path' : List ℕ} {x : Origin} → Origins (place_judged (rules_kept rows_of) n start cursor) path path' x
+      pub origins-on : {path' : List ℕ} {x : Result (Option ℕ) Refusal} → Origins (place_judged (rules_kept rows_of) n start cursor) path path' x
           → Origins (place_judged (rules_of plan) n start cursor) path path' x
       origins-on o = rw filled.rules at o
 

@@ -8,28 +8,24 @@ ghost use Rattle.work_rows.specs.Rows.{work_length, Within};
 ghost use Rattle.letter_moves.specs.Standing.{rules_kept};
 ghost use Rattle.transfer_trace.specs.Trace.{Climbable, Traceable, Origins};
 
-use place_open::Opened;
+use plan::Checked;
 use refusal::Refusal;
-use transfer_climb::Traced;
 use work_rows::Row;
 
-// Where a place is taken over from: the path of its node, or why the place is turned down.
-#[derive(Clone, Copy)]
-pub enum Origin {
-    From(Traced),
-    Refused(Refusal),
-}
-
-// The path of the stored place, on the rows of the plan's rules: a place that is none is turned down.
-fn trace_rows(rows: &[u8], cursor: &[u8], path: &mut [u8], n: u16, start: u16) -> Origin
+// The path of the stored place, on the rows of the plan's rules, unless its node is too far: a place that is none is turned down.
+fn trace_rows(
+    rows: &[u8],
+    cursor: &[u8],
+    path: &mut [u8],
+    n: u16,
+    start: u16,
+) -> Result<Option<usize>, Refusal>
     requires { Climbable start n rows.now cursor.now path.old }
     ensures { let t = rows.now in
         Origins (place_judged (rules_kept t) n start cursor.now) path.old path.new result }
 {
-    match place_open::open(rows, cursor, n, start) {
-        Opened::At { at, .. } => Origin::From(transfer_climb::climb(rows, path, cursor, at.used)),
-        Opened::Refused(refusal) => Origin::Refused(refusal),
-    }
+    let opened = place_open::open(rows, cursor, Checked { n, start })?;
+    Ok(transfer_climb::climb(rows, path, cursor, opened.at.used))
 }
 
 // The path of the stored place of an accepted plan, past 8: the rows are filled with the plan's rules, what is known of each, and their trees.
@@ -40,7 +36,7 @@ pub fn trace(
     path: &mut [u8],
     n: u16,
     start: u16,
-) -> Origin
+) -> Result<Option<usize>, Refusal>
     requires { Traceable plan.now n start work.old cursor.now path.old }
     ensures { let work' = work.exit.now in
         let work = work.entry.now in

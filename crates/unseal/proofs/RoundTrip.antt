@@ -1,5 +1,7 @@
 -- Sealing and unsealing undo each other, whichever the mark. A record that was read writes its own bytes, so a sealed plan is the rule words
 -- with a trailer after them, and check reads from that trailer what seal wrote. All over the format. Assumes nothing.
+use Rattle.std.specs.Prelude.{Result, Ok}
+use Rattle.refusal.specs.declared.Refusal.{Refusal}
 use Prim.Native.Nat.{ℕ, ◌+◌, ◌-◌, ◌*◌, ◌%◌, ◌^◌, ◌≤◌, ◌<◌}
 use mathlib.Core.Bool.{true, and-eq-true_iff}
 use mathlib.Core.List.{List, ◌++◌}
@@ -11,15 +13,12 @@ use lib.Seq.{take-append_seam, length-take-le, take_at, take_all}
 use borrow.Author.Tests.{le-leb, eq-eqb, leb-true}
 use Rattle.words.specs.Number.{number, bytes, base, word_count}
 use Rattle.record.specs.declared.Format.{Format}
-use Rattle.plan.specs.declared.Checked.{Checked}
-use Rattle.plan.specs.declared.Written.{Written}
 use Rattle.record.specs.Format.{word_length, length_of_record, record_words}
 use Rattle.record.specs.Records.{records_from, records_bytes}
 use Rattle.plan.specs.Check.{trailer_length, at_start, at_distance, at_mark, magic, trailer_bytes, most_rules, trailer_at, count_of, start_of, distance_of, marked_as, format_of, first_at, records_of, accepted, in_limits, checked_up_to, checked, plan_bytes}
 use Rattle.seal.specs.Seal.{format_for, is_length, given_count, given, roomed, sealed_up_to, sealed, output_as, sealed_output}
 use Rattle.words.specs.Front.{in_front}
 use Rattle.plan.specs.Written.{output_after}
-use Rattle.unseal.specs.declared.Unsealed.{Unsealed}
 use Rattle.unseal.specs.Unseal.{words_roomed, unsealed, words_after, unsealed_output}
 use Rattle.plan.proofs.Sound.{Plan, checked-plan}
 use Rattle.plan.proofs.Checking.{marked-format}
@@ -56,7 +55,7 @@ module _ (f : Format) where
 
   module _ (most : ℕ) (words : List ℕ) (start : ℕ) (out : List ℕ) (m : ℕ) (bs : Bytes words) (q : Sealed f most words start out m) where
     -- it is the rule words and a trailer
-    plan-is : take m (output_as (Written.Length m) f words start out) ≡ front words ++ trailer_bytes f (given_count f words) start
+    plan-is : take m (output_as (Ok m) f words start out) ≡ front words ++ trailer_bytes f (given_count f words) start
     unfolding output_as output_after in_front
     plan-is =
         let t = trailer_bytes f (given_count f words) start in
@@ -69,15 +68,15 @@ module _ (f : Format) where
         let n = given_count f words in
         omega (arith, leb-true n most ((and-eq-true_iff (leb 1 n) (leb n most)).0 q.limits).1)
 
-    plan-format : format_of (take m (output_as (Written.Length m) f words start out)) ≡ f
+    plan-format : format_of (take m (output_as (Ok m) f words start out)) ≡ f
     plan-format = rw plan-is (written-format f (front words) (given_count f words) start)
 
-    plan-records : most < base ^ 2 → records_of (take m (output_as (Written.Length m) f words start out)) ≡ given f words
+    plan-records : most < base ^ 2 → records_of (take m (output_as (Ok m) f words start out)) ≡ given f words
     plan-records few =
         rw plan-is (written-records f (front words) (given_count f words) start (length_front words) (given-small few) ∙ given-records words)
 
     plan-checked : most < base ^ 2 → start < base ^ 2
-        → checked_up_to most (take m (output_as (Written.Length m) f words start out)) ≡ Checked.Accepted (given_count f words) start
+        → checked_up_to most (take m (output_as (Ok m) f words start out)) ≡ Ok (record { n = (given_count f words); start = start })
     unfolding accepted
     plan-checked few below =
         let e = written-checked f (front words) (given_count f words) start (length_front words) (given-small few) most below q.limits in
@@ -127,7 +126,7 @@ module _ (most : ℕ) (s : List ℕ) (n start : ℕ) (bs : Bytes s) (q : Plan mo
     alone-given =
         ap₂ (λ (x : List ℕ) (k : ℕ). records_from f x 0 k) same-words alone-count ∙ records-take f s (length_of_record f * n) 0 n (omega arith) ∙ sym alone-records
 
-    alone-sealed : (other : List ℕ) → length s ≤ length other → sealed_up_to most f words start other ≡ Written.Length (length s)
+    alone-sealed : (other : List ℕ) → length s ≤ length other → sealed_up_to most f words start other ≡ Ok (length s)
     unfolding seal_answer in_limits roomed
     alone-sealed other room =
         let z : eqb (word_count words % record_words f) 0 ≡ true = eq-eqb _ 0 (words-whole f n (length words) alone-length).1 in
@@ -138,7 +137,7 @@ module _ (most : ℕ) (s : List ℕ) (n start : ℕ) (bs : Bytes s) (q : Plan mo
     alone-bytes = rw (alone-given, alone-words, q.records, ← alone-trailer) (take-append-drop (length_of_record f * n) s)
 
 -- ---- sealing words with a record length l, and unsealing the plan
-module _ (words : List ℕ) (l start : ℕ) (out : List ℕ) (m : ℕ) (bs : Bytes words) (below : start < base ^ 2) (h : sealed words l start out ≡ Written.Length m) where
+module _ (words : List ℕ) (l start : ℕ) (out : List ℕ) (m : ℕ) (bs : Bytes words) (below : start < base ^ 2) (h : sealed words l start out ≡ Ok m) where
   abbrev format : Format
   format = format_for l
 
@@ -152,12 +151,12 @@ module _ (words : List ℕ) (l start : ℕ) (out : List ℕ) (m : ℕ) (bs : Byt
   sealed-plan : Sealed format most_rules words start out m
   sealed-plan = sealed-facts format most_rules words start out m (sealed-passed words l start out m h).1
 
-  output-is : sealed_output words l start out ≡ output_as (Written.Length m) format words start out
+  output-is : sealed_output words l start out ≡ output_as (Ok m) format words start out
   unfolding sealed_output
-  output-is = ap (λ (r : Written). output_as r format words start out) h
+  output-is = ap (λ (r : Result ℕ Refusal). output_as r format words start out) h
 
   -- check accepts what seal wrote, with the same number of rules and the same start
-  pub seal-then-check : checked (take m (sealed_output words l start out)) ≡ Checked.Accepted count start
+  pub seal-then-check : checked (take m (sealed_output words l start out)) ≡ Ok (record { n = count; start = start })
   unfolding checked
   seal-then-check = rw output-is (plan-checked format most_rules words start out m bs sealed-plan (omega arith) below)
 
@@ -174,10 +173,10 @@ module _ (words : List ℕ) (l start : ℕ) (out : List ℕ) (m : ℕ) (bs : Byt
 
   -- unseal gives the same record length too
   module _ (other : List ℕ) (room : record_words format * count ≤ word_count other) where
-    pub seal-then-unseal-answer : unsealed (take m (sealed_output words l start out)) other ≡ Unsealed.Words l count start
+    pub seal-then-unseal-answer : unsealed (take m (sealed_output words l start out)) other ≡ Ok (record { length = l; n = count; start = start })
     unfolding unsealed words_roomed
     seal-then-unseal-answer =
-        rw (seal-then-check, sealed-format, le-leb _ _ room) (ap (λ (k : ℕ). Unsealed.Words k count start) seal-length)
+        rw (seal-then-check, sealed-format, le-leb _ _ room) (ap (λ (k : ℕ). Ok (record { length = k; n = count; start = start })) seal-length)
 
     -- and writes the words that were sealed, and leaves later ones
     pub seal-then-unseal : unsealed_output (take m (sealed_output words l start out)) other ≡ in_front (take (l * count) words) other
@@ -199,7 +198,7 @@ module _ (words : List ℕ) (l start : ℕ) (out : List ℕ) (m : ℕ) (bs : Byt
         seal-then-unseal ∙ ap (λ (ws : List ℕ). in_front ws other) all
 
 -- ---- unsealing an accepted plan with no prefix, and sealing the words with the record length that unseal gave, gives back the plan's bytes
-module _ (s out : List ℕ) (l n start : ℕ) (bs : Bytes s) (h : unsealed s out ≡ Unsealed.Words l n start) (alone : length s ≡ l * n + trailer_length) where
+module _ (s out : List ℕ) (l n start : ℕ) (bs : Bytes s) (h : unsealed s out ≡ Ok (record { length = l; n = n; start = start })) (alone : length s ≡ l * n + trailer_length) where
   accepts : Plan most_rules s n start
   accepts = checked-plan s n start (unsealed-facts s out l n start h).accepts
 
@@ -222,7 +221,7 @@ module _ (s out : List ℕ) (l n start : ℕ) (bs : Bytes s) (h : unsealed s out
   rules-are = unsealed-words ∙ ap (λ (k : ℕ). take (k * n) s) length-is
 
   module _ (other : List ℕ) (fits : length s ≤ length other) where
-    pub unseal-then-seal-answer : sealed (take (l * n) (unsealed_output s out)) l start other ≡ Written.Length (length s)
+    pub unseal-then-seal-answer : sealed (take (l * n) (unsealed_output s out)) l start other ≡ Ok (length s)
     unseal-then-seal-answer =
         sym (sealed-length (take (l * n) (unsealed_output s out)) l start other (format_of s) format-is.1 format-is.0)
         ∙ alone-sealed most_rules s n start bs accepts alone-so _ rules-are other fits

@@ -10,35 +10,32 @@ use plan::{Checked, Trailer, check};
 use record::{Format, copy_records};
 use refusal::Refusal;
 
-// What unseal answers: the record length that seal is told, document 01's n and start, or the refusal.
+// What unseal answers of an accepted plan: the record length that seal is told, and document 01's n and start.
 #[derive(Clone, Copy)]
-pub enum Unsealed {
-    Words { length: u16, n: u16, start: u16 },
-    Refused(Refusal),
+pub struct Unsealed {
+    pub length: u16,
+    pub n: u16,
+    pub start: u16,
 }
 
 // Unseal: the rule words of a plan. Refused, nothing is written.
-pub fn unseal(plan: &[u8], out: &mut [u8]) -> Unsealed
+pub fn unseal(plan: &[u8], out: &mut [u8]) -> Result<Unsealed, Refusal>
     ensures { (result ≡ unsealed plan.now out.old)
         × (out.new ≡ unsealed_output plan.now out.old) }
 {
-    match check(plan) {
-        Checked::Refused(why) => Unsealed::Refused(why),
-        Checked::Accepted { n, start } => {
-            let format = Trailer::format(plan);
-            if !roomed(out, format, n) {
-                return Unsealed::Refused(Refusal::Room);
-            }
-            let length = format.length();
-            let first = plan.len() - Trailer::LENGTH - length * (n as usize);
-            copy_records(plan, format, first, n as usize, out);
-            Unsealed::Words {
-                length: length as u16,
-                n,
-                start,
-            }
-        }
+    let Checked { n, start } = check(plan)?;
+    let format = Trailer::format(plan);
+    if !roomed(out, format, n) {
+        return Err(Refusal::Room);
     }
+    let length = format.length();
+    let first = plan.len() - Trailer::LENGTH - length * (n as usize);
+    copy_records(plan, format, first, n as usize, out);
+    Ok(Unsealed {
+        length: length as u16,
+        n,
+        start,
+    })
 }
 
 // Has the output the words of n rules?

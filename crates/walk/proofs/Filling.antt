@@ -1,4 +1,6 @@
 -- The table that walk stands on is that of the plan's rules. Assumes nothing.
+use Rattle.std.specs.Prelude.{Result}
+use Rattle.refusal.specs.declared.Refusal.{Refusal}
 use Prim.Native.Nat.{ℕ, ◌*◌}
 use native.Mathlib.Omega.{arith}
 use mathlib.Core.Path.{◌≡◌}
@@ -8,7 +10,6 @@ use lib.Seq.{length-take-le}
 use Rattle.plan.specs.Check.{rules_of, most_rules}
 use Rattle.plan.proofs.Sound.{Plan, checked-plan}
 use Rattle.forest.specs.Walk.{place_judged}
-use Rattle.forest.specs.declared.Walked.{Walked}
 use Rattle.work_rows.specs.Rows.{work_length, row_length, Within}
 use Rattle.work_load.specs.Prepared.{Arrangeable}
 use Rattle.letter_moves.specs.Standing.{rules_kept}
@@ -43,6 +44,6 @@ module _ {s : List ℕ} {n start : ℕ} {work cursor letters given : List ℕ} (
           answerable = L.answerable;
         }
 
-    pub walks-on : {cursor' given' : List ℕ} {x : Walked} → Walks (rules_kept t) (place_judged (rules_kept t) n start cursor) letters cursor cursor' given given' x
+    pub walks-on : {cursor' given' : List ℕ} {x : Result Unit Refusal} → Walks (rules_kept t) (place_judged (rules_kept t) n start cursor) letters cursor cursor' given given' x
         → Walks (rules_of s) (place_judged (rules_of s) n start cursor) letters cursor cursor' given given' x
     walks-on w = rw f.rules at w

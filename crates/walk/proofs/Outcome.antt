@@ -1,6 +1,7 @@
 -- Walk's answer and what it leaves, by the ways through its code: turned down by check, for what is lent, or past 8, after which the
 -- work is cleared. Assumes nothing.
-use Prim.Native.Nat.{ℕ, ◌+◌, ◌-◌, ◌*◌, ◌/◌, ◌≤◌}
+use Rattle.std.specs.Prelude.{Result, Ok, Err}
+use Prim.Native.Nat.{ℕ, ◌+◌, ◌*◌, ◌/◌, ◌≤◌}
 use native.Mathlib.Omega.{arith}
 use mathlib.Core.Path.{◌≡◌, sym, ap, ◌∙◌}
 use mathlib.Core.Bool.{true, false, and-eq-true_iff}
@@ -10,10 +11,8 @@ use lib.Dec.{leb}
 use borrow.Author.Tests.{leb-true}
 use Rattle.words.specs.Number.{word_count}
 use Rattle.refusal.specs.declared.Refusal.{Refusal}
-use Rattle.plan.specs.declared.Checked.{Checked}
 use Rattle.record.specs.Record.{word_length}
 use Rattle.plan.specs.Check.{checked, rules_of}
-use Rattle.forest.specs.declared.Walked.{Walked}
 use Rattle.forest.specs.Outcome.{work_words, enough_work, cleared, work_after}
 use Rattle.forest.specs.Walk.{answer_length, cursor_words, enough_lent, first_other, Begun, place_judged, letters_judged, begun_from, begun, walked, cursor_after, answers_after, walked_work}
 use Rattle.demand.specs.Calls.{walk_of, lends, leaves}
@@ -23,12 +22,12 @@ use Rattle.walk.specs.Calls.{Lendable}
 use Rattle.walk_place.specs.Travel.{Walks}
 
 module _ (s work cursor letters given : List ℕ) where
-  pub refused : (why : Refusal) → checked s ≡ Checked.Refused why → leaves (Walked.Refused why) work cursor given ≡ walk_of (lends s work cursor letters given)
+  pub refused : (why : Refusal) → checked s ≡ Err why → leaves (Err why) work cursor given ≡ walk_of (lends s work cursor letters given)
   unfolding walk_of begun begun_from walked cursor_after answers_after walked_work work_after
   refused why q = rw q
 
-  module _ (n start : ℕ) (q : checked s ≡ Checked.Accepted n start) where
-    pub lent : enough_lent work cursor letters given n ≡ false → leaves (Walked.Refused Refusal.Lent) work cursor given ≡ walk_of (lends s work cursor letters given)
+  module _ (n start : ℕ) (q : checked s ≡ Ok (record { n = n; start = start })) where
+    pub lent : enough_lent work cursor letters given n ≡ false → leaves (Err Refusal.Lent) work cursor given ≡ walk_of (lends s work cursor letters given)
     unfolding walk_of begun begun_from walked cursor_after answers_after walked_work work_after
     lent e = rw (q, e)
 
@@ -52,7 +51,7 @@ module _ (s work cursor letters given : List ℕ) where
     left-work e {t} w = work-cleared (enough_lent work cursor letters given) (checked s) work n start q e t w
 
     -- past 8
-    pub finished : {x : Walked} {t u cursor' given' : List ℕ} → enough_lent work cursor letters given n ≡ true
+    pub finished : {x : Result Unit Refusal} {t u cursor' given' : List ℕ} → enough_lent work cursor letters given n ≡ true
         → Walks (rules_of s) (letters_judged (first_other letters 0) (place_judged (rules_of s) n start cursor)) letters cursor cursor' given given' x
         → Within 0 (work_length * n) work t → u ≡ cleared (word_length * work_words n) t
         → leaves x u cursor' given' ≡ walk_of (lends s work cursor letters given)

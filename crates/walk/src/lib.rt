@@ -10,10 +10,8 @@ ghost use Rattle.work_rows.specs.Rows.{work_length, Within};
 ghost use Rattle.walk.specs.Calls.{Lendable};
 ghost use Rattle.walk_place.specs.Travel.{Walks};
 
-use forest::Walked;
 use plan::Checked;
 use refusal::Refusal;
-use walk_lent::Found;
 use work_rows::Row;
 
 // Letters on an accepted plan, past 8 and 9.
@@ -23,10 +21,9 @@ fn walk_letters(
     cursor: &mut [u8],
     letters: &[u8],
     answers: &mut [u8],
-    n: u16,
-    start: u16,
-) -> Walked
-    requires { Lendable plan.now n start work.old cursor.old letters.now answers.old }
+    accepted: Checked,
+) -> Result<(), Refusal>
+    requires { Lendable plan.now accepted.n accepted.start work.old cursor.old letters.now answers.old }
     ensures { let cursor' = cursor.exit.now in
         let answers' = answers.exit.now in
         let work' = work.exit.now in
@@ -35,12 +32,12 @@ fn walk_letters(
         let letters = letters.entry.now in
         let answers = answers.entry.now in
         let work = work.entry.now in
-        Walks (rules_of plan) (place_judged (rules_of plan) n start cursor) letters cursor cursor' answers answers' result
-        × Within 0 (work_length * n) work work' }
+        Walks (rules_of plan) (place_judged (rules_of plan) accepted.n accepted.start cursor) letters cursor cursor' answers answers' result
+        × Within 0 (work_length * accepted.n) work work' }
 {
-    facts_load::load(plan, work, n);
-    let rows = &work[..Row::LENGTH * (n as usize)];
-    walk_place::travel(rows, cursor, letters, answers, n, start)
+    facts_load::load(plan, work, accepted.n);
+    let rows = &work[..Row::LENGTH * (accepted.n as usize)];
+    walk_place::travel(rows, cursor, letters, answers, accepted)
 }
 
 // Bytes on an accepted plan, past 8: the first that is no letter is turned down.
@@ -50,10 +47,9 @@ fn walk_bytes(
     cursor: &mut [u8],
     letters: &[u8],
     answers: &mut [u8],
-    n: u16,
-    start: u16,
-) -> Walked
-    requires { Lendable plan.now n start work.old cursor.old letters.now answers.old }
+    accepted: Checked,
+) -> Result<(), Refusal>
+    requires { Lendable plan.now accepted.n accepted.start work.old cursor.old letters.now answers.old }
     ensures { let cursor' = cursor.exit.now in
         let answers' = answers.exit.now in
         let work' = work.exit.now in
@@ -62,13 +58,13 @@ fn walk_bytes(
         let cursor = cursor.entry.now in
         let answers = answers.entry.now in
         let work = work.entry.now in
-        Walks (rules_of plan) (letters_judged (first_other letters 0) (place_judged (rules_of plan) n start cursor))
+        Walks (rules_of plan) (letters_judged (first_other letters 0) (place_judged (rules_of plan) accepted.n accepted.start cursor))
         letters cursor cursor' answers answers' result
-        × Within 0 (work_length * n) work work' }
+        × Within 0 (work_length * accepted.n) work work' }
 {
     match walk_lent::first_other(letters) {
-        Found::At(i) => Walked::Refused(Refusal::Letter(i)),
-        Found::Nothing => walk_letters(plan, work, cursor, letters, answers, n, start),
+        Some(i) => Err(Refusal::Letter(i)),
+        None => walk_letters(plan, work, cursor, letters, answers, accepted),
     }
 }
 
@@ -79,10 +75,9 @@ fn walk_rules(
     cursor: &mut [u8],
     letters: &[u8],
     answers: &mut [u8],
-    n: u16,
-    start: u16,
-) -> Walked
-    requires { checked plan.now ≡ Checked.Accepted n start }
+    accepted: Checked,
+) -> Result<(), Refusal>
+    requires { checked plan.now ≡ Ok accepted }
     ensures { let work' = work.exit.now in
         let cursor' = cursor.exit.now in
         let answers' = answers.exit.now in
@@ -93,11 +88,11 @@ fn walk_rules(
         let answers = answers.entry.now in
         leaves result work' cursor' answers' ≡ walk_of (lends plan work cursor letters answers) }
 {
-    if !walk_lent::enough_lent(work, cursor, letters, answers, n) {
-        return Walked::Refused(Refusal::Lent);
+    if !walk_lent::enough_lent(work, cursor, letters, answers, accepted.n) {
+        return Err(Refusal::Lent);
     }
-    let answer = walk_bytes(plan, work, cursor, letters, answers, n, start);
-    work_rows::clear_work(work, n);
+    let answer = walk_bytes(plan, work, cursor, letters, answers, accepted);
+    work_rows::clear_work(work, accepted.n);
     answer
 }
 
@@ -109,7 +104,7 @@ pub fn walk(
     cursor: &mut [u8],
     letters: &[u8],
     answers: &mut [u8],
-) -> Walked
+) -> Result<(), Refusal>
     ensures { let work' = work.exit.now in
         let cursor' = cursor.exit.now in
         let answers' = answers.exit.now in
@@ -120,10 +115,6 @@ pub fn walk(
         let answers = answers.entry.now in
         leaves result work' cursor' answers' ≡ walk_of (lends plan work cursor letters answers) }
 {
-    match plan::check(plan) {
-        Checked::Accepted { n, start } => {
-            walk_rules(plan, work, cursor, letters, answers, n, start)
-        }
-        Checked::Refused(refusal) => Walked::Refused(refusal),
-    }
+    let accepted = plan::check(plan)?;
+    walk_rules(plan, work, cursor, letters, answers, accepted)
 }

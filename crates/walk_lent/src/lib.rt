@@ -4,32 +4,19 @@
 ghost use Rattle.std.specs.Prelude.{◌≡◌};
 ghost use Rattle.plan.specs.Check.{checked};
 ghost use Rattle.forest.specs.Walk.{first_other, enough_cursor, enough_answers, enough_lent, lent_judged};
-ghost use Rattle.walk_lent.specs.Found.{found_at};
 
-use letter::{Letter, Read};
+use letter::Letter;
 use place_cells::Cell;
 use plan::Checked;
 use refusal::Refusal;
 
 // Where the first byte that is no letter stands, if there is one.
-#[derive(Clone, Copy)]
-pub enum Found {
-    At(usize),
-    Nothing,
-}
-
-// The first byte that is no letter.
-pub fn first_other(letters: &[u8]) -> Found
-    ensures { found_at result ≡ first_other letters.now 0 }
+pub fn first_other(letters: &[u8]) -> Option<usize>
+    ensures { result ≡ first_other letters.now 0 }
 {
-    let mut i = 0;
-    while i < letters.len() {
-        let Read::Move(_) = letter::letter_of(letters[i]) else {
-            return Found::At(i);
-        };
-        i += 1;
-    }
-    Found::Nothing
+    letters
+        .iter()
+        .position(|&byte| letter::letter_of(byte).is_none())
 }
 
 // Whether the cursor has the words that n rules need.
@@ -58,16 +45,12 @@ pub fn enough_lent(work: &[u8], cursor: &[u8], letters: &[u8], answers: &[u8], n
 }
 
 // A plan judged, and then the work and the cursor that are lent with it: n and start, or the refusal.
-pub fn judge(plan: &[u8], work: &[u8], cursor: &[u8]) -> Checked
+pub fn judge(plan: &[u8], work: &[u8], cursor: &[u8]) -> Result<Checked, Refusal>
     ensures { result ≡ lent_judged work.now cursor.now (checked plan.now) }
 {
-    match plan::check(plan) {
-        Checked::Accepted { n, start } => {
-            if work_rows::enough_work(work, n) & enough_cursor(cursor, n) {
-                return Checked::Accepted { n, start };
-            }
-            Checked::Refused(Refusal::Lent)
-        }
-        Checked::Refused(why) => Checked::Refused(why),
+    let checked = plan::check(plan)?;
+    if work_rows::enough_work(work, checked.n) & enough_cursor(cursor, checked.n) {
+        return Ok(checked);
     }
+    Err(Refusal::Lent)
 }

@@ -4,10 +4,9 @@ use Prim.Native.Nat.{ℕ}
 use mathlib.Core.Path.{◌≡◌, refl, sym, ap, subst, ◌∙◌}
 use mathlib.Core.Bool.{Bool, true, false, cond}
 use mathlib.Core.List.{List, [], ◌∷◌, ◌++◌, map, map-append, append_assoc, append-nil}
-use mathlib.Core.Option.{Option}
+use Rattle.std.specs.Prelude.{Option, Ok}
 use lib.ListN.{length, drop}
 use lib.Seq.{drop-append_seam}
-use Rattle.plan.specs.declared.Checked.{Checked}
 use Rattle.plan.specs.Check.{checked, rules_of}
 use Rattle.forest.specs.Forest.{Forest, forest}
 use Rattle.forest.specs.Place.{placed_forest}
@@ -19,7 +18,7 @@ use Rattle.demand.proofs.Demand3.{demand3, path-end}
 
 -- demand 3, of the rule that the first cursor names
 pub demands : (plan : List ℕ) (n start : ℕ) (cursor : List ℕ) (r : ℕ) → walked_rule start cursor ≡ r → (calls : List Call)
-    → checked plan ≡ Checked.Accepted n start → Above (rules_of plan) start cursor
+    → checked plan ≡ Ok (record { n = n; start = start }) → Above (rules_of plan) start cursor
     → Meets n (forest (rules_of plan) r) (placed_forest (rules_of plan) r) (turned_down n cursor) calls (lefts walk_of plan cursor calls) cursor
     (cursor_after_calls walk_of plan cursor calls) (finger_path (forest (rules_of plan) r) (turned_down n cursor) calls [])
 unfolding Demand3
@@ -91,7 +90,7 @@ module _ (g : Forest ℕ) (down : Call → Bool) (c : Call) where
 
 -- a call on the cursor that a list of calls left, and not turned down by 8 or 9
 module _ (plan : List ℕ) (n start : ℕ) (first : List ℕ) (r : ℕ) (names : walked_rule start first ≡ r) (calls : List Call) (c : Call)
-    (e : checked plan ≡ Checked.Accepted n start) (a : Above (rules_of plan) start first) (d : turned_down n first c ≡ false) where
+    (e : checked plan ≡ Ok (record { n = n; start = start })) (a : Above (rules_of plan) start first) (d : turned_down n first c ≡ false) where
   abbrev g : Forest ℕ
   g = forest (rules_of plan) r
 

@@ -4,7 +4,7 @@ use Prim.Native.Nat.{ℕ, suc}
 use mathlib.Core.Path.{◌≡◌, refl, sym, ap, ◌∙◌}
 use mathlib.Core.Bool.{Bool, true, false, and-eq-true_iff, false≢true}
 use mathlib.Core.List.{List, [], ◌∷◌, ◌++◌, map, append-nil}
-use mathlib.Core.Option.{Option, none, some}
+use Rattle.std.specs.Prelude.{Option, None, Some}
 use lib.ListN.{length}
 use borrow.Author.Tests.{not-false}
 use Rattle.plan.specs.Check.{rules_of}
@@ -21,29 +21,29 @@ use Rattle.walk_parts.specs.Parted.{all_letters, NoneDown, Parted}
 
 -- ---- letters
 -- letters before others
-pub letters-more : (x : Option Letter) (i : ℕ) {later : Option ℕ} → other_at x i later ≡ none → later ≡ none
+pub letters-more : (x : Option Letter) (i : ℕ) {later : Option ℕ} → other_at x i later ≡ None → later ≡ None
 unfolding other_at
-letters-more none i e = let z : ◌≡◌ {A = Bool} true false = cc in absurd (false≢true (sym z))
-letters-more (some c) i e = e
+letters-more None i e = let z : ◌≡◌ {A = Bool} true false = cc in absurd (false≢true (sym z))
+letters-more (Some c) i e = e
 
-and-append : (x : Option Letter) (i : ℕ) (later : Option ℕ) (xs ys : List Letter) → other_at x i later ≡ none → and_letters x (xs ++ ys) ≡ and_letters x xs ++ ys
+and-append : (x : Option Letter) (i : ℕ) (later : Option ℕ) (xs ys : List Letter) → other_at x i later ≡ None → and_letters x (xs ++ ys) ≡ and_letters x xs ++ ys
 unfolding other_at and_letters
-and-append none i later xs ys e = let z : ◌≡◌ {A = Bool} true false = cc in absurd (false≢true (sym z))
-and-append (some c) i later xs ys e = refl
+and-append None i later xs ys e = let z : ◌≡◌ {A = Bool} true false = cc in absurd (false≢true (sym z))
+and-append (Some c) i later xs ys e = refl
 
-pub letters-append : (a b : List ℕ) (i : ℕ) → first_other a i ≡ none → letters_of (a ++ b) ≡ letters_of a ++ letters_of b
+pub letters-append : (a b : List ℕ) (i : ℕ) → first_other a i ≡ None → letters_of (a ++ b) ≡ letters_of a ++ letters_of b
 unfolding letters_of first_other
 letters-append [] b i e = refl
 letters-append (x ∷ a) b i e =
     ap (and_letters (letter_of x)) (letters-append a b (suc i) (letters-more (letter_of x) i e)) ∙ and-append (letter_of x) i _ (letters_of a) (letters_of b) e
 
 -- a call that isn't turned down has letters alone
-is-none : (x : Option ℕ) → is_none x ≡ true → x ≡ none
+is-none : (x : Option ℕ) → is_none x ≡ true → x ≡ None
 unfolding is_none
-is-none none e = refl
-is-none (some i) e = absurd (false≢true e)
+is-none None e = refl
+is-none (Some i) e = absurd (false≢true e)
 
-every_letter : (n : ℕ) (cursor : List ℕ) (c : Call) → turned_down n cursor c ≡ false → first_other c.letters 0 ≡ none
+every_letter : (n : ℕ) (cursor : List ℕ) (c : Call) → turned_down n cursor c ≡ false → first_other c.letters 0 ≡ None
 unfolding turned_down
 every_letter n cursor c d =
     is-none (first_other c.letters 0)

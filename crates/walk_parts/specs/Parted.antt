@@ -1,7 +1,6 @@
 -- A log walked in parts (document 02, Note 13): "A log that isn't refused, replayed in order in parts, each from the cursor that the one before
 -- left, gives the same answers as whole."
-use Rattle.std.specs.Prelude.{ℕ, ◌≡◌, Bool, false, List, [], ◌∷◌, ◌++◌, length}
-use Rattle.plan.specs.declared.Checked.{Checked}
+use Rattle.std.specs.Prelude.{ℕ, ◌≡◌, Bool, false, List, [], ◌∷◌, ◌++◌, length, Ok}
 use Rattle.plan.specs.Check.{checked, rules_of}
 use Rattle.forest.specs.Walk.{cells_in, used_cells}
 use Rattle.demand.specs.Calls.{Walk, Call, Left, lent, lefts, cursor_after_calls}
@@ -29,7 +28,7 @@ pub record Alike (parts : List Call) (ls : List Left) (end : List ℕ) (whole : 
 unfoldable pub Parted : Walk → Type 0
 Parted w =
     (plan : List ℕ) (n start : ℕ) (cursor : List ℕ) (parts : List Call) (whole : Call)
-    → checked plan ≡ Checked.Accepted n start
+    → checked plan ≡ Ok (record { n = n; start = start })
     → Above (rules_of plan) start cursor
     → whole.letters ≡ all_letters parts
     → NoneDown (turned_down n cursor) parts

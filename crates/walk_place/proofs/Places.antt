@@ -1,5 +1,6 @@
 -- A call on the rows of a plan's rules: the stored place is turned down, or the letters are taken from it and the place that they
 -- lead to is stored, with the word that names the walked rule. Assumes nothing.
+use Rattle.std.specs.Prelude.{Ok, Err}
 use Prim.Native.Nat.{ℕ, ◌+◌, ◌*◌, ◌≤◌}
 use native.Mathlib.Omega.{arith}
 use mathlib.Core.Path.{◌≡◌, sym, ap, ap₂, subst, ◌∙◌}
@@ -8,7 +9,6 @@ use lib.ListN.{length}
 use Rattle.rule.specs.declared.Rule.{Rule}
 use Rattle.refusal.specs.declared.Refusal.{Refusal}
 use Rattle.words.specs.Front.{in_front}
-use Rattle.forest.specs.declared.Walked.{Walked}
 use Rattle.forest.specs.Place.{Cells}
 use Rattle.forest.specs.Walk.{cell_length, cursor_words, cell_at, cells_in, rule_word, Begun, place_judged, walked, stored_cursor, cursor_after, answers_after, letters_of, answer_word, answers_bytes}
 use Rattle.model.specs.Facts.{Facts, facts_of}
@@ -31,7 +31,7 @@ use Rattle.place_open.proofs.Begin.{answers_left, cursor_left}
 use Rattle.walk_place.specs.Travel.{Travels, Walks}
 
 -- a call that is turned down leaves all as it was
-pub refused-walks : (R : List Rule) {b : Begun} (why : Refusal) (letters cursor given : List ℕ) → b ≡ Begun.refused why → Walks R b letters cursor cursor given given (Walked.Refused why)
+pub refused-walks : (R : List Rule) {b : Begun} (why : Refusal) (letters cursor given : List ℕ) → b ≡ Begun.refused why → Walks R b letters cursor cursor given given (Err why)
 unfolding walked cursor_after answers_after
 refused-walks R why letters cursor given e = record { answer = rw e; cursor_left = rw e; answers_left = rw e }
 
@@ -86,13 +86,13 @@ module _ {start n : ℕ} {t s letters given : List ℕ} (J : Travels start n t s
         let few = stands-few O.place in
         (omega arith, omega arith)
 
-    judged-accepted : Walked.Accepted ≡ walked (place_judged (rules_kept t) n start s)
+    judged-accepted : (Ok tt) ≡ walked (place_judged (rules_kept t) n start s)
     unfolding walked
     judged-accepted = rw O.begun
 
     pub arrived : {s' s'' given' : List ℕ} {end : ℕ} {x : Head} → Ran r t letters h s₁ s' given given' end → x ≡ head_of (cell_at s 0)
         → s'' ≡ stored_cursor n x.word (cells_in s' end) s'
-        → Walks (rules_kept t) (place_judged (rules_kept t) n start s) letters s s'' given given' Walked.Accepted
+        → Walks (rules_kept t) (place_judged (rules_kept t) n start s) letters s s'' given given' (Ok tt)
     unfolding cursor_words rule_word
     arrived {s'} {s''} {given'} {end} x read e =
         let many = J.place.count in

@@ -116,25 +116,6 @@ unfolding put bytes
 put-drop zero s at v n h = refl
 put-drop (suc w) s at v n h = put-drop w (set s at (v % base)) (suc at) (v / base) n (omega arith) ∙ drop-set-lt n s at (v % base) (omega arith)
 
--- a double word is its two words, the low one first
-pub number-double : (s : List ℕ) (at : ℕ) → number 4 s at ≡ number 2 s at + 65536 * number 2 s (at + 2)
-unfolding number
-number-double s at = rw add-two (omega arith)
-
--- the low digit in base 256
-digit : (m q : ℕ) → m < base → (base * q + m) % base ≡ m % base
-digit m q small = omega arith
-
-pub put-double : (s : List ℕ) (at v : ℕ) → put 4 s at v ≡ put 2 (put 2 s at (v % 65536)) (at + 2) (v / 65536)
-unfolding put bytes
-put-double s at v =
-    let first : v % 65536 % base ≡ v % base = omega arith in
-    let halves : v / base ≡ base * (v / 65536) + v % 65536 / base = omega arith in
-    let low : v % 65536 / base < base = omega arith in
-    let second : v % 65536 / base % base ≡ v / base % base = sym (ap (λ (x : ℕ). x % base) halves ∙ digit (v % 65536 / base) (v / 65536) low) in
-    let rest : v / 65536 ≡ v / base / base = omega arith in
-    rw (add-two at, first, second, rest)
-
 -- four words put one after the other, and a number right after them
 pub four-put : (s : List ℕ) (at a b c d : ℕ) → at + 8 ≤ length s
     → put 2 (put 2 (put 2 (put 2 s at a) (at + 2) b) (at + 4) c) (at + 6) d

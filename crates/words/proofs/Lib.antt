@@ -3,3 +3,4 @@ pub mod Front
 pub mod Within
 pub mod Words
 pub mod Parts
+pub mod Library

@@ -1,17 +1,10 @@
 // Words inside a byte slice, low byte first.
 #![tactic(auto)]
 
-ghost use Rattle.std.specs.Prelude.{◌≡◌, ◌+◌, ◌≤◌, ◌<◌, length};
+ghost use Rattle.std.specs.Prelude.{◌≡◌, ◌+◌, ◌≤◌, length};
 ghost use Rattle.words.specs.Number.{number, word_count};
 ghost use Rattle.words.specs.Put.{put};
 ghost use Rattle.words.specs.Front.{cleared};
-
-// A byte as a wider number.
-fn wide(x: u8) -> u32
-    ensures { (result ≡ x) × (result < 256) }
-{
-    x as u32
-}
 
 // How many 16-bit words s has: an odd last byte isn't counted.
 pub fn word_count(s: &[u8]) -> usize
@@ -25,9 +18,7 @@ pub fn read16(s: &[u8], at: usize) -> u16
     requires { at + 2 ≤ length s.now }
     ensures { result ≡ number 2 s.now at }
 {
-    let low = wide(s[at]);
-    let high = wide(s[at + 1]);
-    (low + 256 * high) as u16
+    u16::from_le_bytes(s[at..at + 2].try_into().unwrap())
 }
 
 // The 32-bit word that begins at an offset.
@@ -35,9 +26,15 @@ pub fn read32(s: &[u8], at: usize) -> u32
     requires { at + 4 ≤ length s.now }
     ensures { result ≡ number 4 s.now at }
 {
-    let low = read16(s, at) as u32;
-    let high = read16(s, at + 2) as u32;
-    low + 65536 * high
+    u32::from_le_bytes(s[at..at + 4].try_into().unwrap())
+}
+
+// The 64-bit word that begins at an offset.
+pub fn read64(s: &[u8], at: usize) -> u64
+    requires { at + 8 ≤ length s.now }
+    ensures { result ≡ number 8 s.now at }
+{
+    u64::from_le_bytes(s[at..at + 8].try_into().unwrap())
 }
 
 // A 16-bit word into the two bytes from an offset on.
@@ -45,8 +42,7 @@ pub fn write16(s: &mut [u8], at: usize, v: u16)
     requires { at + 2 ≤ length s.old }
     ensures { s.new ≡ put 2 s.old at v }
 {
-    s[at] = (v % 256) as u8;
-    s[at + 1] = (v / 256) as u8;
+    s[at..at + 2].copy_from_slice(&v.to_le_bytes());
 }
 
 // A 32-bit word into the four bytes from an offset on.
@@ -54,8 +50,15 @@ pub fn write32(s: &mut [u8], at: usize, v: u32)
     requires { at + 4 ≤ length s.old }
     ensures { s.new ≡ put 4 s.old at v }
 {
-    write16(s, at, (v % 65536) as u16);
-    write16(s, at + 2, (v / 65536) as u16);
+    s[at..at + 4].copy_from_slice(&v.to_le_bytes());
+}
+
+// A 64-bit word into the eight bytes from an offset on.
+pub fn write64(s: &mut [u8], at: usize, v: u64)
+    requires { at + 8 ≤ length s.old }
+    ensures { s.new ≡ put 8 s.old at v }
+{
+    s[at..at + 8].copy_from_slice(&v.to_le_bytes());
 }
 
 // Zeros into the first m bytes.
@@ -63,9 +66,5 @@ pub fn clear(s: &mut [u8], m: usize)
     requires { m ≤ length s.old }
     ensures { s.new ≡ cleared m s.old }
 {
-    let mut i: usize = 0;
-    while i < m {
-        s[i] = 0;
-        i += 1;
-    }
+    s[..m].fill(0);
 }

@@ -1,6 +1,7 @@
 -- An accepted plan's rules in the rows and an order of them behind these, by number or by a search; and what loading answers and leaves, by
 -- the ways through its code: refused before, refused for the work, or loaded.
 -- Assumes nothing.
+use Rattle.std.specs.Prelude.{Result, Ok, Err}
 use Prim.Native.Nat.{ℕ, ◌+◌, ◌-◌, ◌*◌, ◌≤◌}
 use native.Mathlib.Omega.{arith}
 use mathlib.Core.Path.{◌≡◌, subst, ◌∙◌}
@@ -44,9 +45,6 @@ module _ {s : List ℕ} {n : ℕ} {work : List ℕ} (A : Arrangeable s n work) w
   pub formed : Formed (format_of s) s (length s - trailer_length - length_of_record (format_of s) * n) n
   formed i below = rw (first-rules, ← (plan-first most_rules s n A.start plan)) (plan-decodes most_rules s n A.start plan i below)
 
-  pub orderable : order_end n ≤ length work
-  orderable = let room = A.room in omega arith
-
   pub searchable : Ready (format_of s) s (length s - trailer_length - length_of_record (format_of s) * n) n (take (length work - row_length * n) (drop (row_length * n) work))
   searchable =
       let room = A.room in
@@ -87,34 +85,34 @@ module _ {s : List ℕ} {n : ℕ} {work : List ℕ} (A : Arrangeable s n work) w
         }
 
 -- what holds of an answer, by its case
-unfoldable ByAnswer : List ℕ → List ℕ → List ℕ → Checked → Checked → Type 0
-ByAnswer s work t j (Checked.Accepted n start) = (j ≡ Checked.Accepted n start) × Loads s work t n start
-ByAnswer s work t j (Checked.Refused r) = t ≡ work_after (λ m. enough_work m work) j work
+unfoldable ByAnswer : List ℕ → List ℕ → List ℕ → Result Checked Refusal → Result Checked Refusal → Type 0
+ByAnswer s work t j (Ok x) = (j ≡ Ok x) × Loads s work t x.n x.start
+ByAnswer s work t j (Err r) = t ≡ work_after (λ m. enough_work m work) j work
 
-module _ (s work t : List ℕ) (j : Checked) where
-  prepared : (x : Checked) → x ≡ work_judged work j → ByAnswer s work t j x → Prepared s work t j x
+module _ (s work t : List ℕ) (j : Result Checked Refusal) where
+  prepared : (x : Result Checked Refusal) → x ≡ work_judged work j → ByAnswer s work t j x → Prepared s work t j x
   unfolding ByAnswer
   prepared x e l =
       record {
         answer = e;
-        judged = λ n start q. (subst (λ (y : Checked). ByAnswer s work t j y) q l).0;
-        loaded = λ n start q. (subst (λ (y : Checked). ByAnswer s work t j y) q l).1;
-        refused = λ r q. subst (λ (y : Checked). ByAnswer s work t j y) q l;
+        judged = λ n start q. (subst (λ (y : Result Checked Refusal). ByAnswer s work t j y) q l).0;
+        loaded = λ n start q. (subst (λ (y : Result Checked Refusal). ByAnswer s work t j y) q l).1;
+        refused = λ r q. subst (λ (y : Result Checked Refusal). ByAnswer s work t j y) q l;
       }
 
-module _ (s work : List ℕ) (j : Checked) where
-  pub refused : (r : Refusal) → j ≡ Checked.Refused r → Prepared s work work j (Checked.Refused r)
+module _ (s work : List ℕ) (j : Result Checked Refusal) where
+  pub refused : (r : Refusal) → j ≡ Err r → Prepared s work work j (Err r)
   unfolding work_judged ByAnswer
-  refused r q = prepared s work work j (Checked.Refused r) (rw q) (work-refused (λ m. enough_work m work) j work r q)
+  refused r q = prepared s work work j (Err r) (rw q) (work-refused (λ m. enough_work m work) j work r q)
 
-  module _ (n start : ℕ) (q : j ≡ Checked.Accepted n start) where
-    pub lent : enough_work n work ≡ false → Prepared s work work j (Checked.Refused Refusal.Lent)
+  module _ (n start : ℕ) (q : j ≡ Ok (record { n = n; start = start })) where
+    pub lent : enough_work n work ≡ false → Prepared s work work j (Err Refusal.Lent)
     unfolding work_judged ByAnswer
-    lent e = prepared s work work j (Checked.Refused Refusal.Lent) (rw (q, e)) (work-lent (λ m. enough_work m work) j work n start q e)
+    lent e = prepared s work work j (Err Refusal.Lent) (rw (q, e)) (work-lent (λ m. enough_work m work) j work n start q e)
 
-    pub loaded : {t : List ℕ} → Judged s j → enough_work n work ≡ true → Arranged (rules_of s) n work t → Prepared s work t j (Checked.Accepted n start)
+    pub loaded : {t : List ℕ} → Judged s j → enough_work n work ≡ true → Arranged (rules_of s) n work t → Prepared s work t j (Ok (record { n = n; start = start }))
     unfolding work_judged ByAnswer
-    loaded {t} a e l = prepared s work t j (Checked.Accepted n start) (rw (q, e)) (q, record { accepted = a.accepts n start q; enough = e; arranged = l })
+    loaded {t} a e l = prepared s work t j (Ok (record { n = n; start = start })) (rw (q, e)) (q, record { accepted = a.accepts n start q; enough = e; arranged = l })
 
 pub itself : (s : List ℕ) → Judged s (checked s)
 itself s = record { accepts = λ n start e. e }

@@ -8,6 +8,7 @@ ghost use Rattle.reach.specs.Order.{lower_below};
 ghost use Rattle.work_load.specs.Prepared.{Arrangeable, Ordered, Arranged, Judged, Prepared};
 
 use plan::{Checked, Trailer};
+use record::RuleRecords;
 use refusal::Refusal;
 use work_rows::Row;
 
@@ -18,8 +19,14 @@ fn search_order(plan: &[u8], work: &mut [u8], n: u16)
 {
     let format = Trailer::format(plan);
     let first = Trailer::first(plan, format, n);
+    let rules = RuleRecords {
+        bytes: plan,
+        format,
+        first,
+        n,
+    };
     let rows = Row::LENGTH * (n as usize);
-    reach_order::order(plan, format, first, n, &mut work[rows..]);
+    reach_order::order(&rules, &mut work[rows..]);
 }
 
 // An order of an accepted plan's rules; nothing is searched where each names only lower ones.
@@ -44,24 +51,24 @@ pub fn arrange(plan: &[u8], work: &mut [u8], n: u16)
 }
 
 // n and start of a plan that was judged, whose rules are then in the rows of work, with their order behind them, or why it is turned down.
-pub fn load_judged(plan: &[u8], judged: Checked, work: &mut [u8]) -> Checked
+pub fn load_judged(
+    plan: &[u8],
+    judged: Result<Checked, Refusal>,
+    work: &mut [u8],
+) -> Result<Checked, Refusal>
     requires { Judged plan.now judged }
     ensures { Prepared plan.now work.old work.new judged result }
 {
-    match judged {
-        Checked::Accepted { n, start } => {
-            if !work_rows::enough_work(work, n) {
-                return Checked::Refused(Refusal::Lent);
-            }
-            arrange(plan, work, n);
-            Checked::Accepted { n, start }
-        }
-        Checked::Refused(refusal) => Checked::Refused(refusal),
+    let Checked { n, start } = judged?;
+    if !work_rows::enough_work(work, n) {
+        return Err(Refusal::Lent);
     }
+    arrange(plan, work, n);
+    Ok(Checked { n, start })
 }
 
 // The same behind the plan's own check.
-pub fn load_plan(plan: &[u8], work: &mut [u8]) -> Checked
+pub fn load_plan(plan: &[u8], work: &mut [u8]) -> Result<Checked, Refusal>
     ensures { let plan = plan.entry.now in
         Prepared plan work.old work.new (checked plan) result }
 {

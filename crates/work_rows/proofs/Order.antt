@@ -29,10 +29,6 @@ words-numbers t at k (suc n) h =
     (words-numbers t (at + word_length) (suc k) n
     (λ i l. let e : at + word_length + word_length * i ≡ at + word_length * suc i = omega arith in let f : suc k + i ≡ k + suc i = omega arith in rw (e, f) (h (suc i) (omega arith))))
 
-pub length-order : (t : List ℕ) (n : ℕ) → length (order_in t n) ≡ n
-unfolding order_in
-length-order t n = length-words t (order_at n) n
-
 pub order-word : (t : List ℕ) (n i : ℕ) → i < n → get_or (order_in t n) i 0 ≡ number word_length t (order_at n + word_length * i)
 unfolding order_in
 order-word t n i l = word_at t (order_at n) n i l

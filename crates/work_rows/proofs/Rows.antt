@@ -1,5 +1,6 @@
 -- Laws of rows. A field is a number in a list of bytes, so what a write leaves alone is known from one frame, `Within`: equal bytes
 -- before it and after it. A rule's four fields lie apart in their row, so they are read back as written. Assumes nothing.
+use Rattle.std.specs.Prelude.{Some}
 use Prim.Native.Nat.{ℕ, zero, suc, ◌+◌, ◌-◌, ◌*◌, ◌/◌, ◌%◌, ◌^◌, ◌≤◌, ◌<◌}
 use mathlib.Core.Bool.{true, false, cond, ◌&&◌, ◌||◌, and-true}
 use mathlib.Core.Path.{◌≡◌, refl, sym, ap, ◌∙◌}
@@ -15,7 +16,6 @@ pub use Rattle.words.proofs.Within.{within_none, within_both, within_wider, with
 use Rattle.record.specs.declared.Format.{Format}
 use Rattle.record.specs.declared.Record.{Record}
 use Rattle.rule.specs.declared.Rule.{Rule}
-use Rattle.rule.specs.declared.Decoded.{Decoded}
 use Rattle.rule.specs.Rule.{kind_empty, kind_node, kind_part, high_part, label_in, decode, encode, every}
 use Rattle.rule.proofs.Decode.{encode-decode}
 use Rattle.rule.specs.Sound.{rule}
@@ -173,7 +173,7 @@ encoded-row (Rule.Fill b c) = refl
 encoded-row (Rule.Part a b c) = let e : a % high_part + high_part * (a / high_part) ≡ a = omega arith in rw e
 encoded-row (Rule.Join b c) = refl
 
-module _ (w : Record) (small : w.one < high_part) (f : Format) (x : Rule) (means : decode f w ≡ Decoded.Whole x) where
+module _ (w : Record) (small : w.one < high_part) (f : Format) (x : Rule) (means : decode f w ≡ Some x) where
   recorded_row : record_row w ≡ row_of x
   recorded_row = ap record_row (sym (encode-decode f w x small means)) ∙ encoded-row x
 

@@ -1,5 +1,6 @@
 -- How an operation leaves the work: as it was where it refuses before 8 is passed; else its first words zeros, whatever was
 -- written below their end before. And that an accepted plan's rules can be loaded into it. Assumes nothing.
+use Rattle.std.specs.Prelude.{Result, Ok, Err}
 use Prim.Native.Nat.{ℕ, ◌+◌, ◌-◌, ◌*◌, ◌/◌, ◌≤◌}
 use native.Mathlib.Omega.{arith}
 use mathlib.Core.Path.{◌≡◌, ap}
@@ -37,12 +38,12 @@ unfolding cleared
 cleared-same {m} w = ap (λ (l : List ℕ). replicate m 0 ++ l) w.same_after
 
 -- the work at exit, behind what was judged; enough is the operation's test of 8
-module _ (enough : ℕ → Bool) (j : Checked) (work : List ℕ) where
-  pub work-refused : (r : Refusal) → j ≡ Checked.Refused r → work ≡ work_after enough j work
+module _ (enough : ℕ → Bool) (j : Result Checked Refusal) (work : List ℕ) where
+  pub work-refused : (r : Refusal) → j ≡ Err r → work ≡ work_after enough j work
   unfolding work_after
   work-refused r q = rw q
 
-  module _ (n start : ℕ) (q : j ≡ Checked.Accepted n start) where
+  module _ (n start : ℕ) (q : j ≡ Ok (record { n = n; start = start })) where
     pub work-lent : enough n ≡ false → work ≡ work_after enough j work
     unfolding work_after
     work-lent e = rw (q, e)
@@ -56,7 +57,7 @@ pub beyond-work : (n : ℕ) {s t : List ℕ} → Beyond n s t → Within 0 (work
 beyond-work n w = within_wider 0 (work_length * n) (omega arith) (omega arith) w
 
 -- the plan and the work are long enough to load from and into, and what is loaded are the plan's rules
-pub loadable : (s u : List ℕ) (n start : ℕ) → checked s ≡ Checked.Accepted n start → work_length * n ≤ length u
+pub loadable : (s u : List ℕ) (n start : ℕ) → checked s ≡ Ok (record { n = n; start = start }) → work_length * n ≤ length u
     → (length_of_record (format_of s) * n + trailer_length ≤ length s) × (row_length * n ≤ length u)
 loadable s u n start q enough = (plan-long most_rules s n start (checked-plan s n start q), omega arith)
 

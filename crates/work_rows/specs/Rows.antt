@@ -1,12 +1,11 @@
 -- The rows of work: a row for each rule, which begins with the rule itself. Above this crate nobody reads a plan's bytes.
-use Rattle.std.specs.Prelude.{ℕ, zero, suc, ◌+◌, ◌*◌, ◌<◌, ◌≡◌, Bool, cond, List, [], ◌∷◌, eqb, ltb}
+use Rattle.std.specs.Prelude.{ℕ, zero, suc, ◌+◌, ◌*◌, ◌<◌, ◌≡◌, Bool, cond, List, [], ◌∷◌, eqb, ltb, Some}
 use Rattle.words.specs.Number.{number}
 use Rattle.words.specs.Put.{put}
 pub use Rattle.words.specs.Within.{Within}
 use Rattle.record.specs.declared.Format.{Format}
 use Rattle.record.specs.declared.Record.{Record}
 use Rattle.rule.specs.declared.Rule.{Rule}
-use Rattle.rule.specs.declared.Decoded.{Decoded}
 use Rattle.record.specs.Record.{word_length, length_of_record, record_at}
 use Rattle.record.specs.Records.{records_from}
 use Rattle.rule.specs.Rule.{kind_empty, kind_pair, kind_node, kind_fill, kind_part, kind_join, decode, every, rules_in}
@@ -114,16 +113,16 @@ pub record Stored (r o : ℕ) (x : Rule) (s t : List ℕ) : Type 0 where
 
 -- of a record v that means a rule, in either format: w is the row of that rule
 abbrev pub RowMeant : Record → Row → Type 0
-RowMeant v w = (f : Format) (x : Rule) → decode f v ≡ Decoded.Whole x → w ≡ row_of x
+RowMeant v w = (f : Format) (x : Rule) → decode f v ≡ Some x → w ≡ row_of x
 
 -- row r begins with that rule, and lower tells whether it names only rules below r
 abbrev pub RecordPut : ℕ → Record → Bool → List ℕ → List ℕ → Type 0
-RecordPut r v lower s t = (f : Format) (x : Rule) → decode f v ≡ Decoded.Whole x → Stored r 0 x s t × (lower ≡ every (λ k. ltb k r) x)
+RecordPut r v lower s t = (f : Format) (x : Rule) → decode f v ≡ Some x → Stored r 0 x s t × (lower ≡ every (λ k. ltb k r) x)
 
 -- each of the n records from an offset on is well formed: it means its rule
 abbrev pub Formed : Format → List ℕ → ℕ → ℕ → Type 0
 Formed f s first n =
-    (i : ℕ) → i < n → decode f (record_at f s (first + length_of_record f * i)) ≡ Decoded.Whole (rule (rules_in f (records_from f s first n)) i)
+    (i : ℕ) → i < n → decode f (record_at f s (first + length_of_record f * i)) ≡ Some (rule (rules_in f (records_from f s first n)) i)
 
 -- the rows of n rules hold the rules R, and nothing beyond them has changed
 pub record Loaded (R : List Rule) (n : ℕ) (s t : List ℕ) : Type 0 where

@@ -5,6 +5,7 @@ ghost use Rattle.std.specs.Prelude.{◌≡◌, ◌+◌, ◌-◌, ◌*◌, ◌≤
 ghost use Rattle.record.specs.Format.{word_length, length_of_record};
 ghost use Rattle.rule.specs.Rule.{kind_empty, rules_in};
 ghost use Rattle.record.specs.Records.{records_from};
+ghost use Rattle.record.specs.RuleRecords.{records_lent};
 ghost use Rattle.plan.specs.Check.{trailer_length, format_of};
 ghost use Rattle.forest.specs.Outcome.{work_words, enough_work, cleared};
 ghost use Rattle.work_rows.specs.Rows.{work_length, row_length, own_end, field, put_field, row_of, rule_from, row_at, put_row};
@@ -14,7 +15,7 @@ ghost use Rattle.work_rows.specs.Rows.{Within};
 ghost use Rattle.work_rows.specs.Order.{order_at, order_end, order_in};
 
 use plan::Trailer;
-use record::{Format, Record};
+use record::{Record, RuleRecords};
 use rule::Rule;
 
 // What a row keeps of its rule: the kind, the label and the rules named.
@@ -27,6 +28,7 @@ pub struct Row {
 }
 
 // A field of 16 bits at an offset of a row.
+#[tactic(auto, unfolding(crate::specs::Rows::field))]
 pub fn field16(work: &[u8], r: u16, offset: usize) -> u16
     requires { row_length * r + offset + 2 ≤ length work.now }
     ensures { result ≡ field 2 work.now r offset }
@@ -35,6 +37,7 @@ pub fn field16(work: &[u8], r: u16, offset: usize) -> u16
 }
 
 // A field of 32 bits at an offset of a row.
+#[tactic(auto, unfolding(crate::specs::Rows::field))]
 fn field32(work: &[u8], r: u16, offset: usize) -> u32
     requires { row_length * r + offset + 4 ≤ length work.now }
     ensures { result ≡ field 4 work.now r offset }
@@ -43,6 +46,7 @@ fn field32(work: &[u8], r: u16, offset: usize) -> u32
 }
 
 // A number into a field of 16 bits.
+#[tactic(auto, unfolding(crate::specs::Rows::put_field))]
 pub fn put16(work: &mut [u8], r: u16, offset: usize, v: u16)
     requires { row_length * r + offset + 2 ≤ length work.old }
     ensures { work.new ≡ put_field 2 work.old r offset v }
@@ -51,6 +55,7 @@ pub fn put16(work: &mut [u8], r: u16, offset: usize, v: u16)
 }
 
 // A number into a field of 32 bits.
+#[tactic(auto, unfolding(crate::specs::Rows::put_field))]
 fn put32(work: &mut [u8], r: u16, offset: usize, v: u32)
     requires { row_length * r + offset + 4 ≤ length work.old }
     ensures { work.new ≡ put_field 4 work.old r offset v }
@@ -83,20 +88,6 @@ impl Row {
         }
     }
 
-    // What a row keeps of a rule.
-    fn of(rule: Rule) -> Row
-        ensures { result ≡ row_of rule }
-    {
-        match rule {
-            Rule::Empty => Row::with(Rule::EMPTY, 0, 0, 0),
-            Rule::Pair { first, second } => Row::with(Rule::PAIR, 0, first, second),
-            Rule::Node { label, under } => Row::with(Rule::NODE, label, under, 0),
-            Rule::Fill { outer, inner } => Row::with(Rule::FILL, 0, outer, inner),
-            Rule::Part { label, left, right } => Row::with(Rule::PART, label, left, right),
-            Rule::Join { outer, inner } => Row::with(Rule::JOIN, 0, outer, inner),
-        }
-    }
-
     // What a row keeps of the rule that a record means, straight from its words: unused ones are 0, and a label stands before the names.
     fn of_record(w: Record) -> Row
         ensures { RowMeant w result }
@@ -109,45 +100,6 @@ impl Row {
             return Row::with(kind, Rule::label(w), two, three);
         }
         Row::with(kind, 0, one, two)
-    }
-
-    // The rule that a row keeps.
-    fn rule(self) -> Rule
-        ensures { result ≡ rule_from self }
-    {
-        let kind = self.kind;
-        if kind == Rule::PAIR {
-            return Rule::Pair {
-                first: self.one,
-                second: self.two,
-            };
-        }
-        if kind == Rule::NODE {
-            return Rule::Node {
-                label: self.label,
-                under: self.one,
-            };
-        }
-        if kind == Rule::FILL {
-            return Rule::Fill {
-                outer: self.one,
-                inner: self.two,
-            };
-        }
-        if kind == Rule::PART {
-            return Rule::Part {
-                label: self.label,
-                left: self.one,
-                right: self.two,
-            };
-        }
-        if kind == Rule::JOIN {
-            return Rule::Join {
-                outer: self.one,
-                inner: self.two,
-            };
-        }
-        Rule::Empty
     }
 
     // Whether its rule names only rules below i: what a rule with one name lacks is 0, which is below i where that name is.
@@ -182,15 +134,69 @@ impl Row {
     }
 }
 
+// What a row keeps of a rule.
+impl From<Rule> for Row {
+    ghost from_gives = { λ rule row. row ≡ row_of rule };
+
+    #[tactic(auto, unfolding(crate::specs::Rows::row_of))]
+    fn from(rule: Rule) -> Row {
+        match rule {
+            Rule::Empty => Row::with(Rule::EMPTY, 0, 0, 0),
+            Rule::Pair { first, second } => Row::with(Rule::PAIR, 0, first, second),
+            Rule::Node { label, under } => Row::with(Rule::NODE, label, under, 0),
+            Rule::Fill { outer, inner } => Row::with(Rule::FILL, 0, outer, inner),
+            Rule::Part { label, left, right } => Row::with(Rule::PART, label, left, right),
+            Rule::Join { outer, inner } => Row::with(Rule::JOIN, 0, outer, inner),
+        }
+    }
+}
+
+// The rule that a row keeps.
+impl From<Row> for Rule {
+    ghost from_gives = { λ row rule. rule ≡ rule_from row };
+
+    #[tactic(auto, unfolding(crate::specs::Rows::rule_from))]
+    fn from(row: Row) -> Rule {
+        let Row {
+            kind,
+            label,
+            one,
+            two,
+        } = row;
+        match kind {
+            Rule::PAIR => Rule::Pair {
+                first: one,
+                second: two,
+            },
+            Rule::NODE => Rule::Node { label, under: one },
+            Rule::FILL => Rule::Fill {
+                outer: one,
+                inner: two,
+            },
+            Rule::PART => Rule::Part {
+                label,
+                left: one,
+                right: two,
+            },
+            Rule::JOIN => Rule::Join {
+                outer: one,
+                inner: two,
+            },
+            _ => Rule::Empty,
+        }
+    }
+}
+
 // The rule kept at an offset of row r.
 pub fn rule_in(work: &[u8], r: u16, offset: usize) -> Rule
     requires { row_length * r + offset + own_end ≤ length work.now }
     ensures { result ≡ rule_at work.now r offset }
 {
-    Row::read(work, r, offset).rule()
+    Rule::from(Row::read(work, r, offset))
 }
 
 // The rule that row r begins with.
+#[tactic(auto, unfolding(crate::specs::Rows::rule_in))]
 pub fn rule_at(work: &[u8], r: u16) -> Rule
     requires { row_length * (r + 1) ≤ length work.now }
     ensures { result ≡ rule_in work.now r }
@@ -203,7 +209,7 @@ pub fn put_rule_in(work: &mut [u8], r: u16, offset: usize, rule: Rule)
     requires { row_length * r + offset + own_end ≤ length work.old }
     ensures { Stored r offset rule work.old work.new }
 {
-    let row = Row::of(rule);
+    let row = Row::from(rule);
     row.write(work, r, offset);
 }
 
@@ -217,22 +223,17 @@ fn put_record(work: &mut [u8], r: u16, w: Record) -> bool
     row.names_below(r)
 }
 
-// The plan's n rules, whose records begin at first and are well formed, into the rows of work; and whether each names only lower ones.
-fn load(plan: &[u8], format: Format, first: usize, n: u16, work: &mut [u8]) -> bool
-    requires { (first + length_of_record format * n ≤ length plan.now)
-        × (row_length * n ≤ length work.old)
-        × Formed format plan.now first n }
-    ensures { let rules = rules_in format (records_from format plan.now first n) in
+// The rules, whose records are well formed, into the rows of work; and whether each names only lower ones.
+fn load(rules: &RuleRecords, work: &mut [u8]) -> bool
+    requires { (row_length * rules.now.n ≤ length work.old)
+        × Formed rules.now.format rules.now.bytes.now rules.now.first rules.now.n }
+    ensures { let n = rules.now.n in
+        let rules = rules_in rules.now.format (records_lent rules.now) in
         Loaded rules n work.old work.new × (result ≡ lower_below rules n) }
 {
-    let length = format.length();
     let mut lower = true;
-    let mut i: u16 = 0;
-    while i < n {
-        let record = Record::read(plan, format, first + length * (i as usize));
-        let below = put_record(work, i, record);
-        lower = lower & below;
-        i += 1;
+    for i in 0..rules.n {
+        lower &= put_record(work, i, rules.record(i));
     }
     lower
 }
@@ -248,6 +249,7 @@ const MANY_WORDS: usize = 40;
 pub const WORK_LENGTH: usize = 2 * WORK_WORDS;
 
 // The words of work that n rules need.
+#[tactic(auto, unfolding(forest::specs::Outcome::work_words))]
 pub fn work_words(n: u16) -> usize
     ensures { result ≡ work_words n }
 {
@@ -259,6 +261,7 @@ pub fn work_words(n: u16) -> usize
 }
 
 // Whether work has the words that n rules need.
+#[tactic(auto, unfolding(forest::specs::Outcome::enough_work))]
 pub fn enough_work(work: &[u8], n: u16) -> bool
     ensures { result ≡ enough_work n work.now }
 {
@@ -269,7 +272,8 @@ pub fn enough_work(work: &[u8], n: u16) -> bool
 // Where the order of n rules begins, in bytes a rule: behind the rows and a word a rule.
 const ORDER: usize = Row::LENGTH + 2;
 
-// The rule at a place of the order.
+// The rule at a place of the order. The passes over the rows are alike, each rule in its turn, and each is a `for` of its own: one function for
+// all, over a closure for the row, would have to take the loop's invariant from its caller, and be longer than the loops.
 pub fn order_at(work: &[u8], n: u16, i: u16) -> u16
     requires { (order_end n ≤ length work.now) × (i < n) }
     ensures { result ≡ get_or (order_in work.now n) i 0 }
@@ -286,10 +290,8 @@ pub fn order_by_number(work: &mut [u8], n: u16)
         × Within (order_at n) (order_end n) work.old work' }
 {
     let at = ORDER * (n as usize);
-    let mut i: u16 = 0;
-    while i < n {
+    for i in 0..n {
         words::write16(work, at + 2 * (i as usize), i);
-        i += 1;
     }
 }
 
@@ -304,7 +306,14 @@ pub fn load_rules(plan: &[u8], work: &mut [u8], n: u16) -> bool
         Loaded rules n work.old work.new × (result ≡ lower_below rules n) }
 {
     let format = Trailer::format(plan);
-    load(plan, format, Trailer::first(plan, format, n), n, work)
+    let first = Trailer::first(plan, format, n);
+    let rules = RuleRecords {
+        bytes: plan,
+        format,
+        first,
+        n,
+    };
+    load(&rules, work)
 }
 
 // Zeros into the words of work that n rules need.

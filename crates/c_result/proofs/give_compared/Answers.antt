@@ -1,20 +1,18 @@
--- A compared answer as numbers: by cases on the answer. Assumes nothing.
-use mathlib.Core.Path.{refl}
-use Rattle.c_result.specs.Interface.{compared_gives, result_number, result_position, behind}
+-- By cases on the answer and its verdict. Assumes nothing.
+use Rattle.std.specs.Prelude.{Ok}
+use mathlib.Core.Path.{refl, sym, ap, ◌∙◌}
+use Rattle.forest.specs.declared.Compared.{Compared}
+use Rattle.c_result.specs.Interface.{verdict_numbers, compared_gives, behind, given_by}
 use Rattle.c_result.proofs.give_compared.Goals as goal
+use Rattle.c_result.proofs.give_compared.Goals.{in-Ok+in-Same, in-Ok+in-Differ, in-Ok+in-Spent, in_default}
 
-pub returns-in-Same : goal.returns-in-Same
-unfolding compared_gives result_number result_position behind
-returns-in-Same c = rw c.in-Same.is (refl, refl, refl, refl)
-
-pub returns-in-Differ : goal.returns-in-Differ
-unfolding compared_gives result_number result_position behind
-returns-in-Differ c = rw c.in-Differ.is (refl, refl, refl, refl)
-
-pub returns-in-Spent : goal.returns-in-Spent
-unfolding compared_gives result_number result_position behind
-returns-in-Spent c = rw c.in-Spent.is (refl, refl, refl, refl)
-
-pub returns-in-Refused : goal.returns-in-Refused
-unfolding compared_gives result_number result_position behind
-returns-in-Refused c = rw c.in-Refused.is (c.number.ensures, refl, refl, c.position.ensures)
+pub returns : goal.returns
+unfolding compared_gives given_by behind verdict_numbers
+returns c =
+    let e = c.give.ensures verdict_numbers in
+    elim c.match-answer.branch [
+      | in-Ok+in-Same w ↦ let f = rw (w.answer-is ∙ sym w.in-Ok.is) at e in (f.0, rw (w.verdict-is, w.in-Ok.is, w.in-Same.is) refl, rw (w.count-is, w.in-Ok.is, w.in-Same.is) refl, f.1)
+      | in-Ok+in-Differ w ↦ let f = rw (w.answer-is ∙ sym w.in-Ok.is) at e in (f.0, rw (w.verdict-is, w.in-Ok.is, w.in-Differ.is) refl, rw (w.count-is, w.in-Ok.is, w.in-Differ.is) refl, f.1)
+      | in-Ok+in-Spent w ↦ let f = rw (w.answer-is ∙ sym w.in-Ok.is) at e in (f.0, rw (w.verdict-is, w.in-Ok.is, w.in-Spent.is) refl, rw (w.count-is, w.in-Ok.is, w.in-Spent.is) refl, f.1)
+      | in_default w ↦ let f = rw w.answer-is at e in (f.0, rw (w.verdict-is, w.in_default.is) refl, rw (w.count-is, w.in_default.is) refl, f.1)
+    ]

@@ -1,14 +1,16 @@
--- An unsealed answer as numbers: by cases on the answer. Assumes nothing.
-use mathlib.Core.Path.{refl}
-use Rattle.c_result.specs.Interface.{unsealed_gives, result_number, result_position, behind}
+-- By cases on the answer. Assumes nothing.
+use Rattle.std.specs.Prelude.{[], ◌∷◌}
+use mathlib.Core.Path.{refl, sym, ◌∙◌}
+use Rattle.unseal.specs.declared.Unsealed.{Unsealed}
+use Rattle.c_result.specs.Interface.{unsealed_gives, behind, given_by}
 use Rattle.c_result.proofs.give_unsealed.Goals as goal
+use Rattle.c_result.proofs.give_unsealed.Goals.{in-Ok, in_default}
 
-pub returns-in-Words : goal.returns-in-Words
-unfolding unsealed_gives result_number result_position behind
-returns-in-Words c = let e = c.in-Words.is in
-    rw e (refl, refl, refl, refl, refl)
-
-pub returns-in-Refused : goal.returns-in-Refused
-unfolding unsealed_gives result_number result_position behind
-returns-in-Refused c = let e = c.in-Refused.is in
-    rw e (c.number.ensures, refl, refl, refl, c.position.ensures)
+pub returns : goal.returns
+unfolding unsealed_gives given_by behind
+returns c =
+    let e = c.give.ensures (λ (x : Unsealed). x.length ∷ x.n ∷ x.start ∷ []) in
+    elim c.match-answer.branch [
+      | in-Ok w ↦ let f = rw (w.answer-is ∙ sym w.in-Ok.is) at e in (f.0, rw (w.record_length-is, w.in-Ok.is) refl, rw (w.n-is, w.in-Ok.is) refl, rw (w.start-is, w.in-Ok.is) refl, f.1)
+      | in_default w ↦ let f = rw w.answer-is at e in (f.0, rw (w.record_length-is, w.in_default.is) refl, rw (w.n-is, w.in_default.is) refl, rw (w.start-is, w.in_default.is) refl, f.1)
+    ]

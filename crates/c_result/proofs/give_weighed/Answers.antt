@@ -1,14 +1,15 @@
--- The answer for a plan's grams as numbers: by cases on the answer. Assumes nothing.
-use mathlib.Core.Path.{refl}
-use Rattle.c_result.specs.Interface.{weighed_gives, result_number, result_position, behind}
+-- By cases on the answer. Assumes nothing.
+use Rattle.std.specs.Prelude.{ℕ, [], ◌∷◌}
+use mathlib.Core.Path.{refl, sym, ◌∙◌}
+use Rattle.c_result.specs.Interface.{weighed_gives, behind, given_by}
 use Rattle.c_result.proofs.give_weighed.Goals as goal
+use Rattle.c_result.proofs.give_weighed.Goals.{in-Ok, in_default}
 
-pub returns-in-Grams : goal.returns-in-Grams
-unfolding weighed_gives result_number result_position behind
-returns-in-Grams c = let e = c.in-Grams.is in
-    rw e (refl, refl, refl)
-
-pub returns-in-Refused : goal.returns-in-Refused
-unfolding weighed_gives result_number result_position behind
-returns-in-Refused c = let e = c.in-Refused.is in
-    rw e (c.number.ensures, refl, c.position.ensures)
+pub returns : goal.returns
+unfolding weighed_gives given_by behind
+returns c =
+    let e = c.give.ensures (λ (x : ℕ). x ∷ []) in
+    elim c.match-answer.branch [
+      | in-Ok w ↦ let f = rw (w.answer-is ∙ sym w.in-Ok.is) at e in (f.0, rw (w.grams-is, w.in-Ok.is) refl, f.1)
+      | in_default w ↦ let f = rw w.answer-is at e in (f.0, rw (w.grams-is, w.in_default.is) refl, f.1)
+    ]

@@ -1,14 +1,15 @@
--- A written answer as numbers: by cases on the answer. Assumes nothing.
-use mathlib.Core.Path.{refl}
-use Rattle.c_result.specs.Interface.{written_gives, result_number, result_position, behind}
+-- By cases on the answer. Assumes nothing.
+use Rattle.std.specs.Prelude.{ℕ, [], ◌∷◌}
+use mathlib.Core.Path.{refl, sym, ◌∙◌}
+use Rattle.c_result.specs.Interface.{written_gives, behind, given_by}
 use Rattle.c_result.proofs.give_written.Goals as goal
+use Rattle.c_result.proofs.give_written.Goals.{in-Ok, in_default}
 
-pub returns-in-Length : goal.returns-in-Length
-unfolding written_gives result_number result_position behind
-returns-in-Length c = let e = c.in-Length.is in
-    rw e (refl, refl, refl)
-
-pub returns-in-Refused : goal.returns-in-Refused
-unfolding written_gives result_number result_position behind
-returns-in-Refused c = let e = c.in-Refused.is in
-    rw e (c.number.ensures, refl, c.position.ensures)
+pub returns : goal.returns
+unfolding written_gives given_by behind
+returns c =
+    let e = c.give.ensures (λ (x : ℕ). x ∷ []) in
+    elim c.match-answer.branch [
+      | in-Ok w ↦ let f = rw (w.answer-is ∙ sym w.in-Ok.is) at e in (f.0, rw (w.written-is, w.in-Ok.is) refl, f.1)
+      | in_default w ↦ let f = rw w.answer-is at e in (f.0, rw (w.written-is, w.in_default.is) refl, f.1)
+    ]

@@ -2,6 +2,7 @@
 use mathlib.Core.Path.{sym}
 use Rattle.work_rows.proofs.Rows.{within_both}
 use Rattle.compare.proofs.Outcome.{arrangeable, prefix-long, openable, standings, answered, turned_down_lem}
+use Rattle.refusal.proofs.Passed.{handed-on}
 use Rattle.compare.proofs.compare_places.Goals as goal
 
 pub load-requires : goal.load-requires
@@ -14,14 +15,14 @@ pub open_both-requires : goal.open_both-requires
 open_both-requires c = openable c.requires c.load.ensures.0 c.load.ensures.1 c.load.ensures.2 c.load.ensures.3
 
 pub compare_subtrees-requires : goal.compare_subtrees-requires
-compare_subtrees-requires c = let b = c.open_both.ensures.at _ _ c.in-At.is in
+compare_subtrees-requires c = let b = c.open_both.ensures.at _ _ c.in_ok-one.was in
     let loaded = c.load.ensures in
     standings c.requires loaded.0 loaded.1 loaded.2 loaded.3 (search (b.0, b.1)) (search (b.0, b.1))
 
-pub returns-in-At : goal.returns-in-At
-returns-in-At c = let b = c.open_both.ensures.at _ _ c.in-At.is in
+pub returns : goal.returns
+returns c = let b = c.open_both.ensures.at _ _ c.in_ok-one.was in
     let x = c.compare_subtrees.ensures in
     (answered c.requires c.load.ensures.0 c.load.ensures.1 c.load.ensures.2 c.load.ensures.3 b.0 b.1 _ x.0, within_both c.load.ensures.3 x.1)
 
-pub returns-in-Refused : goal.returns-in-Refused
-returns-in-Refused c = (turned_down_lem c.requires c.load.ensures.0 c.load.ensures.1 c.load.ensures.2 c.load.ensures.3 _ c.open_both.ensures c.in-Refused.is, c.load.ensures.3)
+pub returns-in_err-one : goal.returns-in_err-one
+returns-in_err-one c = rw (handed-on c.from_residual.result c.from_residual.ensures.1) ((turned_down_lem c.requires c.load.ensures.0 c.load.ensures.1 c.load.ensures.2 c.load.ensures.3 _ c.open_both.ensures c.in_err-one.was, c.load.ensures.3))

@@ -3,7 +3,6 @@ use native.Mathlib.Omega.{arith}
 use mathlib.Core.Path.{sym, ◌∙◌}
 use Rattle.forest.specs.Outcome.{work_words}
 use Rattle.compare.proofs.Outcome.{lent, lendable, finished}
-use borrow.Author.Rules.{rules}
 use Rattle.compare.proofs.compare_rules.Goals as goal
 
 pub returns-then-not-enough_compared : goal.returns-then-not-enough_compared

@@ -1,6 +1,5 @@
--- Each arm is the definition's; the rules named have rows, so their counts can be read. Assumes nothing.
+-- The rules named have rows, so their counts can be read. Assumes nothing.
 use Rattle.rule.specs.Names.{pair_one, pair_two, node_one, fill_one, fill_two, part_two, join_one, join_two}
-use Rattle.compare_tokens.specs.Nodes.{after_of}
 use Rattle.count_passes.proofs.Named.{named-row, named_count}
 use native.Mathlib.Omega.{arith}
 use Rattle.compare_nodes.proofs.after_of.Goals as goal
@@ -28,27 +27,3 @@ both-requires-in-Join c = (
   named_count _ (omega arith) c.in-Join.is c.requires _ join_two,
   named_count _ (omega arith) c.in-Join.is c.requires _ join_one,
 )
-
-pub returns-in-Empty : goal.returns-in-Empty
-unfolding after_of
-returns-in-Empty c = rw c.in-Empty.is c.of.ensures
-
-pub returns-in-Pair : goal.returns-in-Pair
-unfolding after_of
-returns-in-Pair c = rw c.in-Pair.is c.both.ensures
-
-pub returns-in-Node : goal.returns-in-Node
-unfolding after_of
-returns-in-Node c = rw c.in-Node.is c.over.ensures
-
-pub returns-in-Fill : goal.returns-in-Fill
-unfolding after_of
-returns-in-Fill c = rw c.in-Fill.is c.filled.ensures
-
-pub returns-in-Part : goal.returns-in-Part
-unfolding after_of
-returns-in-Part c = rw c.in-Part.is c.count_at.ensures
-
-pub returns-in-Join : goal.returns-in-Join
-unfolding after_of
-returns-in-Join c = rw c.in-Join.is c.both-in-Join.ensures

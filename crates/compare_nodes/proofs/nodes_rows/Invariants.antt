@@ -1,10 +1,6 @@
 -- The invariant: the rows at the first i places have their counts (`Passing`). Assumes nothing.
-use Prim.Native.Nat.{◌-◌}
 use Rattle.compare_nodes.proofs.Counting.{Passing}
 use Rattle.compare_nodes.proofs.nodes_rows.Given as goal
 
 abbrev pub invariant-loop-i : goal.invariant-loop-i
 invariant-loop-i l = Passing l.n l.i l.initial.work l.work
-
-abbrev pub decreases-loop-i : goal.decreases-loop-i
-decreases-loop-i l = l.n - l.i

@@ -10,8 +10,8 @@ pub returns : goal.returns
 returns c = let a = c.args in
     λ i.
     record {
-      one = c.below.ensures i;
-      two = c.below-2.ensures i;
+      one = c.saturating_sub.ensures i;
+      two = c.saturating_sub-2.ensures i;
       agree = a.at.agree;
       count = (c.added.ensures ∙ ap (λ (m : ℕ). min (a.at.count + m) (a.budget + 1)) c.task_nodes-nodes.ensures) i;
     }

@@ -4,29 +4,17 @@ use Rattle.copy_marks.proofs.Marks.{kept-markable}
 use Rattle.copy_marks.proofs.Passing.{passing-start, passing-more, passing-end}
 use Rattle.copy_marks.proofs.mark_all.Goals as goal
 
-pub overflow_mul-i : goal.overflow_mul-i
-overflow_mul-i c = omega (arith, c.requires.few)
-
 pub loop-i-init : goal.loop-i-init
 loop-i-init c = passing-start c.requires (omega arith)
 
-pub overflow_sub-i : goal.overflow_sub-i
-overflow_sub-i c = omega arith
-
 pub placed_at-k-requires : goal.placed_at-k-requires
-placed_at-k-requires c = (kept-markable _ c.loop-i.invariant.only c.requires, omega (arith, c.loop-i.invariant.below))
+placed_at-k-requires c = (kept-markable _ c.loop-i.invariant.only c.requires, omega arith)
 
 pub pass-requires : goal.pass-requires
-pass-requires c = (kept-markable _ c.loop-i.invariant.only c.requires, omega (arith, c.placed_at-k.ensures.1, c.loop-i.invariant.below))
-
-pub loop-i-smaller : goal.loop-i-smaller
-loop-i-smaller c = omega arith
+pass-requires c = (kept-markable _ c.loop-i.invariant.only c.requires, omega (arith, c.placed_at-k.ensures.1))
 
 pub loop-i-preserved : goal.loop-i-preserved
 loop-i-preserved c = passing-more c.requires c.loop-i.invariant (omega (arith, c.loop-i-test.true)) c.placed_at-k.ensures.0 c.pass.ensures
-
-pub shape_of-work : goal.shape_of-work
-shape_of-work c = c.loop-i.invariant.only.same_length
 
 pub returns : goal.returns
 returns c = passing-end c.requires c.loop-i.invariant (omega (arith, c.loop-i-test.false))

@@ -27,9 +27,8 @@ write-m-requires c = let pre = c.requires in
     }
 
 pub number_of-top-requires : goal.number_of-top-requires
-number_of-top-requires c = let first = c in
-    let pre = first.requires in
-    let varied = first.vary_rows.ensures in
+number_of-top-requires c = let pre = c.requires in
+    let varied = c.vary_rows.ensures in
     let room = (markable pre varied).room in
     let below = start-below pre varied in
     let a = c.mark.ensures.only.same_length in
@@ -38,9 +37,8 @@ number_of-top-requires c = let first = c in
 
 pub write-requires : goal.write-requires
 unfolding high_length
-write-requires c = let first = c in
-    let pre = first.requires in
-    let few = few-rules pre first.vary_rows.ensures c.name-whole.ensures c.mark.ensures c.write-m.ensures in
+write-requires c = let pre = c.requires in
+    let few = few-rules pre c.vary_rows.ensures c.name-whole.ensures c.mark.ensures c.write-m.ensures in
     omega (arith, pre.space)
 
 pub returns : goal.returns

@@ -1,8 +1,7 @@
--- Each arm is the definition's; the rules named have rows, so their sums can be read. Assumes nothing.
+-- The rules named have rows, so their sums can be read. Assumes nothing.
 use native.Mathlib.Omega.{arith}
 use Rattle.rule.specs.Names.{pair_one, pair_two, node_one, fill_one, fill_two, part_one, part_two, join_one, join_two}
 use Rattle.count_passes.proofs.Named.{named_count}
-use Rattle.count_weights.specs.Weights.{named_sum}
 use Rattle.count_weights.proofs.named_sum.Goals as goal
 
 pub both-requires : goal.both-requires
@@ -31,27 +30,3 @@ both-requires-in-Join c = (
   named_count _ (omega arith) c.in-Join.is c.requires _ join_one,
   named_count _ (omega arith) c.in-Join.is c.requires _ join_two,
 )
-
-pub returns-in-Empty : goal.returns-in-Empty
-unfolding named_sum
-returns-in-Empty c = rw c.in-Empty.is c.of.ensures
-
-pub returns-in-Pair : goal.returns-in-Pair
-unfolding named_sum
-returns-in-Pair c = rw c.in-Pair.is c.both.ensures
-
-pub returns-in-Node : goal.returns-in-Node
-unfolding named_sum
-returns-in-Node c = rw c.in-Node.is c.count_at.ensures
-
-pub returns-in-Fill : goal.returns-in-Fill
-unfolding named_sum
-returns-in-Fill c = rw c.in-Fill.is c.both-in-Fill.ensures
-
-pub returns-in-Part : goal.returns-in-Part
-unfolding named_sum
-returns-in-Part c = rw c.in-Part.is c.both-in-Part.ensures
-
-pub returns-in-Join : goal.returns-in-Join
-unfolding named_sum
-returns-in-Join c = rw c.in-Join.is c.both-in-Join.ensures

@@ -22,16 +22,16 @@ pub jump_at-jump-requires : goal.jump_at-jump-requires
 jump_at-jump-requires c = c.loop-side.invariant.0
 
 pub depth_at-requires-in-loop-side : goal.depth_at-requires-in-loop-side
-depth_at-requires-in-loop-side c = ((let the-jumped : (Onward c.args.work.now (side_of c.args.side) c.loop-side.x c.jump_at-jump.result) = jump-onward c.requires.0 (side_of c.args.side) c.loop-side.x c.loop-side.invariant.0 (let g = (let the-above : (c.args.h < (facts_in c.args.work.now).depth (side_of c.args.side) c.loop-side.x) = let e = c.depth_at.ensures in omega arith in the-above) in omega arith) _ c.jump_at-jump.ensures in the-jumped)).inside
+depth_at-requires-in-loop-side c = (jump-onward c.requires.0 _ _ c.loop-side.invariant.0 (omega (arith, c.depth_at.ensures)) _ c.jump_at-jump.ensures).inside
 
 pub overflow_cast-depth_at-in-loop-side : goal.overflow_cast-depth_at-in-loop-side
 overflow_cast-depth_at-in-loop-side c = omega arith
 
 pub loop-side-smaller-then-h-depth_at : goal.loop-side-smaller-then-h-depth_at
-loop-side-smaller-then-h-depth_at c = ((let the-jumped : (Onward c.args.work.now (side_of c.args.side) c.loop-side.x c.jump_at-jump.result) = jump-onward c.requires.0 (side_of c.args.side) c.loop-side.x c.loop-side.invariant.0 (let g = (let the-above : (c.args.h < (facts_in c.args.work.now).depth (side_of c.args.side) c.loop-side.x) = let e = c.depth_at.ensures in omega arith in the-above) in omega arith) _ c.jump_at-jump.ensures in the-jumped)).fewer
+loop-side-smaller-then-h-depth_at c = (jump-onward c.requires.0 _ _ c.loop-side.invariant.0 (omega (arith, c.depth_at.ensures)) _ c.jump_at-jump.ensures).fewer
 
 pub loop-side-preserved-then-h-depth_at : goal.loop-side-preserved-then-h-depth_at
-loop-side-preserved-then-h-depth_at c = let o = (let the-jumped : (Onward c.args.work.now (side_of c.args.side) c.loop-side.x c.jump_at-jump.result) = jump-onward c.requires.0 (side_of c.args.side) c.loop-side.x c.loop-side.invariant.0 (let g = (let the-above : (c.args.h < (facts_in c.args.work.now).depth (side_of c.args.side) c.loop-side.x) = let e = c.depth_at.ensures in omega arith in the-above) in omega arith) _ c.jump_at-jump.ensures in the-jumped) in
+loop-side-preserved-then-h-depth_at c = let o = jump-onward c.requires.0 _ _ c.loop-side.invariant.0 (omega (arith, c.depth_at.ensures)) _ c.jump_at-jump.ensures in
     let low = c.depth_at-in-loop-side.ensures in
     (o.inside, c.loop-side.invariant.1 ∙ still _ _ _ _ _ o (omega arith))
 
@@ -39,13 +39,13 @@ pub toward_at-x-requires : goal.toward_at-x-requires
 toward_at-x-requires c = c.loop-side.invariant.0
 
 pub loop-side-smaller : goal.loop-side-smaller
-loop-side-smaller c = ((let the-stepped : (Onward c.args.work.now (side_of c.args.side) c.loop-side.x c.toward_at-x.result) = step-onward c.requires.0 (side_of c.args.side) c.loop-side.x c.loop-side.invariant.0 (let g = (let the-above : (c.args.h < (facts_in c.args.work.now).depth (side_of c.args.side) c.loop-side.x) = let e = c.depth_at.ensures in omega arith in the-above) in omega arith) _ c.toward_at-x.ensures in the-stepped)).fewer
+loop-side-smaller c = (step-onward c.requires.0 _ _ c.loop-side.invariant.0 (omega (arith, c.depth_at.ensures)) _ c.toward_at-x.ensures).fewer
 
 pub loop-side-preserved : goal.loop-side-preserved
-loop-side-preserved c = let g = (let the-above : (c.args.h < (facts_in c.args.work.now).depth (side_of c.args.side) c.loop-side.x) = let e = c.depth_at.ensures in omega arith in the-above) in
-    let d : (facts_in c.args.work.now).depth (side_of c.args.side) c.loop-side.x ≡ suc ((facts_in c.args.work.now).depth (side_of c.args.side) c.toward_at-x.result)
-    = step_falls c.requires.0 _ _ c.loop-side.invariant.0 (omega arith) _ c.toward_at-x.ensures in
-    (((let the-stepped : (Onward c.args.work.now (side_of c.args.side) c.loop-side.x c.toward_at-x.result) = step-onward c.requires.0 (side_of c.args.side) c.loop-side.x c.loop-side.invariant.0 (let g = (let the-above : (c.args.h < (facts_in c.args.work.now).depth (side_of c.args.side) c.loop-side.x) = let e = c.depth_at.ensures in omega arith in the-above) in omega arith) _ c.toward_at-x.ensures in the-stepped)).inside, c.loop-side.invariant.1 ∙ still _ _ _ _ _ ((let the-stepped : (Onward c.args.work.now (side_of c.args.side) c.loop-side.x c.toward_at-x.result) = step-onward c.requires.0 (side_of c.args.side) c.loop-side.x c.loop-side.invariant.0 (let g = (let the-above : (c.args.h < (facts_in c.args.work.now).depth (side_of c.args.side) c.loop-side.x) = let e = c.depth_at.ensures in omega arith in the-above) in omega arith) _ c.toward_at-x.ensures in the-stepped)) (omega arith))
+loop-side-preserved c = let d = step_falls c.requires.0 (side_of c.args.side) _ c.loop-side.invariant.0 (omega (arith, c.depth_at.ensures)) _ c.toward_at-x.ensures in
+    let above = c.depth_at.ensures in
+    let o = step-onward c.requires.0 _ _ c.loop-side.invariant.0 (omega (arith, c.depth_at.ensures)) _ c.toward_at-x.ensures in
+    (o.inside, c.loop-side.invariant.1 ∙ still _ _ _ _ _ o (omega arith))
 
 pub returns : goal.returns
 unfolding along

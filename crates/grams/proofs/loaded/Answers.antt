@@ -3,10 +3,10 @@ use mathlib.Core.Path.{sym, ap}
 use Rattle.grams.specs.Steps.{loaded_rules}
 use Rattle.grams.proofs.loaded.Goals as goal
 
-pub returns-in-Accepted : goal.returns-in-Accepted
+pub returns-in-Ok : goal.returns-in-Ok
 unfolding loaded_rules
-returns-in-Accepted c = sym (ap loaded_rules c.in-Accepted.is)
+returns-in-Ok c = sym (ap loaded_rules c.in-Ok.is)
 
-pub returns-in-Refused : goal.returns-in-Refused
+pub returns-in-Err : goal.returns-in-Err
 unfolding loaded_rules
-returns-in-Refused c = sym (ap loaded_rules c.in-Refused.is)
+returns-in-Err c = sym (ap loaded_rules c.in-Err.is)

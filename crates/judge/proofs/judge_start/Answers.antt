@@ -6,18 +6,18 @@ use mathlib.Core.Path.{ap}
 use mathlib.Core.Bool.{not}
 use Rattle.judge.proofs.judge_start.Goals as goal
 
-pub returns-then-n-start : goal.returns-then-n-start
-returns-then-n-start c = let a = c.args in
-    sym (start-not-below a.format a.s.now a.first a.n a.start c.if-n-start.true)
+pub returns-then-rules-start : goal.returns-then-rules-start
+returns-then-rules-start c = let r = c.args.rules.now in
+    sym (start-not-below r.format r.bytes.now r.first r.n c.args.start c.if-rules-start.true)
 
 pub returns-then-not-closed_at : goal.returns-then-not-closed_at
-returns-then-not-closed_at c = let a = c.args in
+returns-then-not-closed_at c = let r = c.args.rules.now in
     sym
-    (start-closed a.format a.s.now a.first a.n a.start _ c.if-n-start.false
+    (start-closed r.format r.bytes.now r.first r.n c.args.start _ c.if-rules-start.false
     (sym c.closed_at.ensures ∙ not-true c.closed_at.result (ap not c.if-not-closed_at.true)))
 
 pub returns : goal.returns
-returns c = let a = c.args in
+returns c = let r = c.args.rules.now in
     sym
-    (start-closed a.format a.s.now a.first a.n a.start _ c.if-n-start.false
+    (start-closed r.format r.bytes.now r.first r.n c.args.start _ c.if-rules-start.false
     (sym c.closed_at.ensures ∙ not-false c.closed_at.result (ap not c.if-not-closed_at.false)))

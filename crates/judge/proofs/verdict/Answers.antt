@@ -17,12 +17,7 @@ pub returns-then-not-sorted : goal.returns-then-not-sorted
 unfolding verdict
 returns-then-not-sorted c = let a = c.args in rw (not-false a.formed (ap not c.if-not-formed.false), not-false a.ranged (ap not c.if-not-ranged.false), not-true a.sorted (ap not c.if-not-sorted.true))
 
-pub returns-then-lower : goal.returns-then-lower
+pub returns : goal.returns
 unfolding verdict
-returns-then-lower c = let a = c.args in
-    rw (not-false a.formed (ap not c.if-not-formed.false), not-false a.ranged (ap not c.if-not-ranged.false), not-false a.sorted (ap not c.if-not-sorted.false), c.if-lower.true)
-
-pub returns-else-lower : goal.returns-else-lower
-unfolding verdict
-returns-else-lower c = let a = c.args in
-    rw (not-false a.formed (ap not c.if-not-formed.false), not-false a.ranged (ap not c.if-not-ranged.false), not-false a.sorted (ap not c.if-not-sorted.false), c.if-lower.false)
+returns c = let a = c.args in
+    rw (not-false a.formed (ap not c.if-not-formed.false), not-false a.ranged (ap not c.if-not-ranged.false), not-false a.sorted (ap not c.if-not-sorted.false))

@@ -2,24 +2,23 @@
 use mathlib.Core.Path.{sym}
 use native.Mathlib.Omega.{arith}
 use Rattle.forest.specs.Letter.{letter_of}
-use Rattle.letter.specs.Letter.{move_of, read_as}
+use Rattle.letter.specs.Letter.{move_of}
 use Rattle.letter.proofs.Bytes.{no-letter}
 use Rattle.letter.proofs.high_letter.Goals as goal
 
 pub returns-then-b-eq112 : goal.returns-then-b-eq112
-unfolding read_as move_of letter_of
+unfolding move_of letter_of
 returns-then-b-eq112 c = rw c.if-b-eq112.true
 
 pub returns-then-b-eq117 : goal.returns-then-b-eq117
-unfolding read_as move_of letter_of
+unfolding move_of letter_of
 returns-then-b-eq117 c = rw c.if-b-eq117.true
 
 pub returns-then-b-eq122 : goal.returns-then-b-eq122
-unfolding read_as move_of letter_of
+unfolding move_of letter_of
 returns-then-b-eq122 c = rw c.if-b-eq122.true
 
 pub returns : goal.returns
-unfolding read_as
 returns c = let b = c.args.b in
     let not-1 = c.if-b-eq112.false in
     let not-2 = c.if-b-eq117.false in

@@ -2,20 +2,19 @@
 use mathlib.Core.Path.{sym}
 use native.Mathlib.Omega.{arith}
 use Rattle.forest.specs.Letter.{letter_of}
-use Rattle.letter.specs.Letter.{move_of, read_as}
+use Rattle.letter.specs.Letter.{move_of}
 use Rattle.letter.proofs.Bytes.{no-letter}
 use Rattle.letter.proofs.middle_letter.Goals as goal
 
 pub returns-then-b-eq108 : goal.returns-then-b-eq108
-unfolding read_as move_of letter_of
+unfolding move_of letter_of
 returns-then-b-eq108 c = rw c.if-b-eq108.true
 
 pub returns-then-b-eq110 : goal.returns-then-b-eq110
-unfolding read_as move_of letter_of
+unfolding move_of letter_of
 returns-then-b-eq110 c = rw c.if-b-eq110.true
 
 pub returns : goal.returns
-unfolding read_as
 returns c = let b = c.args.b in
     let not-1 = c.if-b-eq108.false in
     let not-2 = c.if-b-eq110.false in

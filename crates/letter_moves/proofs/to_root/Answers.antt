@@ -1,6 +1,8 @@
 -- The root on a side of the walked rule. Assumes nothing.
+use mathlib.Core.Path.{refl}
 use native.Mathlib.Omega.{arith}
 use Rattle.forest.specs.Letter.{Letter}
+use Rattle.forest.specs.Place.{Side}
 use Rattle.model.specs.Walk.{move}
 use Rattle.side.specs.Side.{side_of}
 use Rattle.move_parts.proofs.Outcomes.{took, took-none}
@@ -18,9 +20,8 @@ returns-in_default c = let a = c.args in
 pub arrive_root-requires : goal.arrive_root-requires
 unfolding move
 arrive_root-requires c = let a = c.args in
-    let node = took (c.root.ensures a.cursor.now (side_of a.side)) c.in-Node.is in
-    let none = node.2 in
-    (arriving c.requires (Letter.root (side_of a.side)) node.0 node.1 (omega arith), omega arith)
+    let h = took (c.root.ensures a.cursor.now (side_of a.side)) c.in-Node.is in
+    (arriving c.requires (Letter.root (side_of a.side)) refl (h.0, h.1, omega (arith, h.2)), omega (arith, h.2))
 
 pub returns : goal.returns
 unfolding move

@@ -15,21 +15,21 @@ kept-number : {r : Outcome} {k p : ℕ} {x : Change} → r ≡ Outcome.Node (Cha
 unfolding keep_of
 kept-number {r} {k} {p} {x} e q = let z : Change.Kept k p ≡ x = cc (sym e ∙ q) in ap keep_of (sym z)
 
-pub returns-then-k-eq0 : goal.returns-then-k-eq0
+pub returns-then-at-eq0 : goal.returns-then-at-eq0
 unfolding move move_of
-returns-then-k-eq0 c = let a = c.args in stepped_kept c.requires _ c.kept.ensures (sym (from-none a.cursor.now a.k _ c.if-k-eq0.true))
+returns-then-at-eq0 c = let a = c.args in stepped_kept c.requires _ c.kept.ensures (sym (from-none a.cursor.now a.at.used _ c.if-at-eq0.true))
 
 pub returns-in_default : goal.returns-in_default
 unfolding move move_of
 returns-in_default c = let a = c.args in
-    stepped_kept c.requires _ c.kept-in_default.ensures (sym (from-cells a.cursor.now a.k _ c.if-k-eq0.false) ∙ took-none (c.stay.ensures.1 a.rows.now a.cursor.now) c.in_default.is)
+    stepped_kept c.requires _ c.kept-in_default.ensures (sym (from-cells a.cursor.now a.at.used _ c.if-at-eq0.false) ∙ took-none (c.stay.ensures.1 a.rows.now a.cursor.now) c.in_default.is)
 
 pub arrive_same-requires : goal.arrive_same-requires
 unfolding move move_of
 arrive_same-requires c = let a = c.args in
-    (arriving c.requires Letter.stay (sym (from-cells a.cursor.now a.k _ c.if-k-eq0.false) ∙ (took (c.stay.ensures.1 a.rows.now a.cursor.now) c.in-Node.is).0) (took (c.stay.ensures.1 a.rows.now a.cursor.now) c.in-Node.is).1 (took (c.stay.ensures.1 a.rows.now a.cursor.now) c.in-Node.is).2, kept-number c.stay.ensures.0 c.in-Node.is)
+    (arriving c.requires Letter.stay (sym (from-cells a.cursor.now a.at.used _ c.if-at-eq0.false)) (took (c.stay.ensures.1 a.rows.now a.cursor.now) c.in-Node.is), kept-number c.stay.ensures.0 c.in-Node.is)
 
 pub returns : goal.returns
 unfolding move move_of
 returns c = let a = c.args in
-    stepped-node c.requires _ (sym (from-cells a.cursor.now a.k _ c.if-k-eq0.false) ∙ (took (c.stay.ensures.1 a.rows.now a.cursor.now) c.in-Node.is).0) c.arrive_same.ensures
+    stepped-node c.requires _ (sym (from-cells a.cursor.now a.at.used _ c.if-at-eq0.false) ∙ (took (c.stay.ensures.1 a.rows.now a.cursor.now) c.in-Node.is).0) c.arrive_same.ensures

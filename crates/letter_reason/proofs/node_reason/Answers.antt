@@ -10,49 +10,39 @@ use Rattle.letter_reason.proofs.Leads.{always-moves, from-node}
 use Rattle.letter_reason.proofs.node_reason.Goals as goal
 
 pub child_reason-requires : goal.child_reason-requires
-child_reason-requires c = let entry = c in (held entry.requires.0, at-rule entry.requires.0 (λ e. omega arith))
+child_reason-requires c = (held c.requires.0, at-rule c.requires.0 (λ e. omega arith))
 
 pub child_reason-requires-in-L : goal.child_reason-requires-in-L
-child_reason-requires-in-L c = let entry = c in (held entry.requires.0, at-rule entry.requires.0 (λ e. omega arith))
+child_reason-requires-in-L c = (held c.requires.0, at-rule c.requires.0 (λ e. omega arith))
 
 pub sibling_reason-requires : goal.sibling_reason-requires
-sibling_reason-requires c = let entry = c in held entry.requires.0
+sibling_reason-requires c = held c.requires.0
 
 pub sibling_reason-requires-in-P : goal.sibling_reason-requires-in-P
-sibling_reason-requires-in-P c = let entry = c in held entry.requires.0
+sibling_reason-requires-in-P c = held c.requires.0
 
 pub parent_reason-requires : goal.parent_reason-requires
-parent_reason-requires c = let entry = c in held entry.requires.0
+parent_reason-requires c = held c.requires.0
 
 pub returns-in-F : goal.returns-in-F
 unfolding move move_of side_of
-returns-in-F c = let told = c in
-    let entry = told in
-    rw told.in-F.is (c.child_reason.ensures ∙ from-node _ entry.args.cursor.now entry.args.k _ entry.requires.1)
+returns-in-F c = rw c.in-F.is (c.child_reason.ensures ∙ from-node _ c.args.cursor.now c.args.at.used _ c.requires.1)
 
 pub returns-in-L : goal.returns-in-L
 unfolding move move_of side_of
-returns-in-L c = let told = c in
-    let entry = told in
-    rw told.in-L.is (c.child_reason-in-L.ensures ∙ from-node _ entry.args.cursor.now entry.args.k _ entry.requires.1)
+returns-in-L c = rw c.in-L.is (c.child_reason-in-L.ensures ∙ from-node _ c.args.cursor.now c.args.at.used _ c.requires.1)
 
 pub returns-in-N : goal.returns-in-N
 unfolding move move_of side_of
-returns-in-N c = let told = c in
-    let entry = told in
-    rw told.in-N.is (c.sibling_reason.ensures ∙ from-node _ entry.args.cursor.now entry.args.k _ entry.requires.1)
+returns-in-N c = rw c.in-N.is (c.sibling_reason.ensures ∙ from-node _ c.args.cursor.now c.args.at.used _ c.requires.1)
 
 pub returns-in-P : goal.returns-in-P
 unfolding move move_of side_of
-returns-in-P c = let told = c in
-    let entry = told in
-    rw told.in-P.is (c.sibling_reason-in-P.ensures ∙ from-node _ entry.args.cursor.now entry.args.k _ entry.requires.1)
+returns-in-P c = rw c.in-P.is (c.sibling_reason-in-P.ensures ∙ from-node _ c.args.cursor.now c.args.at.used _ c.requires.1)
 
 pub returns-in-U : goal.returns-in-U
 unfolding move move_of side_of
-returns-in-U c = let told = c in
-    let entry = told in
-    rw told.in-U.is (c.parent_reason.ensures ∙ from-node _ entry.args.cursor.now entry.args.k _ entry.requires.1)
+returns-in-U c = rw c.in-U.is (c.parent_reason.ensures ∙ from-node _ c.args.cursor.now c.args.at.used _ c.requires.1)
 
 pub returns-in-A : goal.returns-in-A
 unfolding move_of stop_reason

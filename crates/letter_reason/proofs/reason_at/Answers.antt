@@ -11,12 +11,12 @@ is_empty_at-requires c = walked-in c.requires.rows
 pub returns-then-is_empty_at : goal.returns-then-is_empty_at
 returns-then-is_empty_at c = no-trees _ _ _ _ (sym c.is_empty_at.ensures ∙ c.if-is_empty_at.true)
 
-pub returns-then-k-eq0 : goal.returns-then-k-eq0
-returns-then-k-eq0 c = let a = c.args in
+pub returns-then-at-eq0 : goal.returns-then-at-eq0
+returns-then-at-eq0 c = let a = c.args in
     let trees = sym c.is_empty_at.ensures ∙ c.if-is_empty_at.false in
-    c.above_reason.ensures ∙ above-trees _ _ _ a.cursor.now a.k trees c.if-k-eq0.true
+    c.above_reason.ensures ∙ above-trees _ _ _ a.cursor.now a.at.used trees c.if-at-eq0.true
 
 pub returns : goal.returns
 returns c = let a = c.args in
     let trees = sym c.is_empty_at.ensures ∙ c.if-is_empty_at.false in
-    c.node_reason.ensures ∙ at_node _ _ _ a.cursor.now a.k trees (omega (arith, c.if-k-eq0.false))
+    c.node_reason.ensures ∙ at_node _ _ _ a.cursor.now a.at.used trees (omega (arith, c.if-at-eq0.false))

@@ -1,12 +1,8 @@
--- By what check answers. Assumes nothing.
-use mathlib.Core.Path.{sym, ap, ◌∙◌}
+-- Accepted is what the library calls Ok. Assumes nothing.
+use mathlib.Core.Path.{ap, ◌∙◌}
 use Rattle.plan_list.specs.Listed.{is_accepted}
+use Rattle.listing.proofs.Printed.{ok-accepted}
 use Rattle.listing.proofs.accepted.Goals as goal
 
-pub returns-in-Accepted : goal.returns-in-Accepted
-unfolding is_accepted
-returns-in-Accepted c = sym (ap is_accepted (sym c.check.ensures ∙ c.in-Accepted.is))
-
-pub returns-in-Refused : goal.returns-in-Refused
-unfolding is_accepted
-returns-in-Refused c = sym (ap is_accepted (sym c.check.ensures ∙ c.in-Refused.is))
+pub returns : goal.returns
+returns c = c.is_ok.ensures.value ∙ ok-accepted c.check.result ∙ ap is_accepted c.check.ensures

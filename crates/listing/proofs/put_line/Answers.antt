@@ -1,45 +1,32 @@
--- The loop's invariant: the line of the bytes from i on, put where the loop stands, gives what the whole line gives. Assumes nothing.
+-- The plan's bytes have two digits each, and then the line ends. Assumes nothing.
 use native.Mathlib.Omega.{arith}
-use mathlib.Core.Path.{refl}
-use lib.ListN.{drop}
-use Rattle.decimal.proofs.Puts.{put-start, put_rest, put_as, put-end}
-use Rattle.listing.proofs.Printed.{line-long, line-more, line-none}
-use lib.ListN.{length-drop}
+use Prim.Native.Nat.{ℕ, ◌*◌}
+use lib.ListN.{length, length-append, length-drop}
+use lib.Seq.{length-take-le}
+use mathlib.Core.Path.{refl, sym}
+use Rattle.listing.proofs.Printed.{line-long, put-line}
 use Rattle.listing.proofs.put_line.Goals as goal
 
-pub loop-i-init : goal.loop-i-init
-loop-i-init c = (omega arith, refl, put-start _ _ _ (omega arith))
+pub slice_bounds-encode_to_slice-end : goal.slice_bounds-encode_to_slice-end
+slice_bounds-encode_to_slice-end c = omega (arith, line-long c.args.plan.now)
 
-pub bounds-plan-i : goal.bounds-plan-i
-bounds-plan-i c = omega arith
+pub slice_bounds-encode_to_slice-end-2 : goal.slice_bounds-encode_to_slice-end-2
+slice_bounds-encode_to_slice-end-2 c = sym (length-take-le (2 * length c.args.plan.now) c.args.out.now (omega (arith, line-long c.args.plan.now)))
 
-pub put_hex-end-requires : goal.put_hex-end-requires
-put_hex-end-requires c = let at = c in
-    let plan = at.args.plan.now in
-    omega (arith, line-long (drop at.loop-i.i plan), length-drop at.loop-i.i plan)
+pub unwrap-requires : goal.unwrap-requires
+unwrap-requires c =
+    c.encode_to_slice.ensures.fits.1 (length-take-le (2 * length c.args.plan.now) c.args.out.now (omega (arith, line-long c.args.plan.now)))
 
-pub overflow_add-i : goal.overflow_add-i
-overflow_add-i c = omega arith
-
-pub loop-i-smaller : goal.loop-i-smaller
-loop-i-smaller c = omega arith
-
-pub loop-i-preserved : goal.loop-i-preserved
-loop-i-preserved c = let put = c in
-    let at = put in
-    let plan = at.args.plan.now in
-    (omega arith, omega arith, put_rest put.put_hex-end.ensures (put_as (line-more plan at.loop-i.i (omega arith)) at.loop-i.invariant.2))
-
-pub put_byte-requires : goal.put_byte-requires
-put_byte-requires c = let at = c in
-    let plan = at.args.plan.now in
-    omega (arith, line-long (drop at.loop-i.i plan))
-
-pub shape_of-out : goal.shape_of-out
-shape_of-out c = omega arith
+pub bounds-out-end : goal.bounds-out-end
+bounds-out-end c =
+    let long = line-long c.args.plan.now in
+    let front = length-take-le (2 * length c.args.plan.now) c.args.out.now (omega arith) in
+    omega (arith, length-append {A = ℕ}, length-drop {A = ℕ}, c.encode_to_slice.auto.output)
 
 pub returns : goal.returns
-returns c = let put = c in
-    let at = put in
-    let plan = at.args.plan.now in
-    put-end refl (put_rest put.put_byte.ensures (put_as (line-none plan at.loop-i.i (omega arith)) at.loop-i.invariant.2))
+returns c =
+    let long = line-long c.args.plan.now in
+    let written = rw c.unwrap.ensures at c.encode_to_slice.ensures.written in
+    let front = length-take-le (2 * length c.args.plan.now) c.args.out.now (omega arith) in
+    put-line c.args.plan.now (λ k. (c.type_inv.plan k).fits) written refl (omega (arith, long))
+    (record { stored = refl; ends = refl; room = omega (arith, length-append {A = ℕ}, length-drop {A = ℕ}, c.encode_to_slice.auto.output) })

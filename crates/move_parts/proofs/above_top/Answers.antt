@@ -9,16 +9,16 @@ use Rattle.model.specs.Model.{one_above}
 use Rattle.facts.specs.Facts.{facts_in}
 use Rattle.side.specs.Side.{side_of}
 use Rattle.place_cells.proofs.Stack.{top-kind, top_one, top-two}
-use Rattle.move_parts.specs.declared.Above.{Above}
+use Rattle.std.specs.Prelude.{Some, None}
 use Rattle.move_parts.specs.Moves.{Turns}
 use Rattle.move_parts.proofs.Held.{turns-one, turns-two}
 use Rattle.move_parts.proofs.Turns.{beside_none, beside-other}
 use Rattle.move_parts.proofs.above_top.Goals as goal
 
-not-off : {A : Type 0} (v : ℕ) → Above.Off ≡ Above.Rule v → A
+not-off : {A : Type 0} (v : ℕ) → None ≡ Some v → A
 not-off v q = let z : ◌≡◌ {A = ℕ} 0 1 = cc q in absurd (omega arith)
 
-same-rule : (u v : ℕ) → Above.Rule u ≡ Above.Rule v → v ≡ u
+same-rule : (u v : ℕ) → Some u ≡ Some v → v ≡ u
 same-rule u v q = cc q
 
 pub returns-then-k-eq0 : goal.returns-then-k-eq0

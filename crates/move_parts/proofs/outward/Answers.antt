@@ -15,10 +15,10 @@ use Rattle.move_parts.proofs.outward.Goals as goal
 pub above_top-requires : goal.above_top-requires
 above_top-requires c = held-less c.requires _ c.pop_run-j.ensures.0
 
-pub returns-in-Rule : goal.returns-in-Rule
+pub returns-in-Some : goal.returns-in-Some
 unfolding side_of reached Turned ReachedOf
-returns-in-Rule c = let a = c.args in let F = facts_in a.work.now in let s = a.cursor.now in let cs = cells_in s a.k in
-    let h = c.above_top.ensures.turns _ c.in-Rule.is in
+returns-in-Some c = let a = c.args in let F = facts_in a.work.now in let s = a.cursor.now in let cs = cells_in s a.k in
+    let h = c.above_top.ensures.turns _ c.in-Some.is in
     record {
       node = sym (outward-part F cs (ap (beside_top F Side.left) (sym c.pop_run-j.ensures.1) ∙ turning-beside h));
       turned = h;

@@ -1,6 +1,6 @@
 -- The rule that the cells stand at is a part or not. Assumes nothing.
 use mathlib.Core.Path.{sym, ap, ◌∙◌}
-use mathlib.Core.Option.{some}
+use Rattle.std.specs.Prelude.{Some}
 use native.Mathlib.Omega.{arith}
 use Rattle.forest.specs.Walk.{cells_in}
 use Rattle.model.specs.Model.{Node, is_part}
@@ -29,7 +29,7 @@ unfolding reached Turned ReachedOf is_part
 returns c = let a = c.args in let F = facts_in a.work.now in let s = a.cursor.now in let cs = cells_in s a.k in
     record {
       node =
-          ap (λ v. let n : Node = (v, cs) in some n) c.standing-at.ensures
+          ap (λ v. let n : Node = (v, cs) in Some n) c.standing-at.ensures
           ∙ sym (part-here F cs (ap is_part (sym (c.rule_at.ensures ∙ ap F.rule c.standing-at.ensures) ∙ c.in-Part.is)));
       turned = tt;
       keeps = omega arith;

@@ -6,7 +6,7 @@ use Rattle.facts.specs.Facts.{facts_in, In}
 use Rattle.side.specs.Side.{side_of}
 use Rattle.facts.proofs.Closes.{named-arms}
 use Rattle.facts.proofs.Rules.{other-part}
-use Rattle.moves.specs.declared.Arm.{Arm}
+use Rattle.std.specs.Prelude.{Some}
 use Rattle.moves.proofs.Arms.{arm-none, arm-empty, arm-tree}
 use Rattle.moves.proofs.arm_of.Goals as goal
 
@@ -36,5 +36,5 @@ representative_at-requires c = let a = c.args in
 pub returns : goal.returns
 returns c = let a = c.args in
     let its = sym c.rule_at.ensures ∙ c.in-Part.is in
-    ap Arm.Over c.representative_at.ensures
+    ap Some c.representative_at.ensures
     ∙ arm-tree (facts_in a.work.now) (side_of a.side) _ its c.pick-arm.ensures (sym c.is_empty_at.ensures ∙ c.if-is_empty_at.false)

@@ -2,7 +2,7 @@
 use Prim.Native.Nat.{ℕ}
 use mathlib.Core.Path.{sym, ap, ◌∙◌}
 use native.Mathlib.Omega.{arith}
-use mathlib.Core.Option.{some}
+use Rattle.std.specs.Prelude.{Some}
 use Rattle.forest.specs.Walk.{cells_in}
 use Rattle.model.specs.Model.{Node}
 use Rattle.facts.specs.Facts.{facts_in}
@@ -18,4 +18,4 @@ returns-then-k-eq0 c = let a = c.args in
 pub returns : goal.returns
 unfolding change_node Able AbleParent keep_of
 returns c = let a = c.args in let F = facts_in a.work.now in let s = a.cursor.now in let cs = cells_in s a.k in
-    decided (Change.Kept a.k c.standing-rule.result) (ap (λ (v : ℕ). let n : Node = (v, cs) in some n) c.standing-rule.ensures ∙ sym (node-here F s a.k (omega arith))) tt (omega arith)
+    decided (Change.Kept a.k c.standing-rule.result) (ap (λ (v : ℕ). let n : Node = (v, cs) in Some n) c.standing-rule.ensures ∙ sym (node-here F s a.k (omega arith))) tt (omega arith)

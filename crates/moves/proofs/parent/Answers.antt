@@ -1,11 +1,11 @@
 -- The part in whose hole the node stands, else the node below its row. Assumes nothing.
-use Prim.Native.Nat.{ℕ, zero, suc, ◌-◌}
-use mathlib.Core.Path.{◌≡◌, refl, sym, ap, ◌∙◌}
-use mathlib.Core.List.{List}
+use Prim.Native.Nat.{ℕ, ◌-◌}
+use mathlib.Core.Path.{refl, sym, ap, ◌∙◌}
 use native.Mathlib.Omega.{arith}
 use Rattle.forest.specs.Walk.{cells_in}
-use Rattle.model.specs.Model.{tail, below_row, node_at}
+use Rattle.model.specs.Model.{below_row, node_at}
 use Rattle.facts.specs.Facts.{facts_in}
+use Rattle.place_cells.proofs.Stack.{tail-cells}
 use Rattle.row_links.proofs.Linking.{row-most}
 use Rattle.row_links.proofs.Pieces.{below-linked}
 use Rattle.move_parts.specs.declared.Change.{Change}
@@ -13,11 +13,6 @@ use Rattle.move_parts.specs.Change.{spine_side, change_node, Able, AbleParent, k
 use Rattle.move_parts.proofs.Held.{held-less}
 use Rattle.move_parts.proofs.Outcomes.{found_turn, found-kept, found_none, decided, decided-is, decided-more, parent-part, parent-off}
 use Rattle.moves.proofs.parent.Goals as goal
-
-tail-cells : (s : List ℕ) (k : ℕ) → tail (cells_in s k) ≡ cells_in s (k - 1)
-unfolding tail cells_in
-tail-cells s zero = refl
-tail-cells s (suc k) = let e : k ≡ suc k - 1 = omega arith in ap (cells_in s) e
 
 pub node_at-requires : goal.node_at-requires
 node_at-requires c = let u = c.under.result in let s = c.args.cursor.now in

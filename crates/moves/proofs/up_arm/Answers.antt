@@ -42,9 +42,9 @@ arm_of-requires-in-Kept c =
     let h = c.requires in
     (h.rows, found-rule (In t) (found-kept c.outward.ensures c.in-Kept.is).0 (outward-kept (facts_in t) (In t) h.rows (cells_in a.cursor.now a.k) h.cells))
 
-pub returns-in-Over : goal.returns-in-Over
+pub returns-in-Some : goal.returns-in-Some
 unfolding side_of turned other change_node entry_side Able AbleSibling keep_of up
-returns-in-Over c p =
+returns-in-Some c p =
     let a = c.args in
     let s = a.cursor.now in
     let F = facts_in a.work.now in
@@ -53,24 +53,24 @@ returns-in-Over c p =
     let row : In a.work.now c.last_at-rule.result = rw c.last_at-rule.ensures (c.requires.rows.ends Side.right _ to) in
     has-tree a.work.now s a.k (side_of a.side) (p, cells_in s a.k) turn.0
     (c.last_at-rule.ensures ∙ ap (F.last Side.right) c.toward_at-to.ensures) c.arm_of.ensures
-    (Change.Beside c.in-Turn.keep c.in-Turn.above c.part_row-number.result c.in-Over.over)
-    c.in-Over.is c.part_row-number.ensures refl c.requires.rows row
+    (Change.Beside c.in-Turn.keep c.in-Turn.above c.part_row-number.result c.in-Some.over)
+    c.in-Some.is c.part_row-number.ensures refl c.requires.rows row
     (λ within. (turn.1, within)) turn.2
 
-pub returns-in-Empty : goal.returns-in-Empty
+pub returns-in-None : goal.returns-in-None
 unfolding side_of turned other up
-returns-in-Empty c p =
+returns-in-None c p =
     let a = c.args in
     let s = a.cursor.now in
     let F = facts_in a.work.now in
     let turn = found_turn c.outward.ensures c.in-Turn.is in
     is-empty a.work.now s a.k (side_of a.side) (p, cells_in s a.k) turn.0
     (c.last_at-rule.ensures ∙ ap (F.last Side.right) c.toward_at-to.ensures)
-    c.arm_of.ensures c.in-Empty.is
+    c.arm_of.ensures c.in-None.is
 
-pub returns-in-Over-arm_of : goal.returns-in-Over-arm_of
+pub returns-in-Some-arm_of : goal.returns-in-Some-arm_of
 unfolding change_node entry_side Able AbleSibling keep_of up
-returns-in-Over-arm_of c p =
+returns-in-Some-arm_of c p =
     let a = c.args in
     let s = a.cursor.now in
     let t = a.work.now in
@@ -78,18 +78,18 @@ returns-in-Over-arm_of c p =
     let part = found-kept c.outward.ensures c.in-Kept.is in
     let row = found-rule (In t) part.0 (outward-kept (facts_in t) (In t) h.rows (cells_in s a.k) h.cells) in
     has-tree t s a.k (side_of a.side) (p, cells_in s a.k) part.0 refl c.arm_of-in-Kept.ensures
-    (Change.Row c.in-Kept.keep c.part_row-number-in-Over-arm_of.result c.in-Over-arm_of.over)
-    c.in-Over-arm_of.is c.part_row-number-in-Over-arm_of.ensures refl h.rows row
+    (Change.Row c.in-Kept.keep c.part_row-number-in-Some-arm_of.result c.in-Some-arm_of.over)
+    c.in-Some-arm_of.is c.part_row-number-in-Some-arm_of.ensures refl h.rows row
     (λ within. within) part.1
 
-pub returns-in-Empty-arm_of : goal.returns-in-Empty-arm_of
+pub returns-in-None-arm_of : goal.returns-in-None-arm_of
 unfolding up
-returns-in-Empty-arm_of c p =
+returns-in-None-arm_of c p =
     let a = c.args in
     let s = a.cursor.now in
     let part = found-kept c.outward.ensures c.in-Kept.is in
     is-empty a.work.now s a.k (side_of a.side) (p, cells_in s a.k) part.0 refl
-    c.arm_of-in-Kept.ensures c.in-Empty-arm_of.is
+    c.arm_of-in-Kept.ensures c.in-None-arm_of.is
 
 pub returns-in-Off : goal.returns-in-Off
 unfolding ArmUp up

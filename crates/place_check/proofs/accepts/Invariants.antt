@@ -1,5 +1,4 @@
 -- The loop's invariant: the state is that of the first i cells. Assumes nothing.
-use Prim.Native.Nat.{◌-◌, ◌≤◌}
 use mathlib.Core.Path.{◌≡◌}
 use Rattle.forest.specs.Walk.{cells_in}
 use Rattle.model.specs.Stored.{state_after}
@@ -8,7 +7,4 @@ use Rattle.place_check.specs.States.{state_of}
 use Rattle.place_check.proofs.accepts.Given as goal
 
 abbrev pub invariant-loop-i : goal.invariant-loop-i
-invariant-loop-i l = (l.i ≤ l.k) × (state_of l.state ≡ state_after (facts_in l.work) l.r (cells_in l.cursor l.i))
-
-abbrev pub decreases-loop-i : goal.decreases-loop-i
-decreases-loop-i l = l.k - l.i
+invariant-loop-i l = state_of l.state ≡ state_after (facts_in l.work) l.r (cells_in l.cursor l.i)

@@ -11,12 +11,12 @@ returns-in_default c = rw c.in_default.is
 
 pub representative_at-requires : goal.representative_at-requires
 unfolding MaybeHas
-representative_at-requires c = rw c.in-Rule.is at c.requires
+representative_at-requires c = rw c.in-Some.is at c.requires
 
 pub returns-then-v-representative_at : goal.returns-then-v-representative_at
 unfolding after_row
-returns-then-v-representative_at c = rw (c.in-Rule.is, eq-eqb _ _ (c.if-v-representative_at.true ∙ c.representative_at.ensures))
+returns-then-v-representative_at c = rw (c.in-Some.is, eq-eqb _ _ (c.if-v-representative_at.true ∙ c.representative_at.ensures))
 
 pub returns : goal.returns
 unfolding after_row
-returns c = rw (c.in-Rule.is, ne_eqb _ _ (λ q. c.if-v-representative_at.false (q ∙ sym c.representative_at.ensures)))
+returns c = rw (c.in-Some.is, ne_eqb _ _ (λ q. c.if-v-representative_at.false (q ∙ sym c.representative_at.ensures)))

@@ -8,4 +8,4 @@ returns-in_default c = rw c.in_default.is
 
 pub returns : goal.returns
 unfolding is_that
-returns c = rw c.in-Rule.is
+returns c = rw c.in-Some.is

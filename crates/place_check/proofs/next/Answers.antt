@@ -1,7 +1,7 @@
 -- Each return is a form of cell. Assumes nothing.
 use Prim.Native.Nat.{ℕ}
 use mathlib.Core.Path.{sym, ap, ◌∙◌}
-use mathlib.Core.Option.{Option}
+use Rattle.std.specs.Prelude.{Option}
 use Rattle.forest.specs.Place.{Side, cell_run}
 use Rattle.model.specs.Stored.{after_row, next}
 use Rattle.side.specs.Side.{side_of}
@@ -16,9 +16,6 @@ unfolding next
 returns-then-cell-ne0 c = let a = c.args in let F = facts_in a.work.now in let w = words a.cell in let st = state_of a.state in
     sym (ap (next F a.r st) (form-three w c.if-cell-ne0.true))
 
-pub row_in-requires : goal.row_in-requires
-row_in-requires c = c.requires.3
-
 pub after_row-requires : goal.after_row-requires
 after_row-requires c = let a = c.args in let F = facts_in a.work.now in let w = words a.cell in let st = state_of a.state in
     rw c.row_in.ensures (row-in-has F (In a.work.now) c.requires.0 a.r st a.cell.one c.requires.2 c.requires.3)
@@ -28,9 +25,6 @@ unfolding next
 returns-then-cell-eq-ROW c = let a = c.args in let F = facts_in a.work.now in let w = words a.cell in let st = state_of a.state in
     c.after_row.ensures ∙ ap (λ (m : Option ℕ). after_row F m a.cell.two) c.row_in.ensures
     ∙ sym (ap (next F a.r st) (form-row w c.if-cell-ne0.false c.if-cell-eq-ROW.true))
-
-pub after_spine-requires : goal.after_spine-requires
-after_spine-requires c = c.requires.3
 
 pub returns-then-cell-eq0 : goal.returns-then-cell-eq0
 unfolding next after_spine
@@ -42,16 +36,10 @@ unfolding next
 returns-then-cell-eq-SPINE c = let a = c.args in let F = facts_in a.work.now in let w = words a.cell in let st = state_of a.state in
     sym (ap (next F a.r st) (form-two w c.if-cell-ne0.false c.if-cell-eq-SPINE.true c.if-cell-eq0.false))
 
-pub after_run-requires : goal.after_run-requires
-after_run-requires c = (c.requires.0, c.requires.1, c.requires.3)
-
 pub returns-then-cell-eq-LEFT : goal.returns-then-cell-eq-LEFT
 unfolding next side_of cell_run
 returns-then-cell-eq-LEFT c = let a = c.args in let F = facts_in a.work.now in let w = words a.cell in let st = state_of a.state in
     c.after_run.ensures ∙ sym (ap (next F a.r st) (form-run w c.if-cell-ne0.false Side.left c.if-cell-eq-LEFT.true))
-
-pub after_run-requires-then-cell-eq-RIGHT : goal.after_run-requires-then-cell-eq-RIGHT
-after_run-requires-then-cell-eq-RIGHT c = (c.requires.0, c.requires.1, c.requires.3)
 
 pub returns-then-cell-eq-RIGHT : goal.returns-then-cell-eq-RIGHT
 unfolding next side_of cell_run

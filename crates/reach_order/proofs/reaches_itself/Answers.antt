@@ -1,11 +1,8 @@
 -- The search begins with the rules that rule i names (`follow-begins`). Assumes nothing.
 use Rattle.words.proofs.Within.{within_both}
-use Rattle.reach_order.proofs.Placing.{record-inside, ready-kept}
+use Rattle.reach_order.proofs.Placing.{ready-kept}
 use Rattle.reach_order.proofs.Queues.{read-lists, follow-begins, marks-within, marks-ready, marks-blank, marks-none}
 use Rattle.reach_order.proofs.reaches_itself.Goals as goal
-
-pub names_at-requires : goal.names_at-requires
-names_at-requires c = let p = c.requires in record-inside p.0 p.1
 
 pub enqueue_all-m-requires : goal.enqueue_all-m-requires
 enqueue_all-m-requires c = let p = c.requires in let e = c.clear.ensures in read-lists (marks-ready p.0 e) p.1 c.names_at.ensures (marks-none p.0 e)

@@ -1,16 +1,9 @@
 -- The invariant: the search goes on from where it began. The measure: each turn opens a rule or closes one. Assumes nothing.
-use Prim.Native.Nat.{◌-◌}
 use native.Mathlib.Omega.{arith}
 use Rattle.reach_order.proofs.Placing.{ready-kept}
-use Rattle.reach_order.proofs.Turns.{grown-none, grown-both, search-room}
+use Rattle.reach_order.proofs.Turns.{grown-both, search-room}
 use Rattle.reach_order.proofs.Runs.{made-opened, made-closed, run-again, run-cycle, run-done}
 use Rattle.reach_order.proofs.run.Goals as goal
-
-pub loop-top-init : goal.loop-top-init
-loop-top-init c = let p = c.requires in (p.0, p.1, grown-none _ _)
-
-pub turn-requires : goal.turn-requires
-turn-requires c = let v = c.loop-top.invariant in (v.0, v.1, c.loop-top-test.true)
 
 pub overflow_add-top : goal.overflow_add-top
 overflow_add-top c = let v = c.loop-top.invariant in omega (arith, v.0.few, search-room v.0 v.1)
@@ -21,9 +14,6 @@ loop-top-smaller-in-Opened c = let v = c.loop-top.invariant in omega (arith, sea
 pub loop-top-preserved-in-Opened : goal.loop-top-preserved-in-Opened
 loop-top-preserved-in-Opened c = let v = c.loop-top.invariant in run-again v c.turn.ensures.grown (made-opened c.turn.ensures c.in-Opened.is)
 
-pub overflow_sub-top : goal.overflow_sub-top
-overflow_sub-top c = omega arith
-
 pub overflow_add-done : goal.overflow_add-done
 overflow_add-done c = let v = c.loop-top.invariant in omega (arith, v.0.few, search-room v.0 v.1)
 
@@ -33,14 +23,8 @@ loop-top-smaller c = let v = c.loop-top.invariant in omega (arith, search-room v
 pub loop-top-preserved : goal.loop-top-preserved
 loop-top-preserved c = let v = c.loop-top.invariant in run-again v c.turn.ensures.grown (made-closed c.turn.ensures c.in-Closed.is)
 
-pub shape_of-room-in-Cycle : goal.shape_of-room-in-Cycle
-shape_of-room-in-Cycle c = let v = c.loop-top.invariant in (grown-both v.2 c.turn.ensures.grown).within.same_length
-
 pub returns-in-Cycle : goal.returns-in-Cycle
 returns-in-Cycle c = let v = c.loop-top.invariant in run-cycle c.turn.ensures (grown-both v.2 c.turn.ensures.grown) c.in-Cycle.is
-
-pub shape_of-room : goal.shape_of-room
-shape_of-room c = c.loop-top.invariant.2.within.same_length
 
 pub returns : goal.returns
 returns c = let v = c.loop-top.invariant in run-done v.2 v.1 (omega arith)

@@ -1,7 +1,7 @@
 -- A rule that was seen is left alone (`visited-before`); another is the first on the stack (`visit-begins`). Assumes nothing.
 use mathlib.Core.Path.{sym, ◌∙◌}
 use native.Mathlib.Omega.{arith}
-use Rattle.reach_order.proofs.Runs.{visited-before, visit-begins, visited-run}
+use Rattle.reach_order.proofs.Runs.{visited-before, visit-begins}
 use Rattle.reach_order.proofs.visit.Goals as goal
 
 pub returns-then-mark-ne-UNSEEN : goal.returns-then-mark-ne-UNSEEN
@@ -9,6 +9,3 @@ returns-then-mark-ne-UNSEEN c = visited-before c.requires.1 (λ e. c.if-mark-ne-
 
 pub run-requires : goal.run-requires
 run-requires c = let p = c.requires in visit-begins p.0 p.1 p.2 (sym c.mark.ensures ∙ c.if-mark-ne-UNSEEN.false) (omega arith) c.place.ensures
-
-pub returns : goal.returns
-returns c = visited-run c.requires.2 c.place.ensures c.run.ensures

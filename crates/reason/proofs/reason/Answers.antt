@@ -2,34 +2,25 @@
 use native.Mathlib.Omega.{arith}
 use mathlib.Core.Path.{sym, ◌∙◌}
 use Rattle.forest.specs.Outcome.{work_words}
-use Rattle.reason.proofs.Outcome.{askable, turned_down_lem, finished}
-use borrow.Author.Rules.{rules}
+use Rattle.walk_lent.proofs.Judged.{judged}
+use Rattle.reason.proofs.Outcome.{turned_down_lem, finished}
+use Rattle.refusal.proofs.Passed.{handed-on}
 use Rattle.reason.proofs.reason.Goals as goal
 
 pub of_byte-answer-requires : goal.of_byte-answer-requires
-of_byte-answer-requires c = let matched = c in
-    let past-judge = matched in
-    askable _ _ _ (sym past-judge.judge.ensures ∙ matched.in-Accepted.is)
+of_byte-answer-requires c = judged _ _ _ (sym c.judge.ensures ∙ c.in_ok-accepted.was)
 
 -- by computation, for n rules and for none
 pub clear_work-requires : goal.clear_work-requires
 unfolding work_words
-clear_work-requires c = let past-byte = c in
-    let matched = past-byte in
-    let past-judge = matched in
-    let lent = askable _ _ _ (sym past-judge.judge.ensures ∙ matched.in-Accepted.is) in
+clear_work-requires c = let lent = judged _ _ _ (sym c.judge.ensures ∙ c.in_ok-accepted.was) in
     let room = lent.words in
-    let same = past-byte.of_byte-answer.ensures.1.same_length in
+    let same = c.of_byte-answer.ensures.1.same_length in
     omega arith
 
-pub returns-in-Accepted : goal.returns-in-Accepted
-returns-in-Accepted c = let past-clear = c in
-    let past-byte = past-clear in
-    let matched = past-byte in
-    let accepted = sym matched.judge.ensures ∙ matched.in-Accepted.is in
-    let answer = past-byte.of_byte-answer.ensures in
-    finished _ _ _ _ accepted answer.0 answer.1 past-clear.clear_work.ensures
+pub returns : goal.returns
+returns c = let answer = c.of_byte-answer.ensures in
+    finished _ _ _ _ (sym c.judge.ensures ∙ c.in_ok-accepted.was) answer.0 answer.1 c.clear_work.ensures
 
-pub returns-in-Refused : goal.returns-in-Refused
-returns-in-Refused c = let matched = c in
-    turned_down_lem _ _ _ _ (sym matched.judge.ensures ∙ matched.in-Refused.is)
+pub returns-in_err-accepted : goal.returns-in_err-accepted
+returns-in_err-accepted c = rw (handed-on c.from_residual.result c.from_residual.ensures.1) (turned_down_lem _ _ _ _ (sym c.judge.ensures ∙ c.in_err-accepted.was))

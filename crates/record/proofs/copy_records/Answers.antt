@@ -1,5 +1,5 @@
 -- `copy_records` reads and writes record after record: the loop's invariant is the contract at i. Assumes nothing.
-use Prim.Native.Nat.{ℕ, ◌+◌, ◌-◌, ◌*◌}
+use Prim.Native.Nat.{ℕ, ◌+◌, ◌*◌}
 use mathlib.Core.Path.{◌≡◌, refl, sym, ap, ap₂, ◌∙◌}
 use mathlib.Core.List.{List, ◌++◌}
 use native.Mathlib.Omega.{arith}
@@ -11,11 +11,8 @@ use Rattle.record.proofs.Formats.{record-lies}
 use Rattle.record.proofs.Copied.{copied, copied_none, copied_more}
 use Rattle.record.proofs.copy_records.Goals as goal
 
-pub length-length-requires : goal.length-length-requires
-length-length-requires c = tt
-
 pub loop-i-init : goal.loop-i-init
-loop-i-init c = let a = c.args in (omega arith, sym (copied_none a.format a.s.now _ a.out.now), omega arith)
+loop-i-init c = let a = c.args in (sym (copied_none a.format a.s.now _ a.out.now), omega arith)
 
 pub overflow_mul-length : goal.overflow_mul-length
 overflow_mul-length c = let lies = record-lies c.args.format c.loop-i-test.true in rw c.length-length.ensures (omega (arith, lies))
@@ -32,20 +29,13 @@ overflow_mul-length-in-loop-i c = let lies = record-lies c.args.format c.loop-i-
 pub write-requires : goal.write-requires
 write-requires c = let lies = record-lies c.args.format c.loop-i-test.true in rw c.length-length.ensures (omega (arith, lies))
 
-pub overflow_add-i : goal.overflow_add-i
-overflow_add-i c = omega arith
-
-pub loop-i-smaller : goal.loop-i-smaller
-loop-i-smaller c = omega arith
-
 pub loop-i-preserved : goal.loop-i-preserved
 loop-i-preserved c = let a = c.args in
     let f = a.format in
     let i = c.loop-i.i in
     let long = c.length-length.ensures in (
-      omega arith,
       (rw long at c.write.ensures)
-          ∙ ap₂ (λ (l : List ℕ) (w : Record). take (length_of_record f * i) l ++ (record_bytes f w ++ drop (length_of_record f * i + length_of_record f) l)) c.loop-i.invariant.1 (rw long at c.read.ensures)
+          ∙ ap₂ (λ (l : List ℕ) (w : Record). take (length_of_record f * i) l ++ (record_bytes f w ++ drop (length_of_record f * i + length_of_record f) l)) c.loop-i.invariant.0 (rw long at c.read.ensures)
           ∙ copied_more f a.s.now a.first i a.out.now _ refl,
       omega arith,
     )
@@ -57,4 +47,4 @@ pub returns : goal.returns
 unfolding copied
 returns c = let a = c.args in
     let e : c.loop-i.i ≡ a.n = omega arith in
-    c.loop-i.invariant.1 ∙ ap (λ (k : ℕ). copied a.format a.s.now a.first k a.out.now) e
+    c.loop-i.invariant.0 ∙ ap (λ (k : ℕ). copied a.format a.s.now a.first k a.out.now) e

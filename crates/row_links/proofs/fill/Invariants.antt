@@ -1,11 +1,7 @@
 -- The loop's invariant: the links are those of the first i cells. Assumes nothing.
-use Prim.Native.Nat.{◌-◌, ◌≤◌}
 use Rattle.forest.specs.Walk.{cells_in}
 use Rattle.row_links.specs.Links.{Linkable, Linked, Relinked}
 use Rattle.row_links.proofs.fill.Given as goal
 
 abbrev pub invariant-loop-i : goal.invariant-loop-i
-invariant-loop-i l = (l.i ≤ l.k) × Linkable l.rows l.cursor l.k × Linked l.rows l.cursor (cells_in l.cursor l.i) × Relinked l.rows l.k l.initial.cursor l.cursor
-
-abbrev pub decreases-loop-i : goal.decreases-loop-i
-decreases-loop-i l = l.k - l.i
+invariant-loop-i l = Linkable l.rows l.cursor l.k × Linked l.rows l.cursor (cells_in l.cursor l.i) × Relinked l.rows l.k l.initial.cursor l.cursor

@@ -1,5 +1,5 @@
 -- The loop's invariant: the row is that which the first m of k cells end in, for some m from t on. Assumes nothing.
-use Prim.Native.Nat.{ℕ, ◌-◌, ◌≤◌}
+use Prim.Native.Nat.{ℕ, ◌≤◌}
 use mathlib.Core.Path.{◌≡◌}
 use Rattle.forest.specs.Walk.{cells_in}
 use Rattle.row_links.specs.Links.{row_on}

@@ -10,15 +10,10 @@ returns-then-not-is_length c = let a = c.args in
     let r = sealed-no-length a.words.now a.record_length a.start a.out.now (sym c.is_length.ensures ∙ c.if-not-is_length.true) in
     (sym r.0, sym r.1)
 
-pub write_plan-requires : goal.write_plan-requires
-write_plan-requires c = c.sealing-answer.ensures _ refl
-
 pub returns : goal.returns
-returns c = let asked = c in
-    let e = (let the-answer-is : (let a = asked.args in
-    asked.sealing-answer.result ≡ sealed a.words.now a.record_length a.start a.out.now) = let a = asked.args in
-    let tested = asked in
-    asked.sealing-answer.ensures _ refl
-    ∙ sealed-length a.words.now a.record_length a.start a.out.now _ asked.format_for-format.ensures
-    (sym tested.is_length.ensures ∙ asked.if-not-is_length.false) in the-answer-is) in
-    (e, sealed-output _ _ _ _ _ _ _ asked.format_for-format.ensures e c.write_plan.ensures)
+returns c = let a = c.args in
+    let e : c.sealing-answer.result ≡ sealed a.words.now a.record_length a.start a.out.now =
+    c.sealing-answer.ensures _ refl
+    ∙ sealed-length a.words.now a.record_length a.start a.out.now _ c.format_for-format.ensures
+    (sym c.is_length.ensures ∙ c.if-not-is_length.false) in
+    (e, sealed-output _ _ _ _ _ _ _ c.format_for-format.ensures e c.write_plan.ensures)

@@ -1,13 +1,9 @@
 -- `sealing` makes the definition's tests in their order; each answer is the law for the tests that led there. Assumes nothing.
-use Prim.Native.Nat.{◌*◌, ◌≤◌, ◌%◌}
-use mathlib.Core.Path.{◌≡◌, sym, ◌∙◌}
-use mathlib.Core.Bool.{true, ◌&&◌}
+use mathlib.Core.Path.{sym, ◌∙◌}
+use mathlib.Core.Bool.{true}
 use native.Mathlib.Omega.{arith}
-use lib.Dec.{eqb}
-use Rattle.words.specs.Number.{word_count}
-use Rattle.record.specs.Format.{record_words}
-use Rattle.record.proofs.Formats.{records-most}
-use Rattle.plan.specs.Check.{most_rules, in_limits}
+use Rattle.refusal.proofs.Passed.{handed-on}
+use Rattle.plan.specs.Check.{most_rules}
 use Rattle.seal.proofs.Sealed.{not-counted, counted-few, not-fine, no_room, room-enough, given-fits}
 use Rattle.seal.proofs.sealing.Goals as goal
 
@@ -15,60 +11,32 @@ pub returns-then-not-counted : goal.returns-then-not-counted
 returns-then-not-counted c out e = let a = c.args in
     sym (not-counted a.format most_rules a.words.now a.start out _ c.given_count-n.ensures (sym c.counted.ensures ∙ c.if-not-counted.true))
 
-pub overflow_cast-n : goal.overflow_cast-n
-overflow_cast-n c = omega (
+pub overflow_cast-rules : goal.overflow_cast-rules
+overflow_cast-rules c = omega (
   arith,
-  (let the-few : (c.given_count-n.result ≤ most_rules) = let a = c.args in
-      counted-few a.format most_rules a.words.now a.start a.words.now _ c.given_count-n.ensures ((let the-passed : (let a = c.args in
-      (eqb (word_count a.words.now % record_words a.format) 0 && in_limits most_rules c.given_count-n.result) ≡ true) = sym c.counted.ensures ∙ c.if-not-counted.false in the-passed)) in the-few),
+  (counted-few c.args.format most_rules c.args.words.now c.args.start c.args.words.now _ c.given_count-n.ensures (sym c.counted.ensures ∙ c.if-not-counted.false)),
 )
 
-pub judge_words-requires : goal.judge_words-requires
-judge_words-requires c = (
-  omega (arith, given-fits c.args.format _ _ c.given_count-n.ensures),
-  (let the-few : (c.given_count-n.result ≤ most_rules) = let a = c.args in
-      counted-few a.format most_rules a.words.now a.start a.words.now _ c.given_count-n.ensures ((let the-passed : (let a = c.args in
-      (eqb (word_count a.words.now % record_words a.format) 0 && in_limits most_rules c.given_count-n.result) ≡ true) = sym c.counted.ensures ∙ c.if-not-counted.false in the-passed)) in the-few),
-)
+pub invariant_of-rules : goal.invariant_of-rules
+invariant_of-rules c = omega (arith, given-fits c.args.format _ _ c.given_count-n.ensures)
 
-pub overflow_mul-need : goal.overflow_mul-need
-overflow_mul-need c = omega (
-  arith,
-  (let the-short : (c.length.result * c.given_count-n.result ≤ 10 * most_rules) = let few = (let the-few : (c.given_count-n.result ≤ most_rules) = let a = c.args in
-      counted-few a.format most_rules a.words.now a.start a.words.now _ c.given_count-n.ensures ((let the-passed : (let a = c.args in
-      (eqb (word_count a.words.now % record_words a.format) 0 && in_limits most_rules c.given_count-n.result) ≡ true) = sym c.counted.ensures ∙ c.if-not-counted.false in the-passed)) in the-few) in
-      let most = records-most c.args.format c.given_count-n.result in
-      rw c.length.ensures (omega (arith, few, most)) in the-short),
-)
-
-pub overflow_add-need : goal.overflow_add-need
-overflow_add-need c = omega (
-  arith,
-  (let the-short : (c.length.result * c.given_count-n.result ≤ 10 * most_rules) = let few = (let the-few : (c.given_count-n.result ≤ most_rules) = let a = c.args in
-      counted-few a.format most_rules a.words.now a.start a.words.now _ c.given_count-n.ensures ((let the-passed : (let a = c.args in
-      (eqb (word_count a.words.now % record_words a.format) 0 && in_limits most_rules c.given_count-n.result) ≡ true) = sym c.counted.ensures ∙ c.if-not-counted.false in the-passed)) in the-few) in
-      let most = records-most c.args.format c.given_count-n.result in
-      rw c.length.ensures (omega (arith, few, most)) in the-short),
-)
+pub judge_rules-requires : goal.judge_rules-requires
+judge_rules-requires c =
+    (counted-few c.args.format most_rules c.args.words.now c.args.start c.args.words.now _ c.given_count-n.ensures (sym c.counted.ensures ∙ c.if-not-counted.false))
 
 pub returns-then-room-need : goal.returns-then-room-need
 returns-then-room-need c out e = let a = c.args in
-    let asked = c in
     let l = c.length.ensures in
     let t = rw l at c.if-room-need.true in
-    sym (no_room a.format most_rules a.words.now a.start out _ c.given_count-n.ensures ((let the-passed : (let a = asked.args in
-    (eqb (word_count a.words.now % record_words a.format) 0 && in_limits most_rules asked.given_count-n.result) ≡ true) = sym asked.counted.ensures ∙ asked.if-not-counted.false in the-passed)) _ asked.judge_words.ensures c.in-Fine.is (omega (arith, t)))
+    sym (no_room a.format most_rules a.words.now a.start out _ c.given_count-n.ensures (sym c.counted.ensures ∙ c.if-not-counted.false) _ c.judge_rules.ensures c.in_ok-judge_rules.was (omega (arith, t)))
 
-pub returns-in-Refused : goal.returns-in-Refused
-returns-in-Refused c out e = let a = c.args in
-    let asked = c in
-    sym (not-fine a.format most_rules a.words.now a.start out _ c.given_count-n.ensures ((let the-passed : (let a = asked.args in
-    (eqb (word_count a.words.now % record_words a.format) 0 && in_limits most_rules asked.given_count-n.result) ≡ true) = sym asked.counted.ensures ∙ asked.if-not-counted.false in the-passed)) _ asked.judge_words.ensures _ c.in-Refused.is)
+pub returns-in_err-judge_rules : goal.returns-in_err-judge_rules
+returns-in_err-judge_rules c out e = let a = c.args in
+    handed-on c.from_residual.result c.from_residual.ensures.1
+    ∙ sym (not-fine a.format most_rules a.words.now a.start out _ c.given_count-n.ensures (sym c.counted.ensures ∙ c.if-not-counted.false) _ c.judge_rules.ensures _ c.in_err-judge_rules.was)
 
-pub returns-else-room-need : goal.returns-else-room-need
-returns-else-room-need c out e = let a = c.args in
-    let asked = c in
+pub returns : goal.returns
+returns c out e = let a = c.args in
     let l = c.length.ensures in
     let t = rw l at c.if-room-need.false in
-    sym (rw l (room-enough a.format most_rules a.words.now a.start out _ c.given_count-n.ensures ((let the-passed : (let a = asked.args in
-    (eqb (word_count a.words.now % record_words a.format) 0 && in_limits most_rules asked.given_count-n.result) ≡ true) = sym asked.counted.ensures ∙ asked.if-not-counted.false in the-passed)) _ asked.judge_words.ensures c.in-Fine.is (omega (arith, t))))
+    sym (rw l (room-enough a.format most_rules a.words.now a.start out _ c.given_count-n.ensures (sym c.counted.ensures ∙ c.if-not-counted.false) _ c.judge_rules.ensures c.in_ok-judge_rules.was (omega (arith, t))))

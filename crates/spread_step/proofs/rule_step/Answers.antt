@@ -1,6 +1,5 @@
 -- Each arm is the definition's; the rules named have rows, so their tasks can be read. Assumes nothing.
 use Rattle.rule.specs.Names.{pair_one, pair_two, node_one, fill_one, fill_two, join_one, join_two}
-use Rattle.spread_step.specs.Step.{rule_step}
 use Rattle.spread_step.proofs.Named.{at-rule, named-room, named-few}
 use native.Mathlib.Omega.{arith}
 use Rattle.spread_step.proofs.rule_step.Goals as goal
@@ -29,25 +28,6 @@ part_step-requires c = at-rule c.in-Part.is c.requires
 pub join_step-requires : goal.join_step-requires
 join_step-requires c = let h = at-rule c.in-Join.is c.requires in
     (named-few h _ join_one, named-few h _ join_two)
-
-pub returns-in-Empty : goal.returns-in-Empty
-unfolding rule_step
-returns-in-Empty c = rw c.in-Empty.is c.nothing.ensures
-
-pub returns-in-Pair : goal.returns-in-Pair
-unfolding rule_step
-returns-in-Pair c = rw (c.in-Pair.is, ← c.whole.ensures, ← c.whole-in-Pair.ensures) c.nothing-in-Pair.ensures
-
-pub returns-in-Node : goal.returns-in-Node
-unfolding rule_step
-returns-in-Node c = rw (c.in-Node.is, ← c.whole-in-Node.ensures) c.opening.ensures
-
-pub returns-in-Fill : goal.returns-in-Fill
-unfolding rule_step
-returns-in-Fill c = rw (c.in-Fill.is, ← c.task.ensures, ← c.whole-in-Fill.ensures, ← c.task-in-Fill.ensures) c.nothing-in-Fill.ensures
-
-pub returns-in-Part : goal.returns-in-Part
-returns-in-Part c = rw c.in-Part.is c.part_step.ensures
 
 pub returns-in-Join : goal.returns-in-Join
 returns-in-Join c = rw c.in-Join.is (c.join_step.ensures _ _)

@@ -14,13 +14,13 @@ pub put_lines-requires : goal.put_lines-requires
 put_lines-requires c = let start = c in
     let few = start.requires.0.few in
     let walk = c.walk_above in
-    let short = walk.ensures.short c.in-Accepted.is in
+    let short = walk.ensures.short c.in-Ok.is in
     (omega (arith, walk.auto, length-replicate {0} {A = ℕ} 16384 0), omega arith)
 
-pub returns-in-Accepted : goal.returns-in-Accepted
-returns-in-Accepted c = put_as (c.walk_above.ensures.said c.in-Accepted.is)
+pub returns-in-Ok : goal.returns-in-Ok
+returns-in-Ok c = put_as (c.walk_above.ensures.said c.in-Ok.is)
     c.put_lines.ensures
 
-pub returns-in-Refused : goal.returns-in-Refused
-returns-in-Refused c = put_as (c.walk_above.ensures.refused _ c.in-Refused.is)
+pub returns-in-Err : goal.returns-in-Err
+returns-in-Err c = put_as (c.walk_above.ensures.refused _ c.in-Err.is)
     c.put_refusal.ensures

@@ -11,12 +11,12 @@ returns-then-plan-gt-MOST_PLAN c = let a = c.args in
     put-printed (put_as (sym (plan-too-long a.plan.now a.letters.now c.if-plan-gt-MOST_PLAN.true)) c.put_refusal.ensures)
 
 pub stroll_letters-requires : goal.stroll_letters-requires
-stroll_letters-requires c = (record { n = _; start = _; accepted = sym c.check_up_to.ensures ∙ c.in-Accepted.is }, omega arith)
+stroll_letters-requires c = (record { n = _; start = _; accepted = sym c.check_up_to.ensures ∙ c.in-Ok.is }, omega arith)
 
-pub returns-in-Accepted : goal.returns-in-Accepted
-returns-in-Accepted c = let a = c.args in
+pub returns-in-Ok : goal.returns-in-Ok
+returns-in-Ok c = let a = c.args in
     put-printed (put_as (sym (plan-checked a.plan.now a.letters.now c.if-plan-gt-MOST_PLAN.false)) c.stroll_letters.ensures)
 
-pub returns-in-Refused : goal.returns-in-Refused
-returns-in-Refused c = let a = c.args in
-    put-printed (put_as (sym (plan-refused a.plan.now a.letters.now c.if-plan-gt-MOST_PLAN.false _ (sym c.check_up_to.ensures ∙ c.in-Refused.is))) c.put_refusal-in-Refused.ensures)
+pub returns-in-Err : goal.returns-in-Err
+returns-in-Err c = let a = c.args in
+    put-printed (put_as (sym (plan-refused a.plan.now a.letters.now c.if-plan-gt-MOST_PLAN.false _ (sym c.check_up_to.ensures ∙ c.in-Err.is))) c.put_refusal-in-Err.ensures)

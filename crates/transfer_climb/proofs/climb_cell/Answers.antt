@@ -50,7 +50,9 @@ returns-then-kind-ne-ROW c = let past-spine = c in
     let past-right = past-spine in
     let past-read = past-right in
     let entry = past-read in
-    took-same (other-spot _ _ _ _ _ past-read.read-cell.ensures past-right.if-kind-eq-RIGHT.false past-spine.if-kind-eq-SPINE.false c.if-kind-ne-ROW.true) (took-here entry.requires.3)
+    took-same
+    (other-spot _ _ _ _ _ past-read.read-cell.ensures past-right.if-kind-eq-RIGHT.false past-spine.if-kind-eq-SPINE.false c.if-kind-ne-ROW.true)
+    (took-here entry.requires.3)
 
 pub returns-then-i-eq1 : goal.returns-then-i-eq1
 returns-then-i-eq1 c = let past_row = c in

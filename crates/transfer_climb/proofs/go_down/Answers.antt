@@ -7,25 +7,13 @@ use Rattle.transfer_climb.proofs.go_down.Goals as goal
 
 pub tops_at-parts-requires : goal.tops_at-parts-requires
 unfolding Names
-tops_at-parts-requires c = let past-rule = c in
-    let entry = past-rule in
-    row_room entry.requires.0 (names entry.requires.0 entry.requires.1.inside (sym c.in-Join.is ∙ past-rule.rule_at.ensures)).0
+tops_at-parts-requires c = row_room c.requires.0 (names c.requires.0 c.requires.1.inside (sym c.in-Join.is ∙ c.rule_at.ensures)).0
 
 pub returns-then-part-parts : goal.returns-then-part-parts
-returns-then-part-parts c = let past-tops = c in
-    let past-outer = past-tops in
-    let past-rule = past-outer in
-    let entry = past-rule in
-    down-left entry.requires.0 entry.requires.1 (sym past-outer.in-Join.is ∙ past-rule.rule_at.ensures) past-tops.tops_at-parts.ensures c.if-part-parts.true
+returns-then-part-parts c = down-left c.requires.0 c.requires.1 (sym c.in-Join.is ∙ c.rule_at.ensures) c.tops_at-parts.ensures c.if-part-parts.true
 
 pub returns-else-part-parts : goal.returns-else-part-parts
-returns-else-part-parts c = let past-tops = c in
-    let past-outer = past-tops in
-    let past-rule = past-outer in
-    let entry = past-rule in
-    down-right entry.requires.0 entry.requires.1 (sym past-outer.in-Join.is ∙ past-rule.rule_at.ensures) past-tops.tops_at-parts.ensures c.if-part-parts.false
+returns-else-part-parts c = down-right c.requires.0 c.requires.1 (sym c.in-Join.is ∙ c.rule_at.ensures) c.tops_at-parts.ensures c.if-part-parts.false
 
 pub returns-in_default : goal.returns-in_default
-returns-in_default c = let past-rule = c in
-    let entry = past-rule in
-    down-other entry.requires.0 entry.requires.1 past-rule.rule_at.ensures c.in_default.not-Join c.left_tops.ensures
+returns-in_default c = down-other c.requires.0 c.requires.1 c.rule_at.ensures c.in_default.not-Join c.left_tops.ensures

@@ -9,18 +9,12 @@ use Rattle.transfer_climb.proofs.left_tops.Goals as goal
 
 pub tops_at-requires : goal.tops_at-requires
 unfolding Names
-tops_at-requires c = let past-rule = c in
-    let entry = past-rule in
-    row_room entry.requires.0 (names entry.requires.0 entry.requires.1 (sym c.in-Part.is ∙ past-rule.rule_at.ensures)).0
+tops_at-requires c = row_room c.requires.0 (names c.requires.0 c.requires.1 (sym c.in-Part.is ∙ c.rule_at.ensures)).0
 
 pub returns-in-Part : goal.returns-in-Part
 unfolding Names left_tops
-returns-in-Part c = let past-left = c in
-    let past-rule = past-left in
-    let entry = past-rule in
-    let e = sym past-left.in-Part.is ∙ past-rule.rule_at.ensures in
-    rw (← e) (told entry.requires.0 (names entry.requires.0 entry.requires.1 e).0 c.tops_at.ensures)
+returns-in-Part c = let e = sym c.in-Part.is ∙ c.rule_at.ensures in
+    rw (← e) (told c.requires.0 (names c.requires.0 c.requires.1 e).0 c.tops_at.ensures)
 
 pub returns-in_default : goal.returns-in_default
-returns-in_default c = let past-rule = c in
-    rw (← past-rule.rule_at.ensures) (sym (ap (λ (k : ℕ). min k most_place) (other-left _ past-rule.rule_at.result c.in_default.not-Part)))
+returns-in_default c = rw (← c.rule_at.ensures) (sym (ap (λ (k : ℕ). min k most_place) (other-left _ c.rule_at.result c.in_default.not-Part)))

@@ -8,21 +8,12 @@ use Rattle.transfer_climb.proofs.open_tree.Goals as goal
 
 pub tops_at-ahead-requires : goal.tops_at-ahead-requires
 unfolding Names
-tops_at-ahead-requires c = let past-rule = c in
-    let entry = past-rule in
-    row_room entry.requires.0 (names entry.requires.0 entry.requires.1 (sym c.in-Part.is ∙ past-rule.rule_at.ensures)).0
+tops_at-ahead-requires c = row_room c.requires.0 (names c.requires.0 c.requires.1 (sym c.in-Part.is ∙ c.rule_at.ensures)).0
 
 pub returns-in-Part : goal.returns-in-Part
 unfolding Names spine_spot
-returns-in-Part c = let past-enter = c in
-    let past-tops = past-enter in
-    let past-left = past-tops in
-    let past-rule = past-left in
-    let entry = past-rule in
-    let e = sym past-left.in-Part.is ∙ past-rule.rule_at.ensures in
-    rw (← e) (past-enter.enter.ensures _ (told entry.requires.0 (names entry.requires.0 entry.requires.1 e).0 past-tops.tops_at-ahead.ensures))
+returns-in-Part c = let e = sym c.in-Part.is ∙ c.rule_at.ensures in
+    rw (← e) (c.enter.ensures _ (told c.requires.0 (names c.requires.0 c.requires.1 e).0 c.tops_at-ahead.ensures))
 
 pub returns-in_default : goal.returns-in_default
-returns-in_default c = let past-rule = c in
-    let entry = past-rule in
-    rw (← past-rule.rule_at.ensures, other-spine _ past-rule.rule_at.result _ c.in_default.not-Part) (took-here entry.requires.2)
+returns-in_default c = rw (← c.rule_at.ensures, other-spine _ c.rule_at.result _ c.in_default.not-Part) (took-here c.requires.2)

@@ -3,15 +3,14 @@ use native.Mathlib.Omega.{arith}
 use Rattle.transfer_climb.proofs.Levels.{ready-few, level-room, level-put}
 use Rattle.transfer_climb.proofs.put_level.Goals as goal
 
-pub overflow_mul-levels : goal.overflow_mul-levels
-overflow_mul-levels c = omega (arith, ready-few c.requires)
+pub overflow_mul-at : goal.overflow_mul-at
+overflow_mul-at c = omega (arith, ready-few c.requires)
 
-pub overflow_add-before : goal.overflow_add-before
-overflow_add-before c = omega (arith, ready-few c.requires)
+pub overflow_add-at : goal.overflow_add-at
+overflow_add-at c = omega (arith, ready-few c.requires)
 
 pub write16-requires : goal.write16-requires
 write16-requires c = level-room c.requires
 
 pub returns : goal.returns
-returns c = let past-write = c in
-    level-put past-write.requires past-write.write16.ensures
+returns c = level-put c.requires c.write16.ensures

@@ -1,5 +1,4 @@
 -- Only an R has trees before it: those of the L, and one more. Assumes nothing.
-use native.Mathlib.Omega.{arith}
 use Rattle.transfer_climb.proofs.Rows.{before-none, before-many, before-one}
 use Rattle.transfer_climb.proofs.row_before.Goals as goal
 
@@ -8,9 +7,6 @@ returns-then-number-ne-RIGHT_ROW c = before-none _ _ c.if-number-ne-RIGHT_ROW.tr
 
 pub returns-then-left : goal.returns-then-left
 returns-then-left c = before-many _ _ c.if-number-ne-RIGHT_ROW.false c.left_tops-left.ensures c.if-left.true
-
-pub overflow_add-result : goal.overflow_add-result
-overflow_add-result c = omega (arith, c.if-left.false, c.left_tops-left.type_inv)
 
 pub returns : goal.returns
 returns c = before-one _ _ c.if-number-ne-RIGHT_ROW.false c.left_tops-left.ensures c.if-left.false

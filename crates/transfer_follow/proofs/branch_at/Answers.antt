@@ -6,9 +6,9 @@ use Rattle.transfer_follow.specs.Levels.{under_rule}
 use Rattle.transfer_follow.proofs.Branches.{branch-roots, branch-under, under-other}
 use Rattle.transfer_follow.proofs.branch_at.Goals as goal
 
-pub returns-then-k-eq0 : goal.returns-then-k-eq0
-returns-then-k-eq0 c = let in_then = c in
-    branch-roots _ _ _ _ _ _ in_then.if-k-eq0.true c.in_row.ensures
+pub returns-then-at-eq0 : goal.returns-then-at-eq0
+returns-then-at-eq0 c = let in_then = c in
+    branch-roots _ _ _ _ _ in_then.if-at-eq0.true c.in_row.ensures
 
 pub in_row-requires-in-Node : goal.in_row-requires-in-Node
 unfolding Names
@@ -29,14 +29,14 @@ pub returns-in-Node : goal.returns-in-Node
 unfolding under_rule
 returns-in-Node c = let past-under = c in
     let past-rule = past-under in
-    branch-under _ _ _ _ _ _ past-rule.if-k-eq0.false (sym past-under.in-Node.is ∙ past-rule.rule_at.ensures) c.in_row-in-Node.ensures
+    branch-under _ _ _ _ _ past-rule.if-at-eq0.false (sym past-under.in-Node.is ∙ past-rule.rule_at.ensures) c.in_row-in-Node.ensures
 
 pub returns-in-Part : goal.returns-in-Part
 unfolding under_rule
 returns-in-Part c = let past-left = c in
     let past-rule = past-left in
-    branch-under _ _ _ _ _ _ past-rule.if-k-eq0.false (sym past-left.in-Part.is ∙ past-rule.rule_at.ensures) c.in_part.ensures
+    branch-under _ _ _ _ _ past-rule.if-at-eq0.false (sym past-left.in-Part.is ∙ past-rule.rule_at.ensures) c.in_part.ensures
 
 pub returns-in_default : goal.returns-in_default
 returns-in_default c = let past-rule = c in
-    branch-under _ _ _ _ _ _ past-rule.if-k-eq0.false past-rule.rule_at.ensures (under-other _ _ _ c.in_default.not-Node c.in_default.not-Part)
+    branch-under _ _ _ _ _ past-rule.if-at-eq0.false past-rule.rule_at.ensures (under-other _ _ _ c.in_default.not-Node c.in_default.not-Part)

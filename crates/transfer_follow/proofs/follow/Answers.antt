@@ -3,16 +3,10 @@ use Rattle.transfer_follow.proofs.Levels.{ready-followable, store-room, stored}
 use Rattle.transfer_follow.proofs.follow.Goals as goal
 
 pub descend-used-requires : goal.descend-used-requires
-descend-used-requires c = let entry = c in
-    (ready-followable entry.requires.0, entry.requires.1)
+descend-used-requires c = (ready-followable c.requires.0, c.requires.1)
 
 pub store-requires : goal.store-requires
-store-requires c = let past-descend = c in
-    let entry = past-descend in
-    store-room entry.requires.0 past-descend.descend-used.ensures
+store-requires c = store-room c.requires.0 c.descend-used.ensures
 
 pub returns : goal.returns
-returns c = let past-store = c in
-    let past-descend = past-store in
-    let entry = past-descend in
-    stored entry.requires.0 past-descend.descend-used.ensures past-store.store.ensures
+returns c = stored c.requires.0 c.descend-used.ensures c.store.ensures

@@ -5,19 +5,12 @@ use Rattle.transfer_follow.proofs.in_part.Goals as goal
 
 pub returns-then-i-before : goal.returns-then-i-before
 unfolding row_of_part
-returns-then-i-before c = let past-tops = c in
-    let entry = past-tops in
-    part_left_lem entry.requires.0 entry.requires.1 entry.requires.3 past-tops.tops_at-before.ensures _ c.if-i-before.true
+returns-then-i-before c = part_left_lem c.requires.0 c.requires.1 c.requires.3 c.tops_at-before.ensures _ c.if-i-before.true
 
 pub returns-then-i-before-2 : goal.returns-then-i-before-2
-returns-then-i-before-2 c = let past-tops = c in
-    let entry = past-tops in
-    part-hole entry.requires.0 entry.requires.1 entry.requires.3 past-tops.tops_at-before.ensures _ c.if-i-before-2.true
+returns-then-i-before-2 c = part-hole c.requires.0 c.requires.1 c.requires.3 c.tops_at-before.ensures _ c.if-i-before-2.true
 
 pub returns : goal.returns
 unfolding row_of_part
-returns c = let in-else = c in
-    let past-tops = in-else in
-    let entry = past-tops in
-    part_right entry.requires.0 entry.requires.1 entry.requires.3 past-tops.tops_at-before.ensures _
-    in-else.if-i-before.false in-else.if-i-before-2.false c.in_row.ensures
+returns c = part_right c.requires.0 c.requires.1 c.requires.3 c.tops_at-before.ensures _
+    c.if-i-before.false c.if-i-before-2.false c.in_row.ensures

@@ -5,6 +5,3 @@ use Rattle.unseal.proofs.roomed.Goals as goal
 
 pub overflow_mul-result : goal.overflow_mul-result
 overflow_mul-result c = omega (arith, words-short _ _ c.args.n c.words.ensures)
-
-pub returns : goal.returns
-returns c = rw (c.word_count.ensures, c.words.ensures)

@@ -3,7 +3,6 @@ use native.Mathlib.Omega.{arith}
 use mathlib.Core.Path.{sym, ◌∙◌}
 use Rattle.forest.specs.Outcome.{work_words}
 use Rattle.walk.proofs.Outcome.{lent, lendable, finished}
-use borrow.Author.Rules.{rules}
 use Rattle.walk.proofs.walk_rules.Goals as goal
 
 pub returns-then-not-enough_lent : goal.returns-then-not-enough_lent

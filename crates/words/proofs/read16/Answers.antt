@@ -1,10 +1,15 @@
--- `read16` is the sum of its two bytes, the high one times 256, which is what `number 2` unfolds to. Assumes nothing.
-use mathlib.Core.Path.{sym}
-use native.Mathlib.Numerals.{add-one}
+-- `read16` is the sum of its two bytes, each times its power of 256, which is what `number 2` unfolds to. Assumes nothing.
+use Prim.Native.Nat.{ℕ}
 use native.Mathlib.Omega.{arith}
+use mathlib.Core.List.{List}
+use mathlib.Core.Path.{ap, ◌∙◌}
 use Rattle.words.specs.Number.{number}
+use Rattle.words.proofs.Library.{number-part}
 use Rattle.words.proofs.read16.Goals as goal
 
 pub returns : goal.returns
 unfolding number
-returns c = simp (sym (add-one c.args.at)) (omega arith)
+returns c =
+    let taken = rw c.unwrap.ensures at c.try_into.ensures.1 in
+    let same = ap (λ (l : List ℕ). number 2 l 0) taken.same ∙ number-part 2 c.args.s.now c.args.at in
+    omega (arith, same, c.from_le_bytes.ensures)

@@ -1,18 +1,7 @@
--- `write16` makes the two stores that `put 2` unfolds to: the high byte of a word is below 256 already. Assumes nothing.
-use native.Mathlib.Numerals.{add-one}
-use native.Mathlib.Omega.{arith}
-use lib.ListN.{length-set}
-use Prim.Native.Nat.{◌/◌, ◌%◌}
-use mathlib.Core.Path.{◌≡◌}
-use Rattle.words.specs.Number.{bytes}
-use Rattle.words.specs.Put.{put}
+-- `write16` overwrites a part with the number's bytes, which is what `put 2` does. Assumes nothing.
+use mathlib.Core.Path.{◌∙◌}
+use Rattle.words.proofs.Library.{put-part}
 use Rattle.words.proofs.write16.Goals as goal
 
-pub bounds-s-at-2 : goal.bounds-s-at-2
-bounds-s-at-2 c = simp length-set (omega arith)
-
 pub returns : goal.returns
-unfolding put bytes
-returns c = let v = c.args.v in
-    let high : v / 256 % 256 ≡ v / 256 = omega arith in
-    simp (add-one, high)
+returns c = let a = c.args in put-part 2 a.s.now a.at a.v c.copy_from_slice.new.self c.requires (c.copy_from_slice.ensures.after ∙ c.to_le_bytes.ensures)

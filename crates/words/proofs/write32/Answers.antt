@@ -1,13 +1,7 @@
--- `write32` puts two words one after the other, as the law `put-double` does. Assumes nothing.
-use Prim.Native.Nat.{ℕ, ◌+◌, ◌/◌}
-use mathlib.Core.Path.{sym, ap, ◌∙◌}
-use mathlib.Core.List.{List}
-use Rattle.words.specs.Put.{put}
-use Rattle.words.proofs.Laws.{put-double}
+-- `write32` overwrites a part with the number's bytes, which is what `put 4` does. Assumes nothing.
+use mathlib.Core.Path.{◌∙◌}
+use Rattle.words.proofs.Library.{put-part}
 use Rattle.words.proofs.write32.Goals as goal
 
 pub returns : goal.returns
-returns c = let a = c.args in
-    c.write16-2.ensures
-    ∙ ap (λ (l : List ℕ). put 2 l (a.at + 2) (a.v / 65536)) c.write16.ensures
-    ∙ sym (put-double a.s.now a.at a.v)
+returns c = let a = c.args in put-part 4 a.s.now a.at a.v c.copy_from_slice.new.self c.requires (c.copy_from_slice.ensures.after ∙ c.to_le_bytes.ensures)

@@ -9,6 +9,9 @@ format-format-requires c = let long = (loadable c.requires).0 in omega arith
 pub first-first-requires : goal.first-first-requires
 first-first-requires c = rw c.format-format.ensures (loadable c.requires).0
 
+pub invariant_of-rules : goal.invariant_of-rules
+invariant_of-rules c = record { lies = rw (c.first-first.ensures, c.format-format.ensures) (searchable c.requires).lies }
+
 pub order-requires : goal.order-requires
 order-requires c = rw (c.first-first.ensures, c.format-format.ensures) (searchable c.requires)
 

@@ -1,5 +1,5 @@
 -- The loop's invariant: the first i places hold their numbers. Assumes nothing.
-use Prim.Native.Nat.{◌-◌, ◌≤◌}
+use Prim.Native.Nat.{◌≤◌}
 use mathlib.Core.Path.{◌≡◌}
 use lib.ListN.{length}
 use Rattle.work_rows.specs.Order.{order_at, order_end}
@@ -7,7 +7,4 @@ use Rattle.work_rows.proofs.Order.{Numbered}
 use Rattle.work_rows.proofs.order_by_number.Given as goal
 
 abbrev pub invariant-loop-i : goal.invariant-loop-i
-invariant-loop-i l = (l.i ≤ l.n) × (l.at ≡ order_at l.n) × (order_end l.n ≤ length l.initial.work) × Numbered l.n l.i l.initial.work l.work
-
-abbrev pub decreases-loop-i : goal.decreases-loop-i
-decreases-loop-i l = l.n - l.i
+invariant-loop-i l = (l.at ≡ order_at l.n) × (order_end l.n ≤ length l.initial.work) × Numbered l.n l.i l.initial.work l.work

@@ -5,4 +5,4 @@ use Rattle.work_rows.proofs.rule_in.Goals as goal
 
 pub returns : goal.returns
 unfolding rule_at
-returns c = c.rule.ensures ∙ ap rule_from c.read.ensures
+returns c = c.from.ensures ∙ ap rule_from c.read.ensures

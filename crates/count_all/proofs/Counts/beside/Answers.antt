@@ -5,4 +5,4 @@ use Rattle.count_all.proofs.Counts.beside.Goals as goal
 
 pub returns : goal.returns
 unfolding beside
-returns c = λ m k p q. c.both.ensures m k _ p q (beside-low m k p q) (λ fits. beside-levels p q fits c.larger.ensures)
+returns c = λ m k p q. c.both.ensures m k _ p q (beside-low m k p q) (λ fits. beside-levels p q fits c.max.ensures)

@@ -3,4 +3,4 @@ use Rattle.count_all.proofs.Keeping.{single_tree}
 use Rattle.count_all.proofs.Counts.tree.Goals as goal
 
 pub returns : goal.returns
-returns c = single_tree _ c.at_most_one.ensures
+returns c = single_tree _ c.min.ensures

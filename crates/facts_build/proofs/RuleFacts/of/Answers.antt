@@ -1,4 +1,5 @@
 -- Each arm of the match is a case of `rule_facts_of`. Assumes nothing.
+use mathlib.Core.Logic.{inl, inr}
 use mathlib.Core.Path.{◌∙◌}
 use Rattle.facts_build.proofs.Cases.{join-both, join-steps, empty-own, node-own, fill-own, part-own}
 use Rattle.facts_build.proofs.RuleFacts.of.Goals as goal
@@ -19,10 +20,9 @@ pub returns-in-Empty : goal.returns-in-Empty
 returns-in-Empty c = rw c.in-Empty.is (c.own.ensures ∙ empty-own _ _)
 
 pub returns-in-Node : goal.returns-in-Node
-returns-in-Node c = rw c.in-Node.is (c.own-in-Node.ensures ∙ node-own _ _ _ _)
-
-pub returns-in-Fill : goal.returns-in-Fill
-returns-in-Fill c = rw c.in-Fill.is (c.own-in-Fill.ensures ∙ fill-own _ _ _ _)
-
-pub returns-in-Part : goal.returns-in-Part
-returns-in-Part c = rw c.in-Part.is (c.own-in-Part.ensures ∙ part-own _ _ _ _ _)
+returns-in-Node c =
+    elim c.in-Node.is [
+      | inl (_, _, e) ↦ rw e (c.own-in-Node.ensures ∙ node-own _ _ _ _)
+      | inr (inl (_, _, e)) ↦ rw e (c.own-in-Node.ensures ∙ fill-own _ _ _ _)
+      | inr (inr (_, _, _, e)) ↦ rw e (c.own-in-Node.ensures ∙ part-own _ _ _ _ _)
+    ]

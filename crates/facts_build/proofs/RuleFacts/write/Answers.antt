@@ -1,6 +1,8 @@
 -- The four writes are those of `put_rule_facts`, one after the other. Assumes nothing.
 use Prim.Native.Nat.{ℕ}
-use mathlib.Core.Path.{◌≡◌}
+use mir.Val.{bool_byte}
+use mathlib.Core.Bool.{Bool, true, false}
+use mathlib.Core.Path.{◌≡◌, refl, ◌∙◌}
 use mathlib.Core.List.{List}
 use Rattle.forest.specs.Place.{Side}
 use Rattle.facts_build.specs.declared.RuleFacts.{RuleFacts}
@@ -16,6 +18,12 @@ written : (t t₁ t₂ t₃ t₄ : List ℕ) (r v : ℕ) (e : RuleFacts) → t�
 unfolding put_rule_facts
 written t t₁ t₂ t₃ t₄ r v e e₁ f e₂ e₃ e₄ = rw (e₄, e₃, e₂, f, e₁)
 
+-- a test as a word
+test-word : (b : Bool) → bool_byte b ≡ flag b
+unfolding flag
+test-word true = refl
+test-word false = refl
+
 pub returns : goal.returns
 unfolding side_of
-returns c = written _ _ _ _ _ _ _ _ c.put16.ensures c.flag.ensures c.put16-2.ensures c.write.ensures c.write-2.ensures
+returns c = written _ _ _ _ _ _ _ _ c.put16.ensures (c.from.ensures ∙ test-word _) c.put16-2.ensures c.write.ensures c.write-2.ensures

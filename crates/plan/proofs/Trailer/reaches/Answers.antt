@@ -5,6 +5,3 @@ use Rattle.plan.proofs.Trailer.reaches.Goals as goal
 
 pub overflow_mul-result : goal.overflow_mul-result
 overflow_mul-result c = let most = records-most c.args.format c.args.n in rw c.length.ensures (omega (arith, most))
-
-pub returns : goal.returns
-returns c = rw c.length.ensures

@@ -11,32 +11,8 @@ use Rattle.plan.specs.Check.{at_start, at_distance, at_mark, magic}
 use Rattle.plan.proofs.TrailerBytes.{put-trailer}
 use Rattle.plan.proofs.Trailer.write.Goals as goal
 
-pub overflow_mul-distance : goal.overflow_mul-distance
-overflow_mul-distance c = let most = records-most c.args.format c.args.n in rw c.length.ensures (omega (arith, most))
-
-pub write16-requires : goal.write16-requires
-write16-requires c = let most = records-most c.args.format c.args.n in let p = c.requires in rw c.length.ensures (omega (arith, most, p))
-
-pub overflow_add-distance : goal.overflow_add-distance
-overflow_add-distance c = let most = records-most c.args.format c.args.n in let p = c.requires in rw c.length.ensures (omega (arith, most, p))
-
-pub write16-requires-2 : goal.write16-requires-2
-write16-requires-2 c = let most = records-most c.args.format c.args.n in let p = c.requires in rw c.length.ensures (omega (arith, most, p))
-
-pub overflow_add-distance-2 : goal.overflow_add-distance-2
-overflow_add-distance-2 c = let most = records-most c.args.format c.args.n in let p = c.requires in rw c.length.ensures (omega (arith, most, p))
-
 pub overflow_cast-distance-2 : goal.overflow_cast-distance-2
 overflow_cast-distance-2 c = let most = records-most c.args.format c.args.n in let p = c.requires in rw c.length.ensures (omega (arith, most, p))
-
-pub write32-requires : goal.write32-requires
-write32-requires c = let most = records-most c.args.format c.args.n in let p = c.requires in rw c.length.ensures (omega (arith, most, p))
-
-pub overflow_add-distance-3 : goal.overflow_add-distance-3
-overflow_add-distance-3 c = let most = records-most c.args.format c.args.n in let p = c.requires in rw c.length.ensures (omega (arith, most, p))
-
-pub sign-requires : goal.sign-requires
-sign-requires c = let most = records-most c.args.format c.args.n in let p = c.requires in rw c.length.ensures (omega (arith, most, p))
 
 pub returns : goal.returns
 returns c = let a = c.args in

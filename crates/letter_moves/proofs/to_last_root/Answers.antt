@@ -1,8 +1,0 @@
--- The root on the right. Assumes nothing.
-use Rattle.side.specs.Side.{side_of}
-use Rattle.letter.specs.Letter.{move_of}
-use Rattle.letter_moves.proofs.to_last_root.Goals as goal
-
-pub returns : goal.returns
-unfolding side_of move_of
-returns c = c.to_root.ensures
