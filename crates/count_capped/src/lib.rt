@@ -14,8 +14,8 @@ use work_rows::Row;
 // `count_at` promises the number of whatever ten bytes a row holds.
 #[derive(Clone, Copy)]
 pub struct Count {
-    low: u64,
-    over: u16,
+    pub low: u64,
+    pub over: u16,
 }
 
 impl Model for Count {

@@ -211,7 +211,7 @@ fn cycle_from(lowest: u16) -> Result<(), Refusal>
 }
 
 // The most rules that each search has room for, and the bytes of that room.
-const FEW_SEARCHED: u16 = 1024;
+pub const FEW_SEARCHED: u16 = 1024;
 
 const MOST_SEARCHED: usize = 16384;
 

@@ -1,5 +1,5 @@
 -- Laws of one row, and of the rows that cover a label. Assumes nothing.
-use Rattle.std.proofs.Common.{◌≡◌, ℕ, ◌<◌, ◌≤◌, Bool, true, false, ◌&&◌, ◌||◌, ltb, leb, List, [], ◌∷◌, refl, ◌∙◌, arith, ltb-false, le-leb, leb-true}
+use Rattle.std.proofs.Common.{◌≡◌, ℕ, ◌<◌, ◌≤◌, Bool, true, false, ◌&&◌, ◌||◌, ltb, leb, List, [], ◌∷◌, refl, ◌∙◌, arith, ltb-false, le-ltb, le-leb, leb-true}
 use mathlib.Core.Bool.{and-eq-true_iff}
 use borrow.Author.Tests.{lt-leb}
 use Rattle.rule.specs.Rule.{largest_label}
@@ -23,6 +23,10 @@ valid-bounded r v =
     let p = neither (ltb r.highest r.lowest) (ltb largest_label r.highest || ltb largest_class r.class) v in
     let q = neither (ltb largest_label r.highest) (ltb largest_class r.class) p.1 in
     record { rises = ltb-false _ _ p.0; labels = ltb-false _ _ q.0; classes = ltb-false _ _ q.1 }
+
+pub bounded-valid : {r : LabelRow} → Bounded r → Valid r
+unfolding invalid
+bounded-valid {r} b = rw (le-ltb _ _ b.rises, le-ltb _ _ b.labels, le-ltb _ _ b.classes)
 
 module _ (r : LabelRow) (x : ℕ) where
   pub covers-inside : r.lowest ≤ x → x ≤ r.highest → covers r x ≡ true

@@ -14,5 +14,6 @@ fn main(rt: HostRuntime) -> io::Result<()> {
     let plan_length = program_io::read_file(&rt, "plan.bin", &mut plan);
     let letters_length = program_io::read_full(&mut rt.stdin(), &mut letters);
     let length = stroll_output::stroll(&plan[..plan_length], &letters[..letters_length], &mut out);
-    rt.stdout().write_all(&out[..length])
+    // Of `Write`: the method of that name that `Print` has gives up where writing is interrupted again and again.
+    Write::write_all(&mut rt.stdout(), &out[..length])
 }
