@@ -317,8 +317,8 @@ uint32_t plan_reason(const uint8_t *plan, size_t plan_len,
    Code with its constants, of all eleven functions, and of plan_check and plan_walk
    alone where the linker drops what isn't used (--gc-sections). There are no data and
    no bss, and the one function that the library calls is memset. */
-#define MEALPLAN_CODE_BYTES 29696
-#define MEALPLAN_CODE_BYTES_CHECK_WALK 13824
+#define MEALPLAN_CODE_BYTES 28672
+#define MEALPLAN_CODE_BYTES_CHECK_WALK 13312
 
 /* Stack: the deepest chain of calls (there is no recursion) with the return address,
    without the arguments that the caller puts on the stack and without what memset takes

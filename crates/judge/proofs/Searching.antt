@@ -1,8 +1,7 @@
 -- What the search for an order asks for, once all rules pass 4 to 6. Assumes nothing.
-use Rattle.std.specs.Prelude.{Result, Ok}
+use Rattle.std.specs.Prelude.{Ok}
 use mathlib.Core.Bool.{Bool, false}
-use mathlib.Core.Path.{◌≡◌, ap, subst, ◌∙◌}
-use Rattle.refusal.specs.declared.Refusal.{Refusal}
+use mathlib.Core.Path.{◌≡◌, subst}
 use Rattle.record.specs.declared.RuleRecords.{RuleRecords}
 use Rattle.record.specs.RuleRecords.{records_lent}
 use Prim.Native.Nat.{ℕ, ◌*◌, ◌≤◌}

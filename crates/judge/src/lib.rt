@@ -1,7 +1,7 @@
 // The test of a plan's rules (document 01, "Check", refusals 4 to 7, and document 02, Note 1, refusal 12), which check and seal share.
 #![tactic(auto)]
 
-ghost use Rattle.std.specs.Prelude.{◌≡◌, ◌*◌, ◌≤◌, ◌<◌, ◌&&◌, ltb};
+ghost use Rattle.std.specs.Prelude.{◌≡◌, ◌*◌, ◌≤◌, ◌<◌, ◌&&◌, ltb, cond};
 ghost use Rattle.rule.specs.Rule.{kind_empty, kind_pair, kind_node, closed, holed, tree, rules_in};
 ghost use Rattle.record.specs.Records.{record_in, kind_at};
 ghost use Rattle.record.specs.RuleRecords.{records_lent};
@@ -49,21 +49,28 @@ fn tree_at(rules: &RuleRecords, x: u16) -> bool
     (kind == Rule::NODE) | (kind == Rule::FILL)
 }
 
-// The first of 4, 5 and 6 whose test failed for rule i; else whether the rule names only lower ones.
+// The first of 4, 5 and 6 whose test failed for a rule.
+fn fault(number: usize, formed: bool, ranged: bool) -> Refusal
+    ensures { result ≡ cond formed (cond ranged (Refusal.WrongSort number) (Refusal.NoRule number)) (Refusal.Malformed number) }
+{
+    if !formed {
+        return Refusal::Malformed(number);
+    }
+    if !ranged {
+        return Refusal::NoRule(number);
+    }
+    Refusal::WrongSort(number)
+}
+
+// The first of 4, 5 and 6 whose test failed for rule i; else whether the rule names only lower ones. A rule that passes meets one test.
+#[tactic(auto, unfolding(crate::specs::Tested::verdict))]
 fn verdict(i: u16, formed: bool, ranged: bool, sorted: bool, lower: bool) -> Result<bool, Refusal>
     ensures { result ≡ verdict i formed ranged sorted lower }
 {
-    let number = i as usize;
-    if !formed {
-        return Err(Refusal::Malformed(number));
+    if formed & ranged & sorted {
+        return Ok(lower);
     }
-    if !ranged {
-        return Err(Refusal::NoRule(number));
-    }
-    if !sorted {
-        return Err(Refusal::WrongSort(number));
-    }
-    Ok(lower)
+    Err(fault(i as usize, formed, ranged))
 }
 
 // The same of a rule that names two.
@@ -237,8 +244,8 @@ fn search<const ROOM: usize>(rules: &RuleRecords, start: u16) -> Result<(), Refu
 }
 
 // Refusals 4 to 7 and 12: rules from 0 up, then one that reaches itself, then the start. Rules that name only lower ones aren't searched, few
-// others in the small array. It is put into check and seal, which need no frame for it then.
-#[inline(always)]
+// others in the small array. It stands once in the machine code, for check and seal.
+#[inline(never)]
 pub fn judge_rules(rules: &RuleRecords, start: u16) -> Result<(), Refusal>
     requires { rules.now.n ≤ most_searched }
     ensures { result ≡ judged rules.now.format (records_lent rules.now) start }

@@ -109,7 +109,9 @@ pub fn put_tree(work: &[u8], cursor: &mut [u8], k: usize, tree: u16) -> Standing
     Standing { used: k, rule }
 }
 
-// The root of the first or last tree of a row over a representative, opened on top of k cells with a number.
+// The root of the first or last tree of a row over a representative, opened on top of k cells with a number. It stands once in the machine
+// code, not in each letter that opens a row.
+#[inline(never)]
 pub fn put_row(
     work: &[u8],
     cursor: &mut [u8],

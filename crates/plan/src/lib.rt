@@ -137,7 +137,9 @@ impl Trailer {
     }
 }
 
-// Check a plan: document 01's n and start, or why it is turned down.
+// Check a plan: document 01's n and start, or why it is turned down. It stands once in the machine code, not in each operation that begins
+// with it.
+#[inline(never)]
 pub fn check(plan: &[u8]) -> Result<Checked, Refusal>
     ensures { result ≡ checked plan.now }
 {

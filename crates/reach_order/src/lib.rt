@@ -179,8 +179,10 @@ pub fn order(rules: &RuleRecords, room: &mut [u8]) -> bool
     requires { ReadyFor rules.now room.old }
     ensures { Answered (rules_lent rules.now) rules.now.n result room.old room.new }
 {
+    // A copy: behind the reference the fields would be read again after each write to the room.
+    let rules = *rules;
     words::clear(room, 4 * (rules.n as usize));
-    visit_all(*rules, room)
+    visit_all(rules, room)
 }
 
 // Rule k put behind m others of the queue, if it hasn't been seen; how many there are then.
@@ -243,8 +245,10 @@ pub fn lowest(rules: &RuleRecords, room: &mut [u8]) -> u16
     ensures { let n = rules.now.n in
         (lowest_cycle (rules_lent rules.now) ≡ Some result) × Within 0 (4 * n) room.old room.new }
 {
+    // A copy, as in `order`.
+    let rules = *rules;
     for r in 0..rules.n {
-        if reaches_itself(*rules, r, room) {
+        if reaches_itself(rules, r, room) {
             return r;
         }
     }

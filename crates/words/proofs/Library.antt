@@ -1,18 +1,15 @@
--- The library's methods on the bytes of a number say what this crate's definitions say: `to_le_bytes` gives the bytes of a number, a part
--- written with them is the number put there, and a part's number is that of the list at its offset. The first by the law that dividing
--- twice is dividing by the product. Assumes nothing.
-use Prim.Native.Nat.{ℕ, zero, suc, ◌+◌, ◌-◌, ◌/◌, ◌%◌, ◌^◌, ◌≤◌}
+-- The library's methods on the bytes of a number say what this crate's definitions say: `to_le_bytes` gives the bytes of a number, by the law
+-- that dividing twice is dividing by the product, and a part's number is that of the list at its offset. Assumes nothing.
+use Prim.Native.Nat.{ℕ, zero, suc, ◌+◌, ◌-◌, ◌/◌, ◌%◌, ◌^◌}
 use native.Mathlib.Nat.{zero-add, div-div-eq-div-mul, pow-suc}
 use native.Mathlib.Omega.{arith}
 use mathlib.Core.Path.{◌≡◌, refl, sym, ap, ap₂, ◌∙◌}
 use mathlib.Core.List.{List, ◌∷◌}
-use borrow.Rule.Slice.PartMut.{put_mid}
-use lib.ListN.{length, take, drop}
-use lib.Seq.{drop-drop, get_or-take, get_or-drop}
+use lib.ListN.{take, drop}
+use lib.Seq.{get_or-take, get_or-drop}
 use Rattle.std.specs.Int.{byte_at, bytes_low_first}
 use Rattle.words.specs.Number.{base, number, bytes}
-use Rattle.words.specs.Put.{put}
-use Rattle.words.proofs.Laws.{number-agrees, put-split}
+use Rattle.words.proofs.Laws.{number-agrees}
 
 -- the byte with a number, and the bytes from one on
 byte : (i v : ℕ) → byte_at i v ≡ v / base ^ i % base
@@ -26,15 +23,8 @@ bytes-from (suc w) i v =
     let next : v / base ^ suc i ≡ v / base ^ i / base = rw pow-suc (sym (div-div-eq-div-mul v (base ^ i) base)) in
     ap₂ (λ (x : ℕ) (l : List ℕ). x ∷ l) (byte i v) (bytes-from w (suc i) v ∙ ap (bytes w) next)
 
-bytes-low-first : (w v : ℕ) → bytes_low_first 0 w v ≡ bytes w v
+pub bytes-low-first : (w v : ℕ) → bytes_low_first 0 w v ≡ bytes w v
 bytes-low-first w v = bytes-from w 0 v ∙ ap (bytes w) (omega arith)
-
--- a part of w bytes that holds a number's bytes
-pub put-part : (w : ℕ) (s : List ℕ) (at v : ℕ) (new : List ℕ) → at + w ≤ length s → new ≡ bytes_low_first 0 w v
-    → put_mid at (at + w - at) s new ≡ put w s at v
-put-part w s at v new fits is =
-    let n : at + w - at ≡ w = omega arith in
-    rw (is, bytes-low-first w v, put-split w s at v fits, n, drop-drop) refl
 
 -- a number in a part of w bytes
 pub number-part : (w : ℕ) (s : List ℕ) (at : ℕ) → number w (take (at + w - at) (drop at s)) 0 ≡ number w s at

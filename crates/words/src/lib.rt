@@ -42,7 +42,9 @@ pub fn write16(s: &mut [u8], at: usize, v: u16)
     requires { at + 2 ≤ length s.old }
     ensures { s.new ≡ put 2 s.old at v }
 {
-    s[at..at + 2].copy_from_slice(&v.to_le_bytes());
+    let two = v.to_le_bytes();
+    s[at] = two[0];
+    s[at + 1] = two[1];
 }
 
 // A 32-bit word into the four bytes from an offset on.
@@ -50,7 +52,11 @@ pub fn write32(s: &mut [u8], at: usize, v: u32)
     requires { at + 4 ≤ length s.old }
     ensures { s.new ≡ put 4 s.old at v }
 {
-    s[at..at + 4].copy_from_slice(&v.to_le_bytes());
+    let four = v.to_le_bytes();
+    s[at] = four[0];
+    s[at + 1] = four[1];
+    s[at + 2] = four[2];
+    s[at + 3] = four[3];
 }
 
 // A 64-bit word into the eight bytes from an offset on.
@@ -58,7 +64,15 @@ pub fn write64(s: &mut [u8], at: usize, v: u64)
     requires { at + 8 ≤ length s.old }
     ensures { s.new ≡ put 8 s.old at v }
 {
-    s[at..at + 8].copy_from_slice(&v.to_le_bytes());
+    let eight = v.to_le_bytes();
+    s[at] = eight[0];
+    s[at + 1] = eight[1];
+    s[at + 2] = eight[2];
+    s[at + 3] = eight[3];
+    s[at + 4] = eight[4];
+    s[at + 5] = eight[5];
+    s[at + 6] = eight[6];
+    s[at + 7] = eight[7];
 }
 
 // Zeros into the first m bytes.
@@ -66,5 +80,7 @@ pub fn clear(s: &mut [u8], m: usize)
     requires { m ≤ length s.old }
     ensures { s.new ≡ cleared m s.old }
 {
-    s[..m].fill(0);
+    for i in 0..m {
+        s[i] = 0;
+    }
 }

@@ -1,7 +1,14 @@
--- `write16` overwrites a part with the number's bytes, which is what `put 2` does. Assumes nothing.
-use mathlib.Core.Path.{◌∙◌}
-use Rattle.words.proofs.Library.{put-part}
+-- `write16` stores the number's bytes one after another, as `put 2` does. Assumes nothing.
+use Prim.Native.Nat.{suc, ◌+◌}
+use native.Mathlib.Omega.{arith}
+use mathlib.Core.Path.{◌≡◌, refl, ◌∙◌}
+use Rattle.words.specs.Number.{bytes}
+use Rattle.words.specs.Put.{put}
+use Rattle.words.proofs.Library.{bytes-low-first}
 use Rattle.words.proofs.write16.Goals as goal
 
 pub returns : goal.returns
-returns c = let a = c.args in put-part 2 a.s.now a.at a.v c.copy_from_slice.new.self c.requires (c.copy_from_slice.ensures.after ∙ c.to_le_bytes.ensures)
+unfolding put bytes
+returns c =
+    let e1 : c.args.at + 1 ≡ suc c.args.at = omega arith in
+    rw (c.to_le_bytes-two.ensures ∙ bytes-low-first 2 c.args.v, e1) refl

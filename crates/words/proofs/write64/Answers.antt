@@ -1,7 +1,20 @@
--- `write64` overwrites a part with the number's bytes, which is what `put 8` does. Assumes nothing.
-use mathlib.Core.Path.{◌∙◌}
-use Rattle.words.proofs.Library.{put-part}
+-- `write64` stores the number's bytes one after another, as `put 8` does. Assumes nothing.
+use Prim.Native.Nat.{suc, ◌+◌}
+use native.Mathlib.Omega.{arith}
+use mathlib.Core.Path.{◌≡◌, refl, ◌∙◌}
+use Rattle.words.specs.Number.{bytes}
+use Rattle.words.specs.Put.{put}
+use Rattle.words.proofs.Library.{bytes-low-first}
 use Rattle.words.proofs.write64.Goals as goal
 
 pub returns : goal.returns
-returns c = let a = c.args in put-part 8 a.s.now a.at a.v c.copy_from_slice.new.self c.requires (c.copy_from_slice.ensures.after ∙ c.to_le_bytes.ensures)
+unfolding put bytes
+returns c =
+    let e1 : c.args.at + 1 ≡ suc c.args.at = omega arith in
+    let e2 : c.args.at + 2 ≡ suc (suc c.args.at) = omega arith in
+    let e3 : c.args.at + 3 ≡ suc (suc (suc c.args.at)) = omega arith in
+    let e4 : c.args.at + 4 ≡ suc (suc (suc (suc c.args.at))) = omega arith in
+    let e5 : c.args.at + 5 ≡ suc (suc (suc (suc (suc c.args.at)))) = omega arith in
+    let e6 : c.args.at + 6 ≡ suc (suc (suc (suc (suc (suc c.args.at))))) = omega arith in
+    let e7 : c.args.at + 7 ≡ suc (suc (suc (suc (suc (suc (suc c.args.at)))))) = omega arith in
+    rw (c.to_le_bytes-eight.ensures ∙ bytes-low-first 8 c.args.v, e7, e6, e5, e4, e3, e2, e1) refl

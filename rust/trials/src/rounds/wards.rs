@@ -34,6 +34,7 @@ pub fn agree(trial: &mut Trial, rounds: usize) {
             [16_383, 16_384].into_iter().for_each(|n| long_cycles(trial, n));
         }
     }
+    Format::BOTH.into_iter().for_each(|format| deepest(trial, format));
 }
 
 /// A valid narrow plan of just so many rules, of each shape in its turn.
@@ -140,6 +141,18 @@ fn places(trial: &mut Trial, draft: &Draft) {
             reasons::beside_walk(trial, &Call::reason(&call, b's'));
         }
     }
+}
+
+/// The place of most cells that there is: the last of as many nodes over each other as rules allow, walked to from the start.
+fn deepest(trial: &mut Trial, format: Format) {
+    let draft = in_format(trial, format, families::nodes(MAX_RULES));
+    let draft = rounds::in_any_order(&mut trial.random, draft);
+    let (root, letter) = trial.random.pick(&[(b'a', b'f'), (b'z', b'l')]);
+    let letters = [vec![root], vec![letter; MAX_RULES - 2]].concat();
+    let call = Call::new(Operation::Walk, draft.plan(), MAX_RULES).with_letters(&letters);
+    let after = trial.accepted(&call, "a walk from above");
+    let cells = place::used(&after.cursor).map_or(0, |cells| cells.len());
+    assert_eq!(cells, 2 * (MAX_RULES - 1), "two cells for each node");
 }
 
 /// A plan of few rules beside the same with more that nothing names: the same counts, answers and cells, with more work.
