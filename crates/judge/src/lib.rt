@@ -49,7 +49,7 @@ fn tree_at(rules: &RuleRecords, x: u16) -> bool
     (kind == Rule::NODE) | (kind == Rule::FILL)
 }
 
-// The first of 4, 5 and 6 whose test failed for a rule.
+// Why a rule that fails one of the three tests is refused: the first of 4, 5 and 6 whose test failed, 6 where the other two held.
 fn fault(number: usize, formed: bool, ranged: bool) -> Refusal
     ensures { result ≡ cond formed (cond ranged (Refusal.WrongSort number) (Refusal.NoRule number)) (Refusal.Malformed number) }
 {

@@ -23,8 +23,8 @@ bytes-from (suc w) i v =
     let next : v / base ^ suc i ≡ v / base ^ i / base = rw pow-suc (sym (div-div-eq-div-mul v (base ^ i) base)) in
     ap₂ (λ (x : ℕ) (l : List ℕ). x ∷ l) (byte i v) (bytes-from w (suc i) v ∙ ap (bytes w) next)
 
-pub bytes-low-first : (w v : ℕ) → bytes_low_first 0 w v ≡ bytes w v
-bytes-low-first w v = bytes-from w 0 v ∙ ap (bytes w) (omega arith)
+pub low_first_bytes : (w v : ℕ) → bytes_low_first 0 w v ≡ bytes w v
+low_first_bytes w v = bytes-from w 0 v ∙ ap (bytes w) (omega arith)
 
 -- a number in a part of w bytes
 pub number-part : (w : ℕ) (s : List ℕ) (at : ℕ) → number w (take (at + w - at) (drop at s)) 0 ≡ number w s at

@@ -38,6 +38,7 @@ pub fn read64(s: &[u8], at: usize) -> u64
 }
 
 // A 16-bit word into the two bytes from an offset on.
+#[tactic(auto, using(crate::proofs::Library::low_first_bytes), unfolding(crate::specs::Put::put, crate::specs::Number::bytes))]
 pub fn write16(s: &mut [u8], at: usize, v: u16)
     requires { at + 2 ≤ length s.old }
     ensures { s.new ≡ put 2 s.old at v }
@@ -48,6 +49,7 @@ pub fn write16(s: &mut [u8], at: usize, v: u16)
 }
 
 // A 32-bit word into the four bytes from an offset on.
+#[tactic(auto, using(crate::proofs::Library::low_first_bytes), unfolding(crate::specs::Put::put, crate::specs::Number::bytes))]
 pub fn write32(s: &mut [u8], at: usize, v: u32)
     requires { at + 4 ≤ length s.old }
     ensures { s.new ≡ put 4 s.old at v }
@@ -60,6 +62,7 @@ pub fn write32(s: &mut [u8], at: usize, v: u32)
 }
 
 // A 64-bit word into the eight bytes from an offset on.
+#[tactic(auto, using(crate::proofs::Library::low_first_bytes), unfolding(crate::specs::Put::put, crate::specs::Number::bytes))]
 pub fn write64(s: &mut [u8], at: usize, v: u64)
     requires { at + 8 ≤ length s.old }
     ensures { s.new ≡ put 8 s.old at v }
